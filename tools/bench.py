@@ -60,7 +60,7 @@ def taken(measure):
     parts = [[head], *measure()]
     after = processor_ticks()
     stolen = (after[1] - before[1]) / max(1, after[0] - before[0])
-    parts.append([f"Of all processors' time in that run {stolen:.0%} went to other machines of the host."])
+    parts.append([f"The host took {stolen:.0%} of the processors' time during the run."])
     return "\n\n".join("\n".join(wrapped(it)) for it in parts)
 
 

@@ -93,5 +93,5 @@ def table(found, results):
     for name, redis in found.items():
         figures = [statistics.median(redis), *(statistics.median(pair[1]["rate"] for pair in results[name][size]) for size in sizes)]
         rows.append(f"| {name} | " + " | ".join(f"{figure / 1000:,.0f}" for figure in figures) + " |")
-    said = "redis has one thread, and its load is redis-benchmark with two: another one than segcached's, so that small differences say nothing."
+    said = "redis runs with one thread. Its load comes from redis-benchmark with two, another generator than segcached's, so small differences mean nothing."
     return [*rows, "", said]

@@ -5,7 +5,8 @@
     tools/closure.py [--tree DIR] fill                            writes the definitions' texts into docs/HEADLINE.md
     tools/closure.py [--tree DIR] check                           says where that page and the sources differ, with status 1
 
-FILE stands below crates (group/src/run.rt), FUNCTION is a name, or TYPE::NAME in a trait or an impl. A clause's names
+FILE stands below crates (group/src/run.rt), FUNCTION is a name, or TYPE::NAME in a trait or an impl; behind it may stand #CLAUSE, the
+name of the only clause to show. A clause's names
 lead to definitions by the imports of its file, and so does each definition. What the kit defines isn't followed. A type
 that is declared in the code is listed, and not followed further: its fields stand there.
 
@@ -135,6 +136,7 @@ class Sources:
         """The head of a contract's function, the texts of its clauses, and the imports of its file."""
         file, _, function = contract.partition(":")
         text = read(self.path(file))
+        function, _, only = function.partition("#")
         owner, _, name = function.rpartition("::")
         start = re.search(rf"^(?:pub )?(?:trait|impl)\b[^{{;]*\b{owner}\b", text, re.MULTILINE) if owner else re.match("", text)
         start = start and re.compile(rf"\bfn {name}\b").search(text, start.end())
@@ -147,7 +149,10 @@ class Sources:
             while depth:
                 depth += {"{": 1, "}": -1}.get(text[at], 0)
                 at += 1
-            clauses.append(text[clause.start() : at].strip())
+            if not only or re.search(rf"\b(?:requires|ensures) {only} \{{$", clause[0]):
+                clauses.append(text[clause.start() : at].strip())
+        if only and not clauses:
+            raise Trouble(f"{file} has no clause {only} of {function}")
         return head, clauses, imports_of(text, "ghost use ")
 
     def closure(self, contracts):
@@ -187,15 +192,61 @@ def counts_of(definitions):
 
 def contracts_of(page):
     """The contracts that a page leads from."""
-    return re.findall(r"^<!-- contract ([\w/.]+:[\w:]+) -->$", page, re.MULTILINE)
+    return re.findall(r"^<!-- contract ([\w/.]+:[\w:]+(?:#\w+)?) -->$", page, re.MULTILINE)
 
 
 # An entry of the page: the names that one paragraph explains, in a line of its own, and the texts after it, without the
 # comments of the sources.
-ENTRY = re.compile(r"^<!-- ((?:\w+\.\w+\.\S+ ?)+)-->\n(?:\*In [^*]*\*\n\n```text\n(?:.*\n)*?```\n)?", re.MULTILINE)
-CONTRACT = re.compile(r"^<!-- contract ([\w/.]+:[\w:]+) -->\n(?:```text\n(?:.*\n)*?```\n)?", re.MULTILINE)
+ENTRY = re.compile(r"^<!-- ((?:\w+\.\w+\.\S+\s+)+)-->\n(?:\*In [^*]*\*\n\n```text\n(?:.*\n)*?```\n)?", re.MULTILINE)
+CONTRACT = re.compile(r"^<!-- contract ([\w/.]+:[\w:]+(?:#\w+)?) -->\n(?:```text\n(?:.*\n)*?```\n)?", re.MULTILINE)
 COUNTS = re.compile(r"^<!-- counts -->\n(?:.+\n)+", re.MULTILINE)
 FIRST_CELL = re.compile(r"^\|([^|]*)\|", re.MULTILINE)
+
+
+# The widest line of the page. A longer one of the sources is broken before one of these words, the ones that bind least first.
+WIDTH = 100
+BINDING = {"→": 1, "then": 1, "else": 1, "in": 1, "×": 2, "⊎": 2, "≡": 3, "≤": 3, "++": 4, "∷": 4, "&&": 4, "||": 4, "+": 4}
+
+
+def depths(line):
+    """How many brackets are open at each place of a line."""
+    found, depth = [], 0
+    for mark in line:
+        depth -= mark in ")}]"
+        found.append(depth)
+        depth += mark in "({["
+    return found
+
+
+def indent_of(line):
+    return len(line) - len(line.lstrip())
+
+
+def broken(line, following=""):
+    """A line of a definition as lines of the page, each broken where the fewest brackets are open, as a source could be."""
+    if len(line) <= WIDTH:
+        return [line]
+    first, indent, open_at = line.split()[0], indent_of(line), depths(line)
+    enough = min(len(line) + indent + 4 - WIDTH, WIDTH // 2)
+
+    def cost(at):
+        before, behind = line[:at].split()[-1], line[at:].split()[0]
+        binding = BINDING.get(behind, 5)
+        if before == "=" and open_at[at] == 0 or before.endswith(";") or line.startswith("pub record") and behind.startswith("("):
+            binding = 0
+        elif before == ":":
+            binding = 4 if line.startswith("  pub") else 6
+        return at < enough or len(line) < at + 12, open_at[at], binding, -at
+
+    at = min((at for at in range(indent + 1, WIDTH + 1) if line[at] == " " and line[:at].strip()), key=cost)
+    is_chain = line[at:].split()[0] in (first, *(following.split()[:1] if indent_of(following) == indent else ()))
+    indent = indent if is_chain else max(indent + 4, indent_of(following))
+    return [line[:at], *broken(" " * indent + line[at + 1 :])]
+
+
+def narrow(text):
+    lines = text.splitlines()
+    return "\n".join(part for line, following in zip(lines, [*lines[1:], ""]) for part in broken(line, following))
 
 
 def key_of(definition):
@@ -221,11 +272,12 @@ def filled(page, sources):
             return match[0]
         texts = "\n\n".join(map(sources.text_of, here))
         places = ", ".join(f"`{it}`" for it in dict.fromkeys(map(place_of, here)))
-        return f"<!-- {match[1].strip()} -->\n{textwrap.fill(f'*In {places}*', 100)}\n\n```text\n{texts}\n```\n"
+        keys = textwrap.fill(" ".join(match[1].split()), WIDTH - 9, break_on_hyphens=False).replace("\n", "\n     ")
+        return f"<!-- {keys} -->\n{textwrap.fill(f'*In {places}*', WIDTH)}\n\n```text\n{narrow(texts)}\n```\n"
 
     def contract(match):
         clauses = "\n".join(sources.head_and_clauses(match[1])[1])
-        return f"<!-- contract {match[1]} -->\n```text\n{clauses}\n```\n"
+        return f"<!-- contract {match[1]} -->\n```text\n{narrow(clauses)}\n```\n"
 
     page = CONTRACT.sub(contract, ENTRY.sub(entry, page))
     counts = f"{counts_of(definitions)}, over {len(types)} types of the code."

@@ -1,5 +1,6 @@
 #!/usr/bin/env bash
-# Makes out/segcached_VERSION_amd64.deb of the proved program by Debian's own tools. `make deb` calls it.
+# Makes out/segcached_VERSION_amd64.deb of the proved program by Debian's own tools. `make deb` calls it. VERSION is the
+# program's, with the date and the short hash of the commit behind it.
 set -eu
 cd "$(dirname "$0")/.."
 python3 tools/proved.py check
@@ -8,17 +9,21 @@ type dpkg-buildpackage dh help2man >/dev/null 2>&1 || {
   echo "make deb: it needs dpkg-dev, debhelper and help2man"
   exit 1
 }
-version=$(dpkg-parsechangelog --show-field Version)
-[ "$("$program" --version | head -n 1)" = "segcached $version" ] || {
-  echo "make deb: debian/changelog has $version, and the program says $("$program" --version | head -n 1)"
-  exit 1
-}
+version=$(python3 tools/proved.py package)
 
-# In a copy, since Debian's tools write beside what they package.
+# In a copy, since Debian's tools write beside what they package, and want the version in a changelog.
 work=$(mktemp -d)
 trap 'rm -rf "$work"' EXIT
 mkdir "$work/segcached"
 cp -r --parents debian docs examples packaging systemd tools $program crates/segcached/out/PROVED "$work/segcached"
+maintainer=$(sed -n 's/^Maintainer: //p' debian/control)
+cat >"$work/segcached/debian/changelog" <<CHANGES
+segcached ($version) unstable; urgency=medium
+
+  * Built of the commit that PROVED names.
+
+ -- $maintainer  $(git show -s --format=%cD HEAD)
+CHANGES
 (cd "$work/segcached" && dpkg-buildpackage --build=binary --no-sign) >"$work/log" 2>&1 || {
   tail -n 30 "$work/log"
   exit 1

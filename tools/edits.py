@@ -1,11 +1,11 @@
 #!/usr/bin/env python3
-"""Makes docs/EDITS.md from the must-fail edits: which wrong bodies the prover refuses, and by whose contract.
+"""Makes docs/EDITS.md from the wrong bodies of crates/NAME/wrong: which the prover refuses, and by whose contract.
 
     tools/edits.py write    writes the page
     tools/edits.py check    says where the page or an edit is amiss, with status 1
 
 The first line of an edit is '# CALL: WRONG BODY': the call whose contract it turns, as docs/PROOFS.md names it, and what
-the body does. `rt` doesn't read that line.
+the body does. tools/wrong_bodies.py doesn't read that line.
 """
 import glob
 import os
@@ -15,10 +15,33 @@ import sys
 TOP = os.path.dirname(os.path.dirname(os.path.abspath(__file__)))
 HEAD = """# Wrong bodies
 
-Each row is a body that the gate plants and that the prover must refuse. The edit stands in
-`crates/CRATE/must-fail`. The contract is the one that the body violates, as
-[PROOFS.md](PROOFS.md) names it; the proof that fails may be that of a function below it.
-`tools/edits.py write` makes this page from the first lines of the edits.
+Each row is a body that the gate plants and that the prover must refuse. The contract is the one
+that the body violates, as [PROOFS.md](PROOFS.md) names it; the proof that fails may be that of a
+function below it.
+
+**Written.** An edit stands in `crates/CRATE/wrong/EDIT.edit`. Its first line says `# CALL: WRONG
+BODY`, and `tools/edits.py write` makes this page from these lines. Then come a file and texts to
+replace. Each `old:` occurs exactly once in the file, and the edited crate must still compile:
+
+```text
+# receive: a piece is held and its session not paused
+file: src/worker.rt
+old:             Received::Held => self.port.pause(session),
+new:             Received::Held => {}
+```
+
+An edit changes a value and keeps the names that the function's proof cites. An edit that isn't in
+the body of one function, as of a constant, names the function that must fall, as the prover does:
+`# in: growing::grow_for`.
+
+**Tried.** `tools/wrong_bodies.py CRATE` tries the edits of a crate, many in one check, and
+`tools/wrong_bodies.py CRATE/EDIT` says why one is refused. The gate tries all. An edit that passed
+is tried again once something changes that its check reads.
+
+**Read.** `refused` is the verdict that is wanted: the edited function's own proof fails.
+`NOT REFUSED` means that the contract lets the body through. `refused by a lost name` shows
+nothing, since the proof only names what the edit took away. An edit that is `NOT TRIED` or a
+`BAD EDIT` shows nothing either. All of these fail the gate.
 """
 
 
@@ -29,7 +52,7 @@ def read(path):
 
 def edits(tree=TOP):
     """Each edit: its crate and name, with the call and the wrong body that its first line says, or None."""
-    for path in sorted(glob.glob(f"{tree}/crates/*/must-fail/*.edit")):
+    for path in sorted(glob.glob(f"{tree}/crates/*/wrong/*.edit")):
         crate, name = path.split("/")[-3], os.path.basename(path)[: -len(".edit")]
         says = re.match(r"# ([\w:]+): (\S.*)\n", read(path))
         yield crate, name, says and says.groups()

@@ -1,6 +1,6 @@
 #!/usr/bin/env bash
-# The gate. `rt ci` proves every crate from nothing, tries the must-fail edits, and runs the tests and the
-# programs. Then each growth is refused in turn, and real sockets and real clients are tried against a served program. Each crate
+# The gate. `rt ci` proves every crate from nothing, and runs the tests and the programs. Then each wrong body must be refused by the prover, each
+# growth is refused in turn, and real sockets and real clients are tried against a served program. Each crate
 # that is proved gets a line with the time so far; a table says what each crate cost, which is left in out/gate_minutes.tsv, too. The last line
 # is 'N passed, M failed'.
 set -u
@@ -14,7 +14,7 @@ work=$(mktemp -d)
 times_pid=
 trap '[ -z "$times_pid" ] || kill "$times_pid" 2>/dev/null; rm -rf "$work"' EXIT
 
-# Says how far the gate is, after each line that ends a crate's proof, its tests or its edits.
+# Says how far the gate is, after each line that ends a crate's proof or its tests.
 with_progress() {
   local crates proved=0 line so_far
   crates=$(grep -cE '^[a-z_0-9]+[^#]*:' crates.txt)
@@ -23,12 +23,22 @@ with_progress() {
     case $line in
       'rt: '*': its tests are proved') ;;
       'rt: '*' proved' | 'rt: '*' is kept: '*) proved=$((proved + 1)) ;;
-      'rt: '*': trying its must-fail edits'*) ;;
       *) continue ;;
     esac
     so_far=$(((SECONDS - began) / 60)):$(printf %02d $(((SECONDS - began) % 60)))
     printf 'gate: %s of %s crates proved (%s)\n' "$proved" "$crates" "$so_far"
   done
+}
+
+# Adds the count that ends what a part of the gate said.
+count() {
+  if [[ $(tail -n 1 "$2") =~ ^([0-9]+)\ passed,\ ([0-9]+)\ failed$ ]]; then
+    passed=$((passed + BASH_REMATCH[1]))
+    failed=$((failed + BASH_REMATCH[2]))
+  else
+    echo "gate: $1 ended without its count"
+    failed=$((failed + 1))
+  fi
 }
 
 # Runs one further part of the gate, and counts it.
@@ -45,29 +55,26 @@ part() {
 
 mkdir -p out
 rm -f "$minutes"
+# rt ci would put these libraries back when it ends, and the wrong bodies are tried over those that it builds.
+rm -rf crates/*/out/rlib
 python3 tools/gate_times.py measure "$minutes" &
 times_pid=$!
 rt ci 2>&1 | tee "$work/log" | with_progress
+count rt "$work/log"
+python3 tools/wrong_bodies.py 2>&1 | tee "$work/wrong_bodies"
+count wrong_bodies "$work/wrong_bodies"
 kill "$times_pid" && wait "$times_pid"
 times_pid=
-if [[ $(tail -n 1 "$work/log") =~ ^([0-9]+)\ passed,\ ([0-9]+)\ failed$ ]]; then
-  passed=${BASH_REMATCH[1]}
-  failed=${BASH_REMATCH[2]}
-else
-  echo "gate: rt ci ended without its count"
-  failed=1
-fi
 costs="all was kept from earlier runs on this machine"
-if ! grep -q 'done in this run: 0 of the .* proofs .* and 0 of the ' "$work/log"; then
+if python3 tools/gate_times.py show "$minutes" >"$work/costs"; then
   echo "gate: what each crate cost, in processor minutes of the prover"
-  if python3 tools/gate_times.py show "$minutes"; then
-    echo "gate: these minutes stand in $minutes; tools/gate_times.py take $minutes records them"
-    costs=$(python3 tools/gate_times.py sums "$minutes")
-  else
-    echo "gate: the minutes weren't measured"
-    failed=$((failed + 1))
-    costs="minutes not measured"
-  fi
+  cat "$work/costs"
+  echo "gate: these minutes stand in $minutes; tools/gate_times.py take $minutes records them"
+  costs=$(python3 tools/gate_times.py sums "$minutes")
+elif ! grep -q 'done in this run: 0 of the .* proofs' "$work/log"; then
+  echo "gate: the minutes weren't measured"
+  failed=$((failed + 1))
+  costs="minutes not measured"
 fi
 
 # Each file of tests is a part.
@@ -77,8 +84,10 @@ done
 program=crates/segcached/out/segcached
 part "try_deb" tools/try_deb.sh "$work/log"
 part "hostile" python3 tools/hostile.py --program "$program" --late 10 \
-  --only shared_counters,history,bad_peers,many_sessions,few_descriptors,refused_memory,little_memory,fuzz
+  --only fairness,unread,shared_counters,history,bad_peers,many_sessions,few_descriptors,refused_memory,little_memory,fuzz
 
-echo "gate: took $(((SECONDS - began) / 60)) minutes; $costs"
+took="$(((SECONDS - began) / 60)) minutes on $(nproc) processors"
+echo "gate: took $took; $costs"
+echo "$(date -u '+%F %H:%M UTC'), make test: $took; $passed passed, $failed failed" >out/gate_took
 echo "$passed passed, $failed failed"
 [ "$failed" -eq 0 ]

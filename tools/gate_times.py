@@ -1,11 +1,12 @@
 #!/usr/bin/env python3
-"""What the gate's checks cost: processor minutes of the prover for each crate, for proofs, for tests and for must-fail edits.
+"""What the gate's checks cost: processor minutes of the prover for each crate, for proofs, for tests and for edits (wrong bodies).
 
     tools/gate_times.py measure FILE    until it is stopped, adds up what the prover's processes take that whoever started it started, too,
                                         and writes it to FILE
     tools/gate_times.py show FILE       prints FILE as a table
     tools/gate_times.py sums FILE       prints its minutes in all
-    tools/gate_times.py take FILE       makes FILE the recorded minutes, tools/gate_minutes.tsv, and writes the table of docs/GATE.md anew
+    tools/gate_times.py take FILE       makes FILE the recorded minutes, tools/gate_minutes.tsv, with what the last gate and the last `make run` from
+                                        nothing took in all, and writes the table of docs/GATE.md anew
     tools/gate_times.py page            writes that table anew
 
 A process is counted by the processor time that it had when it was last seen, so each may miss a quarter of a second. The prover's
@@ -13,7 +14,6 @@ builds are counted with the proofs; what LLVM, the tests and the programs take t
 """
 import os
 import re
-import shutil
 import signal
 import sys
 import textwrap
@@ -23,11 +23,15 @@ from collections import defaultdict
 TOP = os.path.dirname(os.path.dirname(os.path.abspath(__file__)))
 MINUTES = f"{TOP}/tools/gate_minutes.tsv"
 PAGE = f"{TOP}/docs/GATE.md"
+# What the last gate, and the last `make run` from nothing, took in all: a line each, which they leave.
+WHOLES = (f"{TOP}/out/gate_took", f"{TOP}/out/run_times")
 # The table stands between these lines of the page.
 BEGIN, END = "<!-- The table is written by tools/gate_times.py. -->", "<!-- The end of the table. -->"
 EVERY = 0.25
 TICKS = os.sysconf("SC_CLK_TCK")
 KINDS = ("proofs", "tests", "edits")
+# The names of the folders in which tools/wrong_bodies.py has edits checked begin so.
+EDITED = "wrong-bodies-"
 
 
 def read(path):
@@ -43,7 +47,7 @@ def kind_of(pid, words):
         folder = os.readlink(f"/proc/{pid}/cwd")
     except OSError:
         return None
-    if os.path.basename(folder).startswith("rt-edit"):
+    if os.path.basename(folder).startswith(EDITED):
         return "edits"
     return "tests" if "--test" in words else "proofs"
 
@@ -110,9 +114,16 @@ def read_minutes(path):
     return minutes
 
 
-def note_of(path):
-    """What a file of minutes says of its run."""
-    return read(path).partition("\n")[0].removeprefix("# ")
+def notes_of(path):
+    """What a file of minutes says of its run, a line each."""
+    return [line[2:] for line in read(path).splitlines() if line.startswith("# ")]
+
+
+def take(path):
+    """Makes a file of minutes the recorded one."""
+    wholes = "".join(f"# {line}\n" for it in WHOLES for line in read(it).splitlines())
+    with open(MINUTES, "w", encoding="utf-8") as file:
+        file.write(wholes + read(path))
 
 
 def processor_time():
@@ -132,8 +143,8 @@ def measure(path):
     when = time.strftime("%Y-%m-%d %H:%M UTC", time.gmtime(began))
     took = f"{(time.time() - began) / 60:.0f} minutes on {len(os.sched_getaffinity(0))} processors"
     whole, stolen = (now - then for now, then in zip(processor_time(), before))
-    host = f"{stolen / max(whole, 1):.0%} of whose time the host took"
-    write_minutes(path, minutes_in(seen), f"{when}, {took}, {host}, with a load of {load} in the 1, 5 and 15 minutes before")
+    host = f"the host took {stolen / max(whole, 1):.0%} of their time"
+    write_minutes(path, minutes_in(seen), f"{when}, proofs and wrong bodies: {took}; {host}; load averages before the run: {load}")
 
 
 def row(name, costs):
@@ -157,8 +168,9 @@ def table_of(minutes):
 def write_page():
     head, _, rest = read(PAGE).partition(BEGIN)
     tail = rest.partition(END)[2]
+    notes = "\n".join(textwrap.fill(it, 96, subsequent_indent="  ") for it in notes_of(MINUTES))
     with open(PAGE, "w", encoding="utf-8") as file:
-        file.write(f"{head}{BEGIN}\n\n```text\n{textwrap.fill(note_of(MINUTES), 96)}\n\n{table_of(read_minutes(MINUTES))}```\n\n{END}{tail}")
+        file.write(f"{head}{BEGIN}\n\n```text\n{notes}\n\n{table_of(read_minutes(MINUTES))}```\n\n{END}{tail}")
 
 
 def sums_in_words(minutes):
@@ -182,7 +194,7 @@ def main():
         print(sums_in_words(minutes))
     else:
         if path:
-            shutil.copyfile(path, MINUTES)
+            take(path)
         write_page()
     return None
 

@@ -46,7 +46,7 @@ class Connection:
             self.file.readline()
             # (memcached leaves spaces after a number that got shorter)
             return [value.decode().rstrip(), head[4].decode()]
-        if verb in ("set", "add", "replace", "cas"):
+        if verb in ("set", "add", "replace", "append", "cas"):
             value, *number = words
             text = f"{verb} {key} 0 0 {len(value)}{''.join(f' {it}' for it in number)}\r\n{value}\r\n"
         else:
@@ -58,9 +58,10 @@ class Connection:
 def choose(chance, told):
     """A verb and its words; `told` is the cas number that this client saw last."""
     value = str(chance.randrange(1000))
-    verbs = ["gets"] * 4 + ["incr"] * 3 + ["add"] * 2 + ["set", "replace", "delete", "decr"] + ["cas"] * (4 if told else 0)
+    verbs = ["gets"] * 4 + ["incr"] * 3 + ["add"] * 2 + ["set", "replace", "delete", "decr", "touch", "append"] + ["cas"] * (4 if told else 0)
     verb = chance.choice(verbs)
-    words = {"gets": [], "delete": [], "incr": [value], "decr": [value], "cas": [value, told]}
+    # (an append of nothing changes the cas number alone)
+    words = {"gets": [], "delete": [], "incr": [value], "decr": [value], "touch": ["1000"], "append": [""], "cas": [value, told]}
     return verb, words.get(verb, [value])
 
 
@@ -113,6 +114,12 @@ def next_state(state, operation):
             return state if answer == ["NOT_FOUND"] else None
         counted = str(int(value) + int(words[0]) if verb == "incr" else max(int(value) - int(words[0]), 0))
         return State(counted, None, newest) if answer == [counted] else None
+    if verb == "touch":
+        return state if answer == ["TOUCHED" if there else "NOT_FOUND"] else None
+    if verb == "append":
+        if not there:
+            return state if answer == ["NOT_STORED"] else None
+        return State(value, None, newest) if answer == ["STORED"] else None
     stored = {"set": True, "add": not there, "replace": there, "cas": there and number == int(words[-1])}[verb]
     if stored:
         return State(words[0], None, newest) if answer == ["STORED"] else None

@@ -23,7 +23,7 @@ import time
 import traceback
 
 import served
-from served import TOP, NotServing, Trouble, read_to_end, reset
+from served import OF_THE_PACKAGE, TOP, NotServing, Trouble, read_to_end, reset
 
 PROGRAM = served.PROGRAM
 # The most seconds that six answers to the canary may take.
@@ -195,6 +195,8 @@ GOOD = (
     b"replace fuzz-1 0 -1 1\r\nx\r\n", b"cas fuzz-1 0 0 2 9\r\nhi\r\n", b"delete fuzz-2\r\n", b"incr fuzz-3 18446744073709551615\r\n",
     b"decr fuzz-3 1 noreply\r\n", b"set fuzz-3 0 0 1 noreply\r\n5\r\n", b"get " + b"k" * 250 + b"\r\n", b"quit\r\n", b"\r\n",
     b"set fuzz-9 0 0 131073\r\n", b"set fuzz-9 0 0 4000\r\n" + b"z" * 4000 + b"\r\n", b"a" * 2047 + b"\r\n", b"version\r\n", b"flush_all 00\r\n",
+    b"touch fuzz-1 100\r\n", b"touch fuzz-2 -1 noreply\r\n", b"append fuzz-1 0 0 2\r\n!!\r\n", b"prepend fuzz-3 9 9 1 noreply\r\n1\r\n",
+    b"verbosity 1\r\n", b"cache_memlimit 64 noreply\r\n",
 )
 
 
@@ -626,7 +628,7 @@ def history(is_long):
     """What eight clients were answered on shared keys falls, for each key, into one order that a cache would have; tools/histories.py."""
     import histories
 
-    with serve("--workers", "3", "--segment-size", "1048576", "--segments", "64") as server:
+    with serve("--workers", "3", *OF_THE_PACKAGE, "--segments", "64") as server:
         operations = histories.record(server.port, 60 if is_long else 5)
     wrong, keys, count, at_once = histories.check(operations)
     if wrong:
@@ -639,7 +641,23 @@ def history(is_long):
     return f"{count} operations of 8 clients on {keys} keys, {at_once} of them beside another on their key: one order for each"
 
 
+def fairness(_):
+    """Clients that send or read as fast as they can keep no other waiting; tools/fairness.py."""
+    import fairness as beside_memcached
+
+    return beside_memcached.check(PROGRAM)
+
+
+def unread(_):
+    """Clients that ask for the longest answers and read nothing take little memory, and keep no other waiting; tools/unread.py."""
+    import unread as clients
+
+    return clients.check(PROGRAM)
+
+
 PARTS = {
+    "fairness": fairness,
+    "unread": unread,
     "shared_counters": shared_counters,
     "bad_peers": bad_peers,
     "many_sessions": many_sessions,

@@ -4,7 +4,8 @@ A client reads keys by Zipf's law and writes each that it missed. All keys with 
 memory, so no server keeps them all. memcached (of Debian, with its own defaults) gets an -m with which the point's memory is
 resident; segcached gets the most segments with which it has no more resident than memcached, once each server was filled with all
 keys. Then both are warmed by a number of reads, and a further number is counted: of reads, not of seconds, so a slow machine
-counts the same misses. If keys have TTLs the clock counts too, and both servers are read at one fixed rate.
+counts the same misses. If keys have TTLs the clock counts too, and both servers are read at one fixed rate. segcached is measured
+with each of its rules of eviction.
 """
 import concurrent.futures
 import dataclasses
@@ -26,6 +27,7 @@ MEMORIES, VALUES, EXPONENTS = (32, 64, 128), (100, 300, 1000), (0.8, 0.99)
 # How many times the memory the keys with their values have: in the curve, and in a table of its own.
 TIMES, OTHER_TIMES = 2.5, (1.5, 1.8, 4.0)
 SEGMENT_SIZES = (64 << 10, 256 << 10, 1 << 20)
+EVICTIONS = ("oldest", "least-read")
 # Neither server asks for huge pages: with them what is resident is rounded up to 2 MiB in several places.
 PLAIN = {name: value for name, value in os.environ.items() if name != "GLIBC_TUNABLES"}
 
@@ -41,6 +43,7 @@ class Point:
     ttls: bool = False
     sets: int = 0
     segment_size: int = SEGMENT_SIZE
+    evict: str = "oldest"
 
     @property
     def keys(self):
@@ -56,6 +59,11 @@ class Point:
         asked = ["--through", "--zipf", self.zipf, "--threads", 1, "--pipeline", 256, "--keys", self.keys, "--value", self.value]
         asked += ["--sets", self.sets, "--connections", 4 if self.ttls else 1]
         return asked + (["--ttls", "--rate", RATE] if self.ttls else [])
+
+    @property
+    def told(self):
+        """What a table says of its TTLs and its rule."""
+        return f"{', with TTLs' if self.ttls else ''}, --evict {self.evict}"
 
     def reads(self):
         """How many reads warm, and how many are counted."""
@@ -75,10 +83,11 @@ class Side:
 
 
 def curve():
-    """The points of the picture, those with fewer and with more keys, and those with TTLs."""
-    plain = [Point(memory, value, zipf) for zipf in EXPONENTS for value in VALUES for memory in MEMORIES]
-    others = [Point(32, value, 0.99, times) for value in VALUES for times in OTHER_TIMES]
-    return plain, others, [Point(64, value, 0.99, ttls=True, segment_size=MIB) for value in (100, 1000)]
+    """The points of the picture, those with fewer and with more keys, and those with TTLs, by both rules."""
+    plain = [Point(memory, value, zipf, evict=evict) for zipf in EXPONENTS for value in VALUES for memory in MEMORIES for evict in EVICTIONS]
+    others = [Point(32, value, 0.99, times, evict=evict) for value in VALUES for times in OTHER_TIMES for evict in EVICTIONS]
+    ttls = [Point(64, value, 0.99, ttls=True, segment_size=MIB, evict=evict) for value in (100, 1000) for evict in EVICTIONS]
+    return plain, others, ttls
 
 
 def segment_points():
@@ -99,7 +108,7 @@ class Misses:
         return OnPort(port, ["memcached", "-u", "nobody", "-l", "127.0.0.1", "-p", str(port), "-m", str(megabytes)], PLAIN)
 
     def segcached(self, point, segments):
-        words = ["--segment-size", str(point.segment_size), "--segments", str(segments)]
+        words = ["--segment-size", str(point.segment_size), "--segments", str(segments), "--evict", point.evict]
         return Server(self.program, *words, environment=PLAIN)
 
     def asked(self, server, *words):
@@ -192,7 +201,7 @@ def table(points, results):
     ]
     for point in points:
         sides = results[point]
-        cells = [str(point.memory), f"{point.value:,}", f"{point.zipf:g}" + (", with TTLs" if point.ttls else ""), f"{point.keys:,} ({point.times:g})"]
+        cells = [str(point.memory), f"{point.value:,}", f"{point.zipf:g}{point.told}", f"{point.keys:,} ({point.times:g})"]
         cells += [pair(sides, lambda it: it.size), pair(sides, lambda it: f"{it.resident:.1f}"), pair(sides, lambda it: f"{it.missed:.2f}")]
         rows.append("| " + " | ".join([*cells, f"{ratio(sides):.2f}"]) + " |")
     return rows
@@ -213,7 +222,8 @@ def ratios(results):
     """The ratios in a line, from the least to the greatest of each kind of point."""
     kinds = {}
     for point, sides in results.items():
-        name = f"{point.value:,} bytes{', with TTLs' if point.ttls else ''}" if point.times == TIMES else f"keys of {point.times:g} times the memory"
+        name = f"{point.value:,} bytes" if point.times == TIMES else f"keys of {point.times:g} times the memory"
+        name += point.told
         kinds.setdefault(name, []).append(ratio(sides))
     said = [f"{name} {min(it):.2f}" + (f" to {max(it):.2f}" if len(it) > 1 else "") for name, it in kinds.items()]
     return f"segcached's misses beside memcached's: {'; '.join(said)}."
@@ -233,21 +243,21 @@ def segment_table(points, results):
 
 
 def panel(zipf, results, folder):
-    """gnuplot's words for one exponent: the ratio by memory, one line a value size."""
-    lines = []
-    for value in VALUES:
+    """gnuplot's words for one exponent: misses and ratios by memory, for each value size memcached's line and one of each rule."""
+    missed, ratios = [], []
+    for value, colour in zip(VALUES, ("#1b6ca8", "#2e8b57", "#c0504d")):
         path = f"{folder}/{zipf}_{value}.dat"
         with open(path, "w", encoding="ascii") as file:
             for memory in MEMORIES:
-                sides = results[Point(memory, value, zipf)]
-                file.write(f"{memory} {sides[0].missed:.3f} {sides[1].missed:.3f} {ratio(sides):.4f}\n")
-        lines.append((value, path))
-    colours = ("#1b6ca8", "#2e8b57", "#c0504d")
-    missed = [f"'{path}' using 1:{column} with linespoints lw 2 {dashes} pt {mark} lc rgb '{colour}' title '{value} bytes, {kind}'"
-              for (value, path), colour in zip(lines, colours)
-              for column, kind, dashes, mark in ((2, "memcached", "dt 2", 6), (3, "segcached", "dt 1", 7))]
-    ratios = [f"'{path}' using 1:4 with linespoints lw 2 pt 7 lc rgb '{colour}' title '{value} bytes'"
-              for (value, path), colour in zip(lines, colours)]
+                rules = [results[Point(memory, value, zipf, evict=evict)] for evict in EVICTIONS]
+                figures = [rules[0][0].missed, *(sides[1].missed for sides in rules), *map(ratio, rules)]
+                file.write(f"{memory} {' '.join(f'{it:.4f}' for it in figures)}\n")
+        lines = (("memcached", "dt 2", 6), *((evict, dashes, 7) for evict, dashes in zip(EVICTIONS, ("dt 1", "dt 4"))))
+        for column, (kind, dashes, mark) in enumerate(lines, 2):
+            style = f"with linespoints lw 2 {dashes} pt {mark} lc rgb '{colour}' title '{value} bytes, {kind}'"
+            missed.append(f"'{path}' using 1:{column} {style}")
+            if column > 2:
+                ratios.append(f"'{path}' using 1:{column + 2} {style}")
     return missed, ratios
 
 

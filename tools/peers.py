@@ -18,17 +18,15 @@ import signal
 import subprocess
 import sys
 
-from served import PROGRAM, TOP, Server
+from served import OF_THE_PACKAGE, PROGRAM, TOP, Server
 
 HERE = f"{TOP}/tools/peers"
 WORK = f"{TOP}/out/peers"
 SOURCES = ["memcached", "libcache-memcached-fast-perl"]
 PACKAGES = """libmemcached-tools python3-pymemcache python3-pytest python3-limits libcache-memcached-fast-perl libtest2-suite-perl perl""".split()
 # Those of memcached's tests that speak of the commands that there are.
-OF_MEMCACHED = """bogus-commands cas evictions expirations flags flush-all getset incrdecr issue_104 issue_108 issue_14 issue_152
-    issue_163 issue_183 issue_192 issue_22 issue_29 issue_42 issue_68 issue_70 lru malicious-commands multiversioning noreply quit""".split()
-# The options of the package, but for the numbers of workers and segments.
-OPTIONS = ["--lenient", "--counters-in-place", "--segment-size", "1048576"]
+OF_MEMCACHED = """bogus-commands cas evictions expirations flags flush-all getandtouch getset incrdecr issue_104 issue_108 issue_14 issue_152
+    issue_163 issue_183 issue_192 issue_22 issue_29 issue_42 issue_68 issue_70 lru malicious-commands multiversioning noreply quit touch""".split()
 OF_PYMEMCACHE = "/usr/lib/python3/dist-packages/pymemcache/test/test_integration.py"
 OF_FAST = """big-value commands flush-all magic malformed namespace noreply nowait serialize utf8""".split()
 # The most seconds that one file of tests may take, and the test of a limit, which asks for two minutes.
@@ -114,7 +112,7 @@ def fast(program):
     tests, results = unpack("libcache-memcached-fast-perl"), {}
     shutil.copy(f"{HERE}/Memd.pm", tests)
     for name in OF_FAST:
-        with Server(program, *OPTIONS) as server:
+        with Server(program, *OF_THE_PACKAGE) as server:
             environment = {**os.environ, "PORT": str(server.port)}
             results.update(of_tap(f"fast/{name}.t", ["perl", f"t/{name}.t"], cwd=os.path.dirname(tests), env=environment))
     return results
@@ -123,7 +121,7 @@ def fast(program):
 def pymemcache(program):
     """Its integration tests, as the package has them; one with several clients passes if it does with each."""
     results = {}
-    with Server(program, *OPTIONS) as server:
+    with Server(program, *OF_THE_PACKAGE) as server:
         words = ["/usr/bin/python3", "-B", "-m", "pytest", "-p", "no:cacheprovider", "--tb=no", "-rA"]
         # (the package lacks the certificates of the one over TLS)
         words += [OF_PYMEMCACHE, "-k", "not tls", "--server", "127.0.0.1", "--port", str(server.port)]
@@ -136,7 +134,7 @@ def pymemcache(program):
 def memccapable(program):
     """Its text part: each line begins with a test, and what went wrong may stand before the verdict."""
     results, name = {}, None
-    with Server(program, *OPTIONS) as server:
+    with Server(program, *OF_THE_PACKAGE) as server:
         words = ["sh", "-c", 'memccapable -h 127.0.0.1 -p "$0" -a -t 5 2>&1', str(server.port)]
         for line in run(words).stdout.splitlines():
             name = line[6:40].strip().replace(" ", "_") if line.startswith("ascii ") else name
@@ -148,7 +146,7 @@ def memccapable(program):
 
 def limits(program):
     """A limit of 100 requests a minute holds."""
-    with Server(program, *OPTIONS) as server:
+    with Server(program, *OF_THE_PACKAGE) as server:
         said = run(["/usr/bin/python3", "-B", f"{TOP}/tools/clients/limits_calls.py", str(server.port)], LIMIT_SECONDS).stdout
     print(f"limits: {said.strip()} of 400 requests passed")
     return {"limits/100_a_minute": said.strip().isdigit() and 200 <= int(said) <= MOST_PASSED}

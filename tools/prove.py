@@ -31,7 +31,7 @@ PROGRAM = f"{TOP}/crates/{NAME}/out/{NAME}"
 PROOFS = f"{TOP}/out/proofs"
 LIBRARIES = f"{PROOFS}/libraries"
 # What of a crate isn't a part of its proof or of its stored run.
-IGNORED = ("out", "must-fail")
+IGNORED = ("out", "wrong")
 # A crate that no run of the gate has measured is taken to need half a minute, and one more for each of these numbers of lines.
 LINES_A_MINUTE = 2500
 # From a crate the way is near the longest one if it is shorter by at most this share of the longest of all. Such a crate is proved by several
@@ -281,9 +281,9 @@ class Proof:
         self.ran.wait()
 
 
-def is_waited_for(name, crates, ways, proved):
-    """Whether all other crates that are left stand on this one, so that nothing can be proved beside it."""
-    return all(name in with_those_below(crates, it) for it in ways if it not in proved)
+def beside(name, crates, ways, proved):
+    """How many other crates are left that don't stand on this one, so that they can be proved beside it."""
+    return sum(name not in with_those_below(crates, it) for it in ways if it not in proved)
 
 
 def how_to_prove(name, crates, ways, proved):
@@ -293,8 +293,9 @@ def how_to_prove(name, crates, ways, proved):
     nice = 0 if is_near else NICE
     if not crates[name]:
         return How(machine.processors(), machine.processors() > 1, nice)
-    if is_waited_for(name, crates, ways, proved):
-        return How(machine.processors(), False, nice)
+    shared = machine.processors() // (1 + beside(name, crates, ways, proved))
+    if shared > 1:
+        return How(shared, False, nice)
     processes = min(JOBS, machine.processors()) if is_near and ways[name] > LAST * whole else 1
     return How(processes, processes > 1, nice)
 

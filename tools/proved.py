@@ -3,6 +3,7 @@
 
     tools/proved.py write --log FILE [--alone]   after the program was built; FILE is what `rt ci` said, or tools/prove.py of the program's crates alone
     tools/proved.py check [PROGRAM]              ends with a line and status 1 if the program can't be packaged
+    tools/proved.py package                      prints the version of the program's package
 
 The record holds for one program, by its sha256, and for one state of the repository's files, by the sum that git gives
 them. Of a crate it has the prover's line, or that of rt, if an earlier run on the machine proved it.
@@ -14,12 +15,15 @@ import re
 import subprocess
 import sys
 import tempfile
+import time
 
 from prove import NAME, PROGRAM, TOP, read_crates, with_those_below
 
 
 # What the record says of a run over the program's crates alone.
 ALONE = ", with no tests and no wrong bodies"
+# What the record says behind the commit if files differ from it.
+CHANGED = " and changes that aren't committed"
 
 
 class Trouble(Exception):
@@ -51,7 +55,31 @@ def sum_of_files():
 def commit_of(files):
     """The commit whose files have this sum, or the one from which they differ."""
     at = output_of("git", "rev-parse", "HEAD")
-    return at if files == output_of("git", "rev-parse", "HEAD^{tree}") else f"{at} and changes that aren't committed"
+    return at if files == output_of("git", "rev-parse", "HEAD^{tree}") else f"{at}{CHANGED}"
+
+
+def version_line(program):
+    """The first line of `segcached --version`: the name and the number."""
+    return output_of(program, "--version").splitlines()[0]
+
+
+def read_record(program):
+    """The record beside a program; empty if there is none."""
+    try:
+        with open(f"{os.path.dirname(program)}/PROVED", encoding="utf-8") as file:
+            lines = file.read().splitlines()
+    except FileNotFoundError:
+        lines = []
+    return dict(line.split(": ", 1) for line in lines if ": " in line)
+
+
+def package_version(number, commit, folder=TOP):
+    """The version of a package that is built of this commit: a later commit has a later version. Behind the number stand the commit's date, in
+    UTC, and its short hash; with changes that aren't committed the date is now."""
+    date, name = "%Y%m%d.%H%M%S", commit.removesuffix(CHANGED)
+    at = output_of("git", "show", "-s", "--format=%cd", f"--date=format-local:{date}", name, folder=folder, TZ="UTC")
+    short = output_of("git", "rev-parse", "--short", name, folder=folder)
+    return f"{number}+{at}.g{short}" if name == commit else f"{number}+{time.strftime(date, time.gmtime())}.g{short}.changed"
 
 
 def verdicts_of_log(path):
@@ -80,7 +108,7 @@ def write(log, alone):
         raise Trouble(f"{lacking[0]} isn't proved")
     files = sum_of_files()
     record = [
-        output_of(PROGRAM, "--version").splitlines()[0],
+        version_line(PROGRAM),
         f"commit: {commit_of(files)}",
         f"files: {files}",
         f"kit: {output_of('rt', 'version')}",
@@ -95,12 +123,7 @@ def write(log, alone):
 
 
 def check(program):
-    try:
-        with open(f"{os.path.dirname(program)}/PROVED", encoding="utf-8") as file:
-            lines = file.read().splitlines()
-    except FileNotFoundError:
-        lines = []
-    record = dict(line.split(": ", 1) for line in lines if ": " in line)
+    record = read_record(program)
     if not record or not os.path.exists(program):
         raise Trouble("no program was built with proofs: run tools/build.sh")
     if record["program"] != sum_of_program(program):
@@ -116,9 +139,15 @@ def main():
     writing.add_argument("--log", metavar="FILE", required=True)
     writing.add_argument("--alone", action="store_true")
     kinds.add_parser("check").add_argument("program", nargs="?", default=PROGRAM)
+    kinds.add_parser("package")
     words = parser.parse_args()
     try:
-        write(words.log, words.alone) if words.kind == "write" else check(words.program)
+        if words.kind == "write":
+            write(words.log, words.alone)
+        elif words.kind == "check":
+            check(words.program)
+        else:
+            print(package_version(version_line(PROGRAM).split()[1], read_record(PROGRAM)["commit"]))
     except Trouble as trouble:
         sys.exit(f"segcached: {trouble}")
 

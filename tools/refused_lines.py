@@ -27,8 +27,18 @@ FORMS = {
     b"flush_all": rb"(?: %b)?%b" % (TEN_DIGITS, QUIET),
     b"quit": rb"",
 }
-# With --lenient a zero after the key of a `delete` doesn't count.
-LENIENT_FORMS = {**FORMS, b"delete": rb" %b(?: 0)?%b" % (KEY, QUIET)}
+# With --lenient a zero after the key of a `delete` doesn't count, and there are further commands.
+LENIENT_FORMS = {
+    **FORMS,
+    b"delete": rb" %b(?: 0)?%b" % (KEY, QUIET),
+    b"append": rb" %b%b" % (STORAGE, QUIET),
+    b"prepend": rb" %b%b" % (STORAGE, QUIET),
+    b"touch": rb" %b (?:0|-?[1-9][0-9]{0,9})%b" % (KEY, QUIET),
+    b"version": rb"(?: .*)?",
+    b"verbosity": rb"(?: .*)?",
+    # (which is silent, and does nothing)
+    b"cache_memlimit": rb"(?: .*)? noreply(?: .*)?",
+}
 FORMS, LENIENT_FORMS = ({word: re.compile(form) for word, form in forms.items()} for forms in (FORMS, LENIENT_FORMS))
 # Of each command with a data block, at which place of the line, counted from 0, the block's length stands in memcached.
 LENGTHS = {b"set": 4, b"add": 4, b"replace": 4, b"append": 4, b"prepend": 4, b"cas": 4, b"ms": 2}
@@ -54,9 +64,10 @@ def why_refused(line, segment_size, is_lenient=False):
         return TOO_LONG
     text = line[:-2].rstrip(b" ") if is_lenient else line[:-2]
     word, _, _ = text.partition(b" ")
-    if word not in FORMS:
+    forms = LENIENT_FORMS if is_lenient else FORMS
+    if word not in forms:
         return UNKNOWN
-    said = (LENIENT_FORMS if is_lenient else FORMS)[word].fullmatch(text[len(word) :])
+    said = forms[word].fullmatch(text[len(word) :])
     if said is None:
         return SPACES if b"" in text.split(b" ") else BAD_FORM
     numbers = said.groupdict()

@@ -6,9 +6,12 @@
 If nothing is proved yet, the script first runs on a build that is checked as it runs (`rt try`), which takes a minute or two, while the
 proofs begin; then the proofs go on, a line for each crate. At the end the proved program replays the script and serves. What was proved is
 kept: an interrupt loses none of it, and if all is kept the proved program runs at once.
+
+A run from nothing leaves the line that docs/GATE.md has of it in out/run_times.
 """
 import contextlib
 import os
+import resource
 import signal
 import socket
 import subprocess
@@ -35,6 +38,8 @@ NICE = 10
 EVERY = 0.2
 # The most seconds that a socket may be silent.
 SECONDS = 10
+# What a run from nothing took, for tools/gate_times.py.
+TIMES = "out/run_times"
 
 
 def say(text=""):
@@ -111,18 +116,32 @@ def follow(process, lines):
         time.sleep(EVERY)
 
 
+def note_times(first, whole):
+    """Notes after how many seconds there was a first answer and the proved program, and the processor time of all that ran below this process."""
+    used = resource.getrusage(resource.RUSAGE_CHILDREN)
+    minutes, in_words = (used.ru_utime + used.ru_stime) / 60, prove.minutes_and_seconds
+    line = f"make run: the first reply after {in_words(first)}, the proved program after {in_words(whole)}, {minutes:.0f} processor minutes"
+    with open(TIMES, "w", encoding="utf-8") as file:
+        file.write(f"{time.strftime('%Y-%m-%d %H:%M UTC', time.gmtime())}, {line}\n")
+    say(f"{line}.")
+
+
 def try_and_prove():
     """Shows the first answer while the proofs begin, and then how they go on."""
+    is_from_nothing, began = not os.path.exists(prove.PROOFS), time.monotonic()
     with tempfile.NamedTemporaryFile("w", prefix="proofs-") as written, open(written.name, encoding="utf-8") as lines:
         try:
             with started(["nice", "-n", str(NICE), "bash", "tools/build.sh"], stdout=written, stderr=subprocess.STDOUT) as proving:
                 try_script()
+                first = time.monotonic() - began
                 follow(proving, lines)
         finally:
             # After an interrupt the last lines say what is kept.
             print(lines.read(), end="", flush=True)
     if proving.returncode:
         sys.exit("segcached: not all of it is proved")
+    if is_from_nothing:
+        note_times(first, time.monotonic() - began)
 
 
 def replay():

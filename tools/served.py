@@ -16,6 +16,8 @@ import time
 
 TOP = os.path.dirname(os.path.dirname(os.path.abspath(__file__)))
 PROGRAM = f"{TOP}/crates/segcached/out/segcached"
+# The options of the package, but for the numbers of workers and segments.
+OF_THE_PACKAGE = ["--lenient", "--update-in-place", "--evict", "least-read", "--segment-size", "1048576"]
 
 
 class Trouble(Exception):
@@ -67,6 +69,14 @@ class Process:
         """A line of the process's status: VmRSS is what is resident."""
         with open(f"/proc/{self.process.pid}/status", encoding="ascii") as file:
             return int(re.search(rf"{what}:\s+(\d+)", file.read())[1])
+
+    def threads(self):
+        """The number of each of its threads, by its name."""
+        found, folder = {}, f"/proc/{self.process.pid}/task"
+        for task in os.listdir(folder):
+            with open(f"{folder}/{task}/comm", encoding="ascii") as file:
+                found[file.read().strip()] = int(task)
+        return found
 
     def processor_seconds(self):
         """What all its threads have run (the kernel counts nanoseconds there, and ticks elsewhere)."""

@@ -261,7 +261,7 @@ def with_quartiles(numbers, digits):
 def pause_line(longest, name_of):
     segments = {kind: "" if kind == "memcached" else " with segments of {} KiB" for kind in name_of}
     said = [f"{name_of[kind]}{segments[kind].format(size >> 10)} {with_quartiles(it, 1)}" for (kind, size), it in longest.items()]
-    return f"The longest answer of a run of sets on one connection, {PAUSE_MIB} MiB full, in ms: {', '.join(said)}."
+    return f"The longest time to a reply in a run of `set`s on one connection, with {PAUSE_MIB} MiB in use, in ms: {', '.join(said)}."
 
 
 def idle_line(shares, name_of):

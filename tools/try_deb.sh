@@ -1,10 +1,9 @@
 #!/usr/bin/env bash
-# The package, tried: it is made of the proved program alone, lintian has no warning of it, it needs the C library
-# alone, its units are tight, and its pages' links lead to what is in it. A clean root, made by Debian's tools, takes it;
-# its user serves from there; and nothing is left once it has gone. Then `make install` and `make uninstall`, the
-# completion, and the program under a container's init. Usage: try_deb.sh [LOG], where
-# LOG is what `rt ci` said of the program's crates, of which the record of the proofs is then written. The last line is
-# 'N passed, M failed'.
+# The package, tried: it is made of the proved program alone and has its version, lintian has no warning of it, it needs
+# the C library alone, its units are tight, and its pages' links lead to what is in it. A clean root, made by Debian's
+# tools, takes it; its user serves from there; and nothing is left once it has gone. Then `make install` and `make
+# uninstall`, the completion, and the program under a container's init. Usage: try_deb.sh [LOG], where LOG is what `rt ci`
+# said of the program's crates, of which the record of the proofs is then written. The last line is 'N passed, M failed'.
 set -u
 cd "$(dirname "$0")/.."
 program=crates/segcached/out/segcached
@@ -56,6 +55,18 @@ makes_package() {
   made=$(tools/deb.sh) && cp "$made" "$work/segcached.deb"
 }
 
+# The package and the man page have the program's version; the package's is newer than those of one version for all.
+has_one_version() {
+  local number version
+  number=$("$program" --version | sed -n '1s/^segcached //p')
+  version=$(dpkg-deb --field "$work/segcached.deb" Version)
+  echo "the program $number, the package $version"
+  [[ $version =~ ^"$number"\+[0-9]{8}\.[0-9]{6}\.g[0-9a-f]+(\.changed)?$ ]] || return 1
+  dpkg --compare-versions "$version" gt 0.1.0 && dpkg --compare-versions "$version" gt "$number" || return 1
+  dpkg-deb --fsys-tarfile "$work/segcached.deb" | tar -xO ./usr/share/man/man1/segcached.1.gz | gunzip >"$work/manual"
+  grep "^\.TH .*\"segcached $number\"" "$work/manual"
+}
+
 needs_the_c_library_alone() {
   dpkg-deb --field "$work/segcached.deb" Depends | tee "$work/depends"
   grep -qxE 'libc6 \(>= [0-9.]+\)' "$work/depends"
@@ -69,7 +80,8 @@ has_tight_units() {
   cp "$work/content/lib/systemd/system/segcached.service" "$units"
   cp "$work/content/lib/systemd/system/segcached@.service" "$units/segcached@one.service"
   sed -i -e "s|/usr/bin/segcached|$PWD/$program|" -e "s|/usr/lib/|$work/content/usr/lib/|" "$units"/*
-  systemd-analyze verify --man=no "$units"/* 2>&1 | tee "$work/complaints"
+  # (it also complains of units of this machine, which aren't the package's)
+  systemd-analyze verify --man=no "$units"/* 2>&1 | grep -v '^/lib/systemd/system/' | tee "$work/complaints"
   [ ! -s "$work/complaints" ] || return 1
   grep -qx 'EnvironmentFile=/etc/default/segcached-%i' "$units/segcached@one.service" || return 1
   for unit in "$units"/*; do
@@ -160,13 +172,16 @@ purges_beside_a_process() {
   chroot "$root" getent passwd segcached && chroot "$root" userdel segcached
 }
 
-# After a removal its options and its user stay, as Debian wants it; after a purge nothing does, nor what
-# `systemctl enable` makes for an instance.
+# After a removal its options, those of instances and its user stay, as Debian wants it; after a purge nothing does, nor
+# what `systemctl enable` makes for an instance.
 leaves_nothing() {
-  local wanted_by=$root/etc/systemd/system/multi-user.target.wants
-  ln -s /lib/systemd/system/segcached@.service "$wanted_by/segcached@one.service" || return 1
+  local options=$root/etc/default/segcached wanted_by=$root/etc/systemd/system/multi-user.target.wants
+  for instance in one two-2; do
+    echo "OPTIONS=--listen 127.0.0.1:11212" >"$options-$instance"
+    ln -s /lib/systemd/system/segcached@.service "$wanted_by/segcached@$instance.service" || return 1
+  done
   chroot "$root" dpkg --remove segcached
-  [ ! -e "$root/usr/bin/segcached" ] && [ -e "$root/etc/default/segcached" ] || return 1
+  [ ! -e "$root/usr/bin/segcached" ] && [ -e "$options" ] && [ -e "$options-one" ] && [ -e "$options-two-2" ] || return 1
   chroot "$root" dpkg --purge segcached
   list_files | diff "$work/before" - && ! ls "$root"/var/lib/dpkg/info/segcached*
 }
@@ -213,6 +228,7 @@ completes_words() {
 [ $# -eq 0 ] || part python3 tools/proved.py write --log "$1"
 part refuses_other_programs
 part makes_package
+part has_one_version
 part lintian --fail-on error,warning --allow-root "$work/segcached.deb"
 part needs_the_c_library_alone
 part has_tight_units

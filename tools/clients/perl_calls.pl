@@ -39,6 +39,17 @@ sub try_libmemcached {
     check('flush', sub { client()->memcached_flush }, 1);
 }
 
+# How many of 500 gets of a key that is there miss, if a touch that waits for no reply stands before each.
+sub missed_beside_touches {
+    my $client = $class->new({ servers => ["127.0.0.1:$port"], nowait => 1 });
+    my $missed = 0;
+    for (1 .. 500) {
+        $client->touch('pe-b', 60);
+        $missed += !defined $client->get('pe-b');
+    }
+    return $missed;
+}
+
 sub try_others {
     my $client = client();
     check('set', sub { $client->set('pe-a', '1') }, 1);
@@ -57,6 +68,7 @@ sub try_others {
         check('set_multi', sub { scalar keys %{ $client->set_multi(['pe-m1', '1'], ['pe-m2', '2']) } }, 2);
         check('append', sub { client()->append('pe-b', '5') && client()->get('pe-b') }, '45');
         check('touch', sub { client()->touch('pe-b', 60) }, 1);
+        check('touch_without_waiting', \&missed_beside_touches, 0);
         check('server_versions', sub { scalar keys %{ client()->server_versions } }, 1);
     }
     check('flush_all', sub { client()->flush_all; defined client()->get('pe-n') ? 'there' : 'gone' }, 'gone');

@@ -4,9 +4,10 @@ It is written from the rules of segments alone (docs/OPERATIONS.md tells them in
 the program has bytes, and walks where the program has tables.
 """
 LASTING = 1024  # the bucket of what has no deadline
+VERSION = b"VERSION 1.6.0-segcached-0.6.0\r\n"
 BUCKETS = 1025
-# Commands that take a data block and are answered without a look at the cache or at the clock.
-REFUSED = (b"append", b"prepend")
+# Lines that are answered without a look at the cache or at the clock.
+LOCAL = (b"version", b"verbosity")
 
 
 def bucket_of(ttl):
@@ -25,9 +26,28 @@ def width_and_lower_end(bucket):
     raise ValueError(bucket)
 
 
+def deadline_of(exptime, now):
+    """The moment that an exptime asks for; None if it asks for none."""
+    return None if exptime == 0 else now + exptime if 0 < exptime <= 2592000 else exptime
+
+
+def life_of(deadline, now):
+    return None if deadline is None else max(1, deadline - now)
+
+
+def may_stand_for(has, asked, now):
+    """Whether a `touch` leaves an item that ends at the first moment, if it is to end at the second: a segment might give it that end, or no more
+    than an eighth of its life is missing."""
+    if has is None or asked is None:
+        return has is asked
+    life = min(asked - now, 8388608)
+    width, _ = width_and_lower_end(bucket_of(life))
+    return now < has <= asked and (has + 2 * width > now + life or asked - has <= (asked - now) // 8)
+
+
 class Segment:
     def __init__(self, bucket, opened):
-        self.bucket, self.opened, self.items = bucket, opened, []
+        self.bucket, self.opened, self.items, self.hits = bucket, opened, [], 0
         if bucket == LASTING:
             self.closes = self.deadline = None
         else:
@@ -52,8 +72,9 @@ class Item:
 class Cache:
     """The cache, by lists: `order` are the segments of chains, the one opened first in front."""
 
-    def __init__(self, segment_size, segments):
+    def __init__(self, segment_size, segments, is_least_read=False, is_in_place=False):
         self.segment_size, self.free, self.order, self.cursor = segment_size, segments, [], 0
+        self.segments, self.opens, self.is_least_read, self.is_in_place, self.hand = segments, 0, is_least_read, is_in_place, 0
         self.current, self.cas, self.pending = {}, 0, None
         self.merges = self.clearings = self.given_back = 0
 
@@ -73,6 +94,11 @@ class Cache:
             self.free -= 1
             tail = Segment(bucket, now)
             self.order.append(tail)
+            self.opens += 1
+            if 2 * self.opens >= self.segments:
+                self.opens = 0
+                for segment in self.order:
+                    segment.hits //= 2
         tail.items.append(item)
         item.segment = tail
         return True
@@ -84,19 +110,35 @@ class Cache:
         self.given_back += len(dead)
         return bool(dead)
 
-    def front(self, bucket):
-        chain = [it for it in self.order if it.bucket == bucket]
+    def front(self, bucket, order):
+        """Of a bucket's segments in this part of the order the first ones that can be merged."""
+        chain = [it for it in order if it.bucket == bucket]
         front = []
         for segment in chain[:-1]:
             if bucket != LASTING and segment.opened != chain[0].opened:
                 break
             front.append(segment)
-        return front
+        return front[:4]
+
+    def looked_at(self):
+        """The places of a quarter of all segments, from the hand on, or from the front if too few follow the hand."""
+        quarter = self.segments // 4
+        start = self.hand if self.hand + quarter <= len(self.order) else 0
+        return range(start, min(start + quarter, len(self.order)))
+
+    def fronts(self):
+        """What can be merged, what comes first in front, with the next bucket and the next place."""
+        if self.is_least_read:
+            for place in self.looked_at():
+                bucket = self.order[place].bucket
+                yield self.front(bucket, self.order[place:]), bucket + 1, place + 1
+        else:
+            for distance in range(BUCKETS):
+                bucket = (self.cursor + distance) % BUCKETS
+                yield self.front(bucket, self.order), bucket + 1, 1
 
     def merge(self, now):
-        for distance in range(BUCKETS):
-            bucket = (self.cursor + distance) % BUCKETS
-            front = self.front(bucket)[:4]
+        for front, cursor, hand in self.fronts():
             if len(front) < 2:
                 continue
             live = [item for segment in front for item in segment.items if self.is_live(item, now)]
@@ -113,15 +155,19 @@ class Cache:
                     front[0].items.append(item)
                 else:
                     del self.current[item.key]
+            front[0].hits = sum(item.reads for item in front[0].items)
             self.order = [it for it in self.order if it not in front[1:]]
             self.free += len(front) - 1
-            self.cursor = (bucket + 1) % BUCKETS
+            self.cursor, self.hand = cursor % BUCKETS, hand
             self.merges += 1
             return True
         return False
 
-    def clear_oldest(self, now):
-        for item in self.order.pop(0).items:
+    def clear(self, now):
+        looked_at = [self.order[place] for place in self.looked_at()]
+        victim = min(looked_at, key=lambda it: it.hits) if self.is_least_read else self.order[0]
+        self.order.remove(victim)
+        for item in victim.items:
             if self.is_live(item, now):
                 del self.current[item.key]
         self.free += 1
@@ -129,12 +175,22 @@ class Cache:
 
     def write(self, key, value, flags, ttl, now):
         self.cas += 1
+        self.store(Item(key, value, flags, self.cas), ttl, now)
+
+    def rewrite(self, item, value, now):
+        """The item has this value from now on: where it stands, with its reads, if that is on and the size stays; else it is written anew."""
+        if not self.is_in_place or Item(item.key, value, 0, 0).size != item.size:
+            return self.write(item.key, value, item.flags, life_of(item.segment.deadline, now), now)
+        self.cas += 1
+        item.value, item.cas = value, self.cas
+        item.segment.hits += 1
+
+    def store(self, item, ttl, now):
+        key, bucket = item.key, bucket_of(ttl)
         self.current.pop(key, None)
-        item = Item(key, value, flags, self.cas)
-        bucket = bucket_of(ttl)
         if not self.append(item, bucket, now):
             if not self.give_back(now) and not self.merge(now):
-                self.clear_oldest(now)
+                self.clear(now)
             assert self.append(item, bucket, now)
         self.current[key] = item
 
@@ -151,6 +207,7 @@ class Cache:
             item = self.find(key, now)
             if item is not None:
                 item.reads = min(127, item.reads + 1)
+                item.segment.hits += 1
                 unique = b" %d" % item.cas if with_cas else b""
                 out += b"VALUE %s %d %d%s\r\n%s\r\n" % (key, item.flags, len(item.value), unique, item.value)
         return out + b"END\r\n"
@@ -166,12 +223,34 @@ class Cache:
                 return b"NOT_FOUND\r\n"
             if there.cas != unique:
                 return b"EXISTS\r\n"
-        deadline = None if exptime == 0 else now + exptime if 0 < exptime <= 2592000 else exptime
+        deadline = deadline_of(exptime, now)
         if deadline is not None and deadline <= now:
             self.current.pop(key, None)
         else:
-            self.write(key, value, flags, None if deadline is None else max(1, deadline - now), now)
+            self.write(key, value, flags, life_of(deadline, now), now)
         return b"STORED\r\n"
+
+    def join(self, verb, key, value, now):
+        """An `append` or a `prepend`: the flags and the deadline stay, but the deadline is asked for anew if the item is written anew."""
+        item = self.find(key, now)
+        if item is None:
+            return b"NOT_STORED\r\n"
+        value = item.value + value if verb == b"append" else value + item.value
+        if Item(key, value, item.flags, 0).size > self.segment_size // 8:
+            return b"SERVER_ERROR object too large for cache\r\n"
+        self.rewrite(item, value, now)
+        return b"STORED\r\n"
+
+    def touch(self, key, exptime, now):
+        """The item gets the deadline that is asked for, and stays where it is if its own may stand for that one."""
+        item, deadline = self.find(key, now), deadline_of(exptime, now)
+        if item is None:
+            return b"NOT_FOUND\r\n"
+        if deadline is not None and deadline <= now:
+            del self.current[key]
+        elif not may_stand_for(item.segment.deadline, deadline, now):
+            self.store(Item(key, item.value, item.flags, item.cas), life_of(deadline, now), now)
+        return b"TOUCHED\r\n"
 
     def change(self, key, amount, adds, now):
         item = self.find(key, now)
@@ -180,8 +259,7 @@ class Cache:
         if not (1 <= len(item.value) <= 20 and item.value.isdigit() and int(item.value) < 2**64):
             return b"CLIENT_ERROR cannot increment or decrement non-numeric value\r\n"
         number = (int(item.value) + amount) % 2**64 if adds else max(0, int(item.value) - amount)
-        ttl = None if item.segment.deadline is None else max(1, item.segment.deadline - now)
-        self.write(key, b"%d" % number, item.flags, ttl, now)
+        self.rewrite(item, b"%d" % number, now)
         return b"%d\r\n" % number
 
     def delete(self, key, now):
@@ -199,13 +277,19 @@ class Cache:
         return b"OK\r\n"
 
     def answer(self, request, now):
-        """A request's bytes, and what it is answered. A `cas` number of None is that of what is there, or 0. An `append` and a `prepend`, and
-        a zero after the key of a `delete`, are for the lenient dialect."""
+        """A request's bytes, and what it is answered. A `cas` number of None is that of what is there, or 0. `append`, `prepend`, `touch`,
+        `version` and `verbosity`, and a zero after the key of a `delete`, are for the lenient dialect."""
         verb, *words = request
-        if verb in REFUSED:
-            key, flags, exptime, value, _ = words
-            return b"%b %b %d %d %d\r\n%b\r\n" % (verb, key, flags, exptime, len(value), value), b"ERROR\r\n"
+        if verb in LOCAL:
+            return verb + b"".join(b" " + it for it in words) + b"\r\n", b"OK\r\n" if verb == b"verbosity" else VERSION
         self.begin(now)
+        if verb in (b"append", b"prepend"):
+            key, flags, exptime, value, _ = words
+            line = b"%b %b %d %d %d\r\n%b\r\n" % (verb, key, flags, exptime, len(value), value)
+            return line, self.join(verb, key, value, now)
+        if verb == b"touch":
+            key, exptime = words
+            return b"touch %b %d\r\n" % (key, exptime), self.touch(key, exptime, now)
         if verb in (b"get", b"gets"):
             (keys,) = words
             return b"%b %b\r\n" % (verb, b" ".join(keys)), self.get(keys, verb == b"gets", now)

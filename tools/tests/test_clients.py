@@ -16,8 +16,14 @@ def server(program):
         yield it
 
 
+@pytest.fixture(scope="module")
+def lenient_server(program):
+    with served.Server(program, "--lenient") as it:
+        yield it
+
+
 @pytest.fixture
-def run(server, tmp_path):
+def run(tmp_path):
     """Runs a command in a folder of its own: its exit status and what it wrote."""
 
     def run_command(*words, data=b""):
@@ -51,13 +57,28 @@ def test_libmemcached_copies_shows_finds_and_removes_a_file(server, run, tmp_pat
     assert run("memccat", servers, "greeting") == (1, b"")
 
 
-# (its other parts ask for `version` or for commands that are left out)
-@pytest.mark.parametrize("part", ["quit", "get", "gets", "mget", "flush", "delete", "incr", "decr"])
-def test_memccapable_passes(server, run, part):
+def capable(run, server, part):
+    """Whether a part of memccapable passes."""
     label = f"ascii {part}"
     printed = f"{label:<40}[pass]\nAll tests passed\n".encode()
     words = ["-h", "127.0.0.1", "-p", str(server.port), "-a", "-t", "5", "-T", label]
-    assert run("memccapable", *words) == (0, printed)
+    return run("memccapable", *words) == (0, printed)
+
+
+PARTS = ["quit", "get", "gets", "mget", "flush", "delete", "incr", "decr"]
+# (these ask for `version` or for commands that the strict dialect hasn't)
+LENIENT_PARTS = ["version", "verbosity", "set", "set noreply", "flush noreply", "add", "add noreply", "replace", "replace noreply", "cas", "cas noreply",
+                 "delete noreply", "incr noreply", "decr noreply", "append", "append noreply", "prepend", "prepend noreply"]
+
+
+@pytest.mark.parametrize("part", PARTS)
+def test_memccapable_passes(server, run, part):
+    assert capable(run, server, part)
+
+
+@pytest.mark.parametrize("part", PARTS + LENIENT_PARTS)
+def test_with_lenient_lines_memccapable_passes(lenient_server, run, part):
+    assert capable(run, lenient_server, part)
 
 
 def test_memcflush_writes_a_space_behind_its_request_which_is_a_fault(server, run):
@@ -74,7 +95,8 @@ def test_with_lenient_lines_memcflush_flushes(program, run):
 # ---- all that docs/CLIENTS.md names
 
 PACKAGES = """python3-django python3-memcache python3-binary-memcached php-cli php-memcached php-memcache php-symfony-cache
-    libcache-memcached-perl libcache-memcached-fast-perl libmemcached-libmemcached-perl ruby ruby-dalli nginx-light""".split()
+    libcache-memcached-perl libcache-memcached-fast-perl libmemcached-libmemcached-perl ruby ruby-dalli nginx-light
+    php-symfony-http-foundation simplesamlphp freeradius-memcached python3-tooz python3-celery python3-limits""".split()
 CALLS = [
     *[(sys.executable, f"{name}_calls.py") for name in ("pylibmc", "python_memcached", "binary_memcached", "django", "nginx")],
     *[("php", f"{name}_calls.php") for name in ("php_memcached", "php_memcache")],
@@ -84,7 +106,11 @@ CALLS = [
 ]
 # These are for lenient lines alone; the gate has what the first two need. (Without, libmemcached ends the process of the second one.)
 GATE_APPLICATIONS = [(sys.executable, f"{name}_calls.py") for name in ("mediawiki", "cachelib")]
-APPLICATIONS = [*GATE_APPLICATIONS, ("php", "symfony_calls.php")]
+APPLICATIONS = [
+    *GATE_APPLICATIONS,
+    *[("php", f"{name}_calls.php") for name in ("symfony", "php_sessions", "simplesamlphp")],
+    *[(sys.executable, f"{name}_calls.py") for name in ("touching", "freeradius")],
+]
 
 
 @pytest.fixture(scope="module")

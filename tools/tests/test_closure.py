@@ -90,6 +90,14 @@ def test_a_contract_leads_to_what_its_clauses_name_and_what_that_rests_on(tree):
     assert closure.counts_of(definitions) == "4 definitions in 2 files, 8 lines"
 
 
+def test_one_clause_of_a_contract_is_shown_by_its_name(tree):
+    sources = closure.Sources(tree)
+    assert sources.head_and_clauses("high/src/call.rt:Thing::call#small")[1] == ["requires small { IsSmall n }"]
+    assert [closure.key_of(it) for it in sources.closure(["high/src/call.rt:Thing::call#size"])[0]] == ["low.Sizes.Size"]
+    with pytest.raises(closure.Trouble, match="high/src/call.rt has no clause none of Thing::call"):
+        sources.closure(["high/src/call.rt:Thing::call#none"])
+
+
 def test_a_type_of_the_code_is_told_by_its_file(tree):
     with open(f"{tree}/crates/high/src/call.rt", "a", encoding="utf-8") as file:
         file.write("fn last()\n    ensures { is_round result }\n{\n}\n")
@@ -163,6 +171,26 @@ def test_the_page_has_the_texts_and_says_what_has_no_entry(tree):
     assert closure.filled(unlisted, closure.Sources(tree)) == (unlisted, [*wrong, "ℕ isn't listed"])
 
 
+LONG = """abbrev pub IsLong : List ℕ → Type 0
+IsLong list = (first : ℕ) × (a_name_of_some_length : List ℕ) × (list ≡ first ∷ a_name_of_some_length) × (length list ≤ 131072)
+pub record Wide (a_name_of_some_length : List ℕ) (another_name : List ℕ) (a_third_name : ℕ) (behind : ℕ) : Type 0 where
+  pub met : (a_name_of_some_length ≡ another_name) → (a_third_name : ℕ) → some_statement_of_it a_third_name → behind ≡ 1
+"""
+NARROW = """abbrev pub IsLong : List ℕ → Type 0
+IsLong list = (first : ℕ) × (a_name_of_some_length : List ℕ)
+    × (list ≡ first ∷ a_name_of_some_length) × (length list ≤ 131072)
+pub record Wide (a_name_of_some_length : List ℕ) (another_name : List ℕ) (a_third_name : ℕ)
+    (behind : ℕ) : Type 0 where
+  pub met : (a_name_of_some_length ≡ another_name) → (a_third_name : ℕ)
+      → some_statement_of_it a_third_name → behind ≡ 1
+"""
+
+
+def test_long_lines_are_broken_where_the_fewest_brackets_are_open():
+    assert closure.narrow(LONG) + "\n" == NARROW
+    assert closure.narrow(NARROW) + "\n" == NARROW
+
+
 def test_with_several_contracts_what_the_first_rests_on_is_counted_too(tree):
     page = PAGE.replace("It is small.", "<!-- contract high/src/call.rt:Thing::call -->")
     counts = "4 definitions in 2 files, 8 lines, over 0 types of the code.\nThe first contract rests on 3 definitions in 2 files, 6 lines.\n"
@@ -171,7 +199,7 @@ def test_with_several_contracts_what_the_first_rests_on_is_counted_too(tree):
 
 def test_the_headlines_page_has_what_its_contracts_rest_on():
     page = closure.read(f"{TOP}/{closure.PAGE}")
-    assert len(closure.contracts_of(page)) == 3
+    assert len(closure.contracts_of(page)) == 7
     now, wrong = closure.filled(page, closure.Sources(TOP))
     assert wrong == []
     assert now == page

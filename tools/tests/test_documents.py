@@ -1,5 +1,5 @@
-"""Tests of the documents: each link leads to a file and a heading there, and what PROOFS and ARCHITECTURE quote stands in the crates.
-They take a second.
+"""Tests of the documents: each link leads to a file and a heading there, no line but a table's is wider than 100 columns, and what PROOFS
+and ARCHITECTURE quote stands in the crates. They take a second.
 
     python3 -m pytest tools/tests/test_documents.py
 """
@@ -35,6 +35,11 @@ def test_each_link_leads_to_a_file_and_a_heading(page):
         file = os.path.join(os.path.dirname(page), name) if name else page
         assert os.path.exists(file), link
         assert not heading or heading in anchors(file), link
+
+
+@pytest.mark.parametrize("page", PAGES, ids=os.path.basename)
+def test_no_line_but_a_tables_is_wider_than_100_columns(page):
+    assert [line for line in read(page).splitlines() if len(line) > 100 and not line.lstrip().startswith("|")] == []
 
 
 @pytest.mark.parametrize("page", ["PROOFS", "ARCHITECTURE"])

@@ -46,7 +46,7 @@ def test_what_is_amiss_is_said():
 
 
 def test_an_edits_first_line_is_read(tmp_path):
-    folder = tmp_path / "crates" / "low" / "must-fail"
+    folder = tmp_path / "crates" / "low" / "wrong"
     folder.mkdir(parents=True)
     (folder / "first.edit").write_text("# Part::call: it says `no`: twice\nfile: src/a.rt\nold: b\nnew: c\n", encoding="utf-8")
     (folder / "second.edit").write_text("file: src/a.rt\nold: b\nnew: c\n", encoding="utf-8")

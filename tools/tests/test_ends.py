@@ -134,6 +134,35 @@ def test_each_of_eighty_that_quit_and_stay_gets_its_answer_and_nothing_more(serv
         stream.close()
 
 
+def descriptors(server):
+    return len(os.listdir(f"/proc/{server.process.pid}/fd"))
+
+
+def test_one_that_quits_and_neither_closes_nor_sends_is_closed_after_two_seconds(serve):
+    server = serve("--workers", "1")
+    with server.connect() as stream:
+        stream.sendall(b"get a\r\nquit\r\n")
+        assert read_to_end(stream) == b"END\r\n"
+        began, held = time.monotonic(), descriptors(server)
+        while descriptors(server) == held:
+            assert time.monotonic() - began < 10
+            time.sleep(0.05)
+        assert descriptors(server) == held - 1 and time.monotonic() - began > 1
+
+
+def test_of_one_that_quits_and_goes_on_at_most_16_mib_are_read(serve, say):
+    """And what waits in the system's buffers, tens of MB at most. After two seconds it is closed, however little came."""
+    sent, piece = 0, bytes(1 << 16)
+    with serve("--workers", "1").connect() as stream:
+        stream.sendall(b"quit\r\n")
+        assert stream.recv(1) == b""
+        with contextlib.suppress(ConnectionResetError, BrokenPipeError):
+            while sent < 256 << 20:
+                sent += stream.send(piece)
+    say(f"{sent >> 20} MiB were sent")
+    assert sent < 128 << 20
+
+
 # ---- what they leave
 
 # Opens and ends sessions in each way, from several addresses, since the ports of one are used up: those of 127.0.0.2 and so on are this

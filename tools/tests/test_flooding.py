@@ -1,8 +1,10 @@
 """Keys that fall together in the index for who knows the seed of its hash: what it costs a server to write and read them.
 
 One whose random bytes are known suffers from the keys that were chosen for them, so its seed is these bytes; one with
-the system's own random bytes doesn't. Writes suffer most, since the index grows along the run that such keys make.
+the system's own random bytes doesn't. Where the system has none the seed is its clock, in nanoseconds, which libfaketime
+stops here. Writes suffer most, since the index grows along the run that such keys make.
 """
+import glob
 import os
 import random
 import subprocess
@@ -15,6 +17,10 @@ SLOTS = 1 << 18
 SPAN = 64
 COUNT = 4_000
 KNOWN = 0x0123456789ABCDEF
+# Each bit of the seed is set in one of these.
+BOTH = [KNOWN, 0xFFFF_FFFF_FFFF_FFFF - KNOWN]
+# A moment in seconds since 1970, and its name.
+STOPPED, AT = 1_795_737_600, "2026-11-27 00:00:00"
 # What the store takes if it is given no seed, as in `segcached replay`.
 OF_REPLAY = 0x9E3779B97F4A7C15
 
@@ -70,10 +76,19 @@ def is_flooded(chosen, plain):
     return chosen > 2 * plain + 5
 
 
-def test_the_seed_is_the_systems_random_bytes(compiled, chosen_for, cost_of):
+@pytest.mark.parametrize("seed", BOTH, ids=hex)
+def test_the_seed_is_the_systems_random_bytes(compiled, chosen_for, cost_of, seed):
     shim = compiled("known_random", "-shared", "-fPIC")
-    environment = {**os.environ, "LD_PRELOAD": shim, "KNOWN_RANDOM": str(KNOWN)}
-    chosen = cost_of("that were chosen for the server's own random bytes", chosen_for(KNOWN), environment)
+    environment = {**os.environ, "LD_PRELOAD": shim, "KNOWN_RANDOM": str(seed)}
+    chosen = cost_of("that were chosen for the server's own random bytes", chosen_for(seed), environment)
+    plain = cost_of("that nobody chose", plain_keys(), environment)
+    assert is_flooded(chosen, plain)
+
+
+def test_without_random_bytes_the_seed_is_the_clock(compiled, chosen_for, cost_of):
+    libraries = [compiled("known_random", "-shared", "-fPIC"), *glob.glob("/usr/lib/*/faketime/libfaketimeMT.so.1")]
+    environment = {**os.environ, "LD_PRELOAD": " ".join(libraries), "FAKETIME": AT, "FAKETIME_DONT_FAKE_MONOTONIC": "1", "TZ": "UTC"}
+    chosen = cost_of("that were chosen for the moment of the start", chosen_for(STOPPED * 10**9), environment)
     plain = cost_of("that nobody chose", plain_keys(), environment)
     assert is_flooded(chosen, plain)
 

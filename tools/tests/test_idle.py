@@ -1,4 +1,5 @@
 """`serve --idle 1`: which connections are closed, and which aren't. (All waits are in one test, which takes five seconds.)"""
+import contextlib
 import threading
 import time
 
@@ -23,9 +24,9 @@ class Watched:
             self.trouble = trouble
 
     def join(self):
+        """What was wrong with it, if anything."""
         self.thread.join()
-        if self.trouble:
-            raise self.trouble
+        return self.trouble
 
 
 def speaks_every(server, seconds, until):
@@ -46,6 +47,20 @@ def sends_a_byte_every(server, seconds, until):
             assert read_exactly(stream, 5) == b"END\r\n"
 
 
+def reads_steadily(server, rate, until):
+    """A client that is owed much and reads so many bytes a second isn't closed, though its system's buffers stay almost full. (Its own buffer is
+    small, since Linux tells a peer of new room only once half of that buffer is free.)"""
+    with server.connect(receive_buffer=65536) as stream:
+        stream.sendall(b"get big\r\n" * 4000)
+        began, read = time.monotonic(), 0
+        while time.monotonic() < until:
+            time.sleep(0.05)
+            count = int((time.monotonic() - began) * rate) - read
+            assert len(read_exactly(stream, count)) == count
+            assert not is_closed(server, stream)
+            read += count
+
+
 def reads_slowly(server, seconds, until):
     """A client that is owed answers and takes some of them again and again isn't closed, though it sends nothing."""
     with server.connect(receive_buffer=65536) as stream:
@@ -59,6 +74,14 @@ def reads_slowly(server, seconds, until):
             assert is_right
             left -= count
             time.sleep(seconds)
+
+
+def comes_late(server):
+    """A client that comes late isn't closed for what was before it came."""
+    time.sleep(2.5)
+    with server.connect() as stream:
+        time.sleep(0.7)
+        ask(stream, b"get none\r\n", b"END\r\n")
 
 
 def is_silent(server):
@@ -80,24 +103,40 @@ def is_closed(server, stream):
     return not any((it[1][-5:], it[2][-5:], it[3]) == (*ends, "01") for it in listed)
 
 
-def reads_nothing(server):
-    """A client that is owed answers and takes none of them for longer than the limit is closed."""
+def send_until_closed(stream, requests):
+    with contextlib.suppress(OSError):
+        stream.sendall(requests)
+
+
+def reads_nothing(server, times):
+    """A client that is owed answers and takes none of them for longer than the limit is closed, also if it asks for so many that they aren't
+    read any more."""
     with server.connect(receive_buffer=4096) as stream:
         began = time.monotonic()
-        stream.sendall(b"get big\r\n" * 4000)
+        threading.Thread(target=send_until_closed, args=(stream, b"get big\r\n" * times), daemon=True).start()
         while not is_closed(server, stream):
             assert time.monotonic() - began < 10
             time.sleep(0.05)
         assert time.monotonic() - began > 1
 
 
-def test_who_is_silent_or_reads_nothing_is_closed_and_no_one_else(serve):
+def try_all(serve):
     server = serve("--workers", "1", "--idle", "1")
     with server.connect() as stream:
         ask(stream, b"set big 0 0 8000\r\n" + VALUE + b"\r\n", b"STORED\r\n")
     until = time.monotonic() + 4.2
     clients = [Watched(speaks_every, server, seconds, until) for seconds in (0.2, 0.35, 0.45, 0.55, 0.65, 0.75, 0.9)]
     clients += [Watched(sends_a_byte_every, server, 0.4, until), Watched(reads_slowly, server, 0.3, until)]
-    clients += [Watched(is_silent, server), Watched(reads_nothing, server)]
-    for client in clients:
-        client.join()
+    clients += [Watched(reads_steadily, server, 400_000, until)]
+    clients += [Watched(comes_late, server), Watched(is_silent, server)]
+    clients += [Watched(reads_nothing, server, times) for times in (4_000, 100_000)]
+    return [trouble for trouble in (client.join() for client in clients) if trouble]
+
+
+def test_who_is_silent_or_reads_nothing_is_closed_and_no_one_else(serve):
+    """A busy machine may delay a client for as long as a silent one may be silent, so all is tried up to three times."""
+    for _ in range(3):
+        troubles = try_all(serve)
+        if not troubles:
+            return
+    raise troubles[0]

@@ -1,7 +1,8 @@
-"""`serve --lenient` with what clients write beyond the strict protocol: `append` and `prepend`, `delete K 0`, the binary protocol.
+"""`serve --lenient` with what clients write beyond the strict protocol: `append`, `prepend`, `touch`, `version`, `verbosity`, `delete K 0`, the
+binary protocol.
 
-If `append` took no block, its data would be read as a command, and each later answer of the connection would belong to the
-request before it. Real clients would then return other keys' values.
+If a `touch` with `noreply` were answered, each later answer of a connection that clients share would belong to the request before it. Real
+clients would then return other keys' values.
 """
 import random
 import subprocess
@@ -13,25 +14,40 @@ import memcache
 import pytest
 import served
 from asking import ask, hit
+from model import VERSION
 from pymemcache.client.base import Client
-from pymemcache.exceptions import MemcacheUnknownCommandError
 from served import read_to_end
 from test_three_caches import twemproxy
 
-TOO_LARGE = b"SERVER_ERROR object too large for cache\r\n"
+STORED, TOO_LARGE = b"STORED\r\n", b"SERVER_ERROR object too large for cache\r\n"
 BAD_LINE = b"CLIENT_ERROR bad command line format\r\n"
 HIT = hit(b"a", b"x")
 BLOCK = b"z" * 131_072
 BINARY_GET = b"\x80\x00\x00\x01" + bytes(7) + b"\x01" + bytes(12) + b"a"
 # By name: what is sent, what it is answered, and whether the session is closed. The key `a` has the value x.
 ROWS = {
-    "append": (b"append a 0 0 5\r\nget a\r\nget a\r\n", b"ERROR\r\n" + HIT, False),
-    "append noreply": (b"append a 0 0 1 noreply\r\nx\r\nget a\r\n", HIT, False),
-    "prepend": (b"prepend a 4294967295 -1 1\r\nx\r\nget a\r\n", b"ERROR\r\n" + HIT, False),
-    "prepend noreply": (b"prepend a 0 0 1 noreply\r\nx\r\nget a\r\n", HIT, False),
-    "append of nothing": (b"append a 0 0 0\r\n\r\nget a\r\n", b"ERROR\r\n" + HIT, False),
-    "append between gets": (b"get a\r\nappend a 0 0 1\r\nx\r\nget b\r\n", HIT + b"ERROR\r\nEND\r\n", False),
-    "append of the largest block": (b"append a 0 0 131072\r\n" + BLOCK + b"\r\nget b\r\n", b"ERROR\r\nEND\r\n", False),
+    "append": (b"append a 0 0 5\r\nget a\r\nget a\r\n", STORED + hit(b"a", b"xget a"), False),
+    "append noreply": (b"append a 0 0 1 noreply\r\ny\r\nget a\r\n", hit(b"a", b"xy"), False),
+    "prepend keeps flags and deadline": (b"prepend a 4294967295 -1 1\r\ny\r\nget a\r\n", STORED + hit(b"a", b"yx"), False),
+    "prepend noreply": (b"prepend a 0 0 1 noreply\r\ny\r\nget a\r\n", hit(b"a", b"yx"), False),
+    "append of nothing": (b"append a 0 0 0\r\n\r\nget a\r\n", STORED + HIT, False),
+    "append to no key": (b"append b 0 0 1\r\nx\r\nget b\r\n", b"NOT_STORED\r\nEND\r\n", False),
+    "prepend to no key": (b"prepend b 0 0 1\r\nx\r\nget b\r\n", b"NOT_STORED\r\nEND\r\n", False),
+    "append between gets": (b"get a\r\nappend a 0 0 1\r\ny\r\nget b\r\n", HIT + STORED + b"END\r\n", False),
+    "append of the largest block": (b"append a 0 0 131072\r\n" + BLOCK + b"\r\nget a\r\n", TOO_LARGE + HIT, False),
+    "append to a number": (b"set n 0 0 1\r\n9\r\nappend n 0 0 1\r\n9\r\nincr n 1\r\n", STORED * 2 + b"100\r\n", False),
+    "touch": (b"touch a 100\r\nget a\r\n", b"TOUCHED\r\n" + HIT, False),
+    "touch of no key": (b"touch b 100\r\n", b"NOT_FOUND\r\n", False),
+    "touch noreply": (b"touch a 100 noreply\r\ntouch b 100 noreply\r\nget a\r\n", HIT, False),
+    "touch for ever": (b"touch a 0\r\nget a\r\n", b"TOUCHED\r\n" + HIT, False),
+    "touch until a moment that is past": (b"touch a -1\r\nget a\r\n", b"TOUCHED\r\nEND\r\n", False),
+    "touch without a time": (b"touch a\r\nget a\r\n", BAD_LINE + HIT, False),
+    "touch by a word": (b"touch a soon\r\nget a\r\n", BAD_LINE + HIT, False),
+    "version": (b"version\r\nget a\r\n", VERSION + HIT, False),
+    "verbosity": (b"verbosity 1\r\nget a\r\n", b"OK\r\n" + HIT, False),
+    "verbosity noreply": (b"verbosity 1 noreply\r\nget a\r\n", HIT, False),
+    "cache_memlimit noreply": (b"cache_memlimit 64 noreply\r\nget a\r\n", HIT, False),
+    "cache_memlimit": (b"cache_memlimit 64\r\nget a\r\n", b"ERROR\r\n" + HIT, False),
     "append of a larger block": (b"append a 0 0 131073\r\nget b\r\n", TOO_LARGE, True),
     "append of another length": (b"append a 0 0 1\r\nxyz\r\nget b\r\n", b"CLIENT_ERROR bad data chunk\r\n", True),
     "append without a length": (b"append a 0 0\r\nget b\r\n", BAD_LINE, True),
@@ -68,34 +84,74 @@ def test_what_clients_write_is_answered_in_its_place(server, sent, answer, close
             ask(stream, b"get after\r\n", answer + b"END\r\n")
 
 
-def test_without_lenient_lines_the_block_of_an_append_is_a_command(serve):
-    """As it is in the strict dialect."""
+def test_the_version_is_that_of_the_program(program):
+    said = subprocess.run([program, "--version"], capture_output=True, text=True, check=True).stdout
+    assert VERSION == b"VERSION 1.6.0-segcached-%b\r\n" % said.splitlines()[0].split()[1].encode()
+
+
+def cas_number(stream):
+    """That of the key `a`, whose value has one line."""
+    stream.sendall(b"gets a\r\n")
+    with stream.makefile("rb") as lines:
+        number = int(lines.readline().split()[-1])
+        assert [lines.readline() for _ in range(2)][1] == b"END\r\n"
+    return number
+
+
+def test_an_append_gives_a_new_cas_number_and_a_touch_keeps_it(server):
+    with server.connect() as stream:
+        ask(stream, b"set a 7 0 1\r\nx\r\n", STORED)
+        first = cas_number(stream)
+        # (the second is written anew, as its end comes much earlier)
+        ask(stream, b"touch a 100000\r\ntouch a 20\r\n", b"TOUCHED\r\nTOUCHED\r\n")
+        assert cas_number(stream) == first
+        ask(stream, b"append a 0 0 1\r\ny\r\n", STORED)
+        assert cas_number(stream) > first
+        ask(stream, b"cas a 0 0 1 %d\r\nz\r\nget a\r\n" % first, b"EXISTS\r\n" + hit(b"a", b"xy", 7))
+
+
+def test_a_touch_shortens_a_life_and_lengthens_it(server):
+    """TTLs are rounded down by up to two widths of 8 seconds, so one of 8 lasts for 1 to 8."""
+    with server.connect() as stream:
+        ask(stream, b"set a 0 0 1\r\nx\r\nset b 0 9 1\r\ny\r\ntouch a 8\r\ntouch b 100\r\n", STORED * 2 + b"TOUCHED\r\n" * 2)
+        time.sleep(9.2)
+        ask(stream, b"get a b\r\n", hit(b"b", b"y"))
+
+
+STRICT = b"touch a 5\r\ntouch a 5 noreply\r\nversion\r\nverbosity 1\r\nverbosity 1 noreply\r\ncache_memlimit 1 noreply\r\n"
+
+
+def test_the_strict_dialect_has_none_of_these(serve):
+    """The block of an `append` is a command there."""
     with serve().connect() as stream:
-        ask(stream, b"append a 0 0 6\r\nget a\r\n\r\ndelete a 0\r\n", b"ERROR\r\nEND\r\nERROR\r\n" + BAD_LINE)
+        ask(stream, b"set a 0 0 1\r\nx\r\n" + STRICT + b"get a\r\n", STORED + 6 * b"ERROR\r\n" + HIT)
+        ask(stream, b"append a 0 0 6\r\nget b\r\n\r\nprepend a 0 0 6\r\nget b\r\n\r\n", 2 * b"ERROR\r\nEND\r\nERROR\r\n")
+        ask(stream, b"delete a 0\r\nget a\r\n", BAD_LINE + HIT)
 
 
 # ---- clients
 
 # libmemcached may end its process if answers are shifted, so each run has a process of its own. It says how many values were right, how
-# many wrong, and how many calls of `append` and `prepend` were refused.
+# many wrong, and how many calls of `append` and `prepend` succeeded.
 LIBMEMCACHED = """
 import random, sys, pylibmc
 chance, client = random.Random(57), pylibmc.Client([f"127.0.0.1:{sys.argv[1]}"])
 values = {f"mc-{number}": f"value-{number}" for number in range(50)}
 client.set_multi(values)
-right = wrong = refused = 0
+right = wrong = joined = 0
 for turn in range(660):
     key = chance.choice(list(values))
-    if turn % 11 == 10:
-        try:
-            refused += not (client.append, client.prepend)[turn % 2](key, "get mc-0")
-        except pylibmc.Error:
-            refused += 1
+    if turn % 22 == 10:
+        joined += client.append(key, "get mc-0")
+        values[key] += "get mc-0"
+    elif turn % 22 == 21:
+        joined += client.prepend(key, "get mc-1")
+        values[key] = "get mc-1" + values[key]
     elif client.get(key) == values[key]:
         right += 1
     else:
         wrong += 1
-print(right, wrong, refused)
+print(right, wrong, joined)
 """
 
 
@@ -124,22 +180,25 @@ def test_pymemcache_reads_no_wrong_value_beside_its_appends(server):
     client = Client(("127.0.0.1", server.port), timeout=10, default_noreply=False)
     values = {f"pm-{number}": b"value-%d" % number for number in range(50)}
     client.set_many(values)
-    for turn, (key, value) in enumerate(values.items()):
-        with pytest.raises(MemcacheUnknownCommandError):
-            (client.append, client.prepend)[turn % 2](key, b"get pm-0")
-        # (the client has closed its connection, and opens another one)
-        client.append(key, b"get pm-0", noreply=True)
-        assert client.get(key) == value
+    for key, value in values.items():
+        assert client.append(key, b"get pm-0") and client.prepend(key, b"get pm-1")
+        client.append(key, b"!", noreply=True)
+        assert client.touch(key, 1000)
+        # (as the client does if it isn't told otherwise)
+        assert client.touch(key, 2000, noreply=True) and client.touch("pm-none", 2000, noreply=True)
+        assert client.get(key) == b"get pm-1" + value + b"get pm-0!"
+    assert not client.touch("pm-none", 1000) and not client.append("pm-none", b"x")
+    assert client.version() == VERSION.split()[1]
     client.quit()
 
 
-def test_python_memcached_appends_nothing_and_deletes_with_a_zero(server):
+def test_python_memcached_appends_and_deletes_with_a_zero(server):
     client = memcache.Client([f"127.0.0.1:{server.port}"], socket_timeout=10)
     values = {f"py-{number}": f"value-{number}" for number in range(50)}
     client.set_multi(values)
     for key, value in values.items():
-        assert not client.append(key, "get py-0") and not client.prepend(key, "get py-0")
-        assert client.get(key) == value
+        assert client.append(key, "get py-0") and client.prepend(key, "get py-1") and client.touch(key, 1000)
+        assert client.get(key) == f"get py-1{value}get py-0"
     assert client.delete("py-0", time=0) and client.get("py-0") is None
     client.disconnect_all()
 
@@ -147,24 +206,22 @@ def test_python_memcached_appends_nothing_and_deletes_with_a_zero(server):
 # ---- many clients behind a proxy
 
 def mixed(port, number, seen):
-    """One of ten clients of a proxy, which shares its connections among them: the first one appends as well."""
+    """One of ten clients of a proxy, which shares its connections among them: the first one appends and touches as well, with and without a reply."""
     chance, client = random.Random(number), Client(("127.0.0.1", port), timeout=20, default_noreply=False)
     values = {f"tw-{number}-{at}": b"value-%d-%d" % (number, at) for at in range(20)}
     assert client.set_many(values) == []
     for turn in range(140):
         key = chance.choice(list(values))
         if number == 0 and turn % 2:
-            try:
-                client.append(key, b"get tw-1-1")
-                seen.append("appended")
-            except MemcacheUnknownCommandError:
-                seen.append("refused")
+            client.touch(key, 1000, noreply=True)
+            seen.append("joined" if client.append(key, b"get tw-1-1") else "not joined")
+            values[key] += b"get tw-1-1"
         else:
             seen.append("right" if client.get(key) == values[key] else "wrong")
     client.quit()
 
 
-def test_behind_twemproxy_no_client_reads_a_wrong_value_beside_appends(serve, tmp_path):
+def test_behind_twemproxy_no_client_reads_a_wrong_value_beside_appends_and_touches(serve, tmp_path):
     with twemproxy([serve("--workers", "1", "--lenient").port for _ in range(3)], tmp_path) as port:
         seen = []
         clients = [threading.Thread(target=mixed, args=(port, number, seen)) for number in range(10)]
@@ -172,4 +229,4 @@ def test_behind_twemproxy_no_client_reads_a_wrong_value_beside_appends(serve, tm
             client.start()
         for client in clients:
             client.join()
-    assert {it: seen.count(it) for it in set(seen)} == {"right": 1330, "refused": 70}
+    assert {it: seen.count(it) for it in set(seen)} == {"right": 1330, "joined": 70}

@@ -37,8 +37,8 @@ def test_it_prints_its_real_port_and_ends_after_its_sessions(serve):
 
 @pytest.mark.parametrize("words, in_force", [
     ("", "--workers 2 --segment-size 65536 --segments 64"),
-    ("--segments 9 --lenient --spin 0 --counters-in-place --idle 60 --sessions 3 --segment-size 4096 --workers 3",
-     "--workers 3 --segment-size 4096 --segments 9 --sessions 3 --idle 60 --spin 0 --lenient --counters-in-place"),
+    ("--segments 9 --lenient --spin 0 --update-in-place --idle 60 --sessions 3 --segment-size 4096 --workers 3",
+     "--workers 3 --segment-size 4096 --segments 9 --sessions 3 --idle 60 --spin 0 --lenient --update-in-place"),
 ], ids=["the least options", "all options"])
 def test_it_says_on_standard_error_first_which_options_are_in_force(serve, words, in_force):
     errors = serve(*words.split()).process.stderr

@@ -2,7 +2,8 @@
 
 Each answer is the same byte for byte. Long runs over small pools give back, merge and clear all the time, and a tick
 between requests lets entries expire. Short ones are chosen by hypothesis, which shortens what fails. Some of either kind are in the
-lenient dialect, with spaces before the ends of lines, and with what that dialect alone takes.
+lenient dialect, with spaces before the ends of lines, and with what that dialect alone takes. Half evict the least read segment, and
+half change values in place.
 """
 import concurrent.futures
 import random
@@ -11,7 +12,7 @@ import tempfile
 
 from hypothesis import given, settings
 from hypothesis import strategies as st
-from model import REFUSED, Cache
+from model import LOCAL, Cache
 
 FIRST_MOMENT = 1000
 
@@ -35,7 +36,7 @@ def spelled(cache, requests, tick):
     pairs, executed = [], 0
     for request in requests:
         pairs.append(cache.answer(request, FIRST_MOMENT + tick * executed))
-        executed += request[0] not in REFUSED
+        executed += request[0] not in LOCAL
     return zip(*pairs)
 
 
@@ -55,6 +56,14 @@ def must_be_answered_as(wanted, given_bytes, sent):
 
 # ---- long runs
 
+JOINS = (b"append", b"prepend")
+
+
+def random_lenient_request(chance, key, ttls):
+    """One of the lines that have no data and that the lenient dialect alone takes; most are touches."""
+    return chance.choice(((b"delete", key, b"0"), (b"version",), (b"verbosity", b"1"), *[(b"touch", key, chance.choice(ttls))] * 5))
+
+
 def random_request(chance, keys, ttls, is_lenient):
     """A request over this number of keys, some of them asked for more often than others."""
     key = b"key%d" % min(chance.randrange(keys), chance.randrange(keys))
@@ -63,13 +72,15 @@ def random_request(chance, keys, ttls, is_lenient):
         asked = [key] + [b"key%d" % chance.randrange(keys) for _ in range(chance.randrange(3))]
         return b"gets" if chance.random() < 0.3 else b"get", asked
     if kind < 0.9:
-        verb = chance.choice((b"set", b"set", b"set", b"set", b"add", b"replace", b"cas", *(REFUSED if is_lenient else ())))
+        verb = chance.choice((b"set", b"set", b"set", b"set", b"add", b"replace", b"cas", *(JOINS if is_lenient else ())))
         number, size = chance.randrange(10 ** chance.randrange(1, 21)), chance.randrange(chance.choice((20, 200, 500)))
         value = b"%d" % number if chance.random() < 0.2 else b"v" * size
         unique = None if chance.random() < 0.7 else chance.randrange(1000)
         return verb, key, chance.randrange(2**32), chance.choice(ttls), value, unique
     if kind < 0.95:
-        return (b"delete", key, b"0") if is_lenient and chance.random() < 0.5 else (b"delete", key)
+        if is_lenient and chance.random() < 0.5:
+            return random_lenient_request(chance, key, ttls)
+        return b"delete", key
     if kind < 0.9995:
         return chance.choice((b"incr", b"decr")), key, chance.randrange(2 ** chance.randrange(1, 65))
     return b"flush_all", chance.choice((0, 20))
@@ -84,16 +95,19 @@ RUNS = (
     (4096, 23, 1, 1500, (0, 0, 0, 50, 200, 400), []),
 )
 REQUESTS = 40_000
+LEAST_READ, IN_PLACE = ["--evict", "least-read"], ["--update-in-place"]
 
 
 def long_run(program, number):
     """How often the model merged, cleared and gave back segments."""
     segment_size, segments, tick, keys, ttls, dialect = RUNS[number % len(RUNS)]
-    chance, cache = random.Random(number), Cache(segment_size, segments)
+    is_least_read, is_in_place = number % 2 == 1, number // 2 % 2 == 1
+    chance, cache = random.Random(number), Cache(segment_size, segments, is_least_read, is_in_place)
     requests = (random_request(chance, keys, ttls, bool(dialect)) for _ in range(REQUESTS))
     sent, wanted = spelled(cache, requests, tick)
     sent = with_spaces(sent) if dialect else sent
-    must_be_answered_as(wanted, replay(program, sent, segment_size, segments, tick, *dialect), sent)
+    options = dialect + LEAST_READ * is_least_read + IN_PLACE * is_in_place
+    must_be_answered_as(wanted, replay(program, sent, segment_size, segments, tick, *options), sent)
     return cache.merges, cache.clearings, cache.given_back
 
 
@@ -151,19 +165,26 @@ SIZES = st.sampled_from([(4096, 8), (4096, 9), (8192, 8), (4096, 23)])
 
 
 def lenient_form(request):
-    """The same request with what the lenient dialect alone takes; in place of each `cas` an `append`."""
+    """The same request with what the lenient dialect alone takes: in place of each `cas` an `append`, of `replace` a `prepend`, and of `decr` a
+    `touch` that asks for some life."""
     verb, *words = request
-    return (b"delete", *words, b"0") if verb == b"delete" else (b"append", *words) if verb == b"cas" else request
+    if verb == b"delete":
+        return b"delete", *words, b"0"
+    if verb in (b"cas", b"replace"):
+        return b"append" if verb == b"cas" else b"prepend", *words
+    return (b"touch", words[0], words[1] % 5000 - 100) if verb == b"decr" else request
 
 
 @settings(max_examples=100)
-@given(SIZES, st.sampled_from([0, 1, 3, 40]), SCRIPTS, st.booleans())
-def test_any_requests_are_answered_as_by_the_model(program, sizes, tick, parts, is_lenient):
+@given(SIZES, st.sampled_from([0, 1, 3, 40]), SCRIPTS, st.booleans(), st.booleans(), st.booleans())
+def test_any_requests_are_answered_as_by_the_model(program, sizes, tick, parts, is_lenient, is_least_read, is_in_place):
     # (the last one shows all that is left)
     requests = sum(parts, []) + reads(0, ALL_KEYS)
+    cache = Cache(*sizes, is_least_read, is_in_place)
     if is_lenient:
-        sent, wanted = spelled(Cache(*sizes), map(lenient_form, requests), tick)
+        sent, wanted = spelled(cache, map(lenient_form, requests), tick)
         sent, dialect = with_spaces(sent), ["--lenient"]
     else:
-        (sent, wanted), dialect = spelled(Cache(*sizes), requests, tick), []
-    must_be_answered_as(wanted, replay(program, sent, *sizes, tick, *dialect), sent)
+        (sent, wanted), dialect = spelled(cache, requests, tick), []
+    options = dialect + LEAST_READ * is_least_read + IN_PLACE * is_in_place
+    must_be_answered_as(wanted, replay(program, sent, *sizes, tick, *options), sent)

@@ -53,18 +53,20 @@ def test_those_with_the_longest_way_start_first_and_are_proved_by_several_proces
     assert prove.to_start(CRATES, ways, {"base"}, {}) == [("left", how(2, True, 0)), ("right", how(1, False, nice))]
     assert prove.to_start(CRATES, ways, {"base"}, {"left": None, "right": None}) == []
     assert prove.to_start(CRATES, ways, {"base", "right"}, {"left": None}) == [("aside", how(1, False, nice))]
-    assert prove.to_start(CRATES, ways, {"base", "left"}, {}) == [("right", how(2, True, 0)), ("aside", how(1, False, 0))]
+    assert prove.to_start(CRATES, ways, {"base", "left"}, {}) == [("right", how(2, False, 0)), ("aside", how(1, False, 0))]
     assert prove.to_start(CRATES, ways, {"base", "left", "right", "aside"}, {}) == [("top", how(4, False, 0))]
     monkeypatch.setattr(machine, "processors", lambda: 1)
     assert prove.to_start(CRATES, ways, {"base"}, {"right": None}) == [("left", how(1, False, 0))]
 
 
-def test_a_crate_for_which_all_others_wait_has_all_processors(monkeypatch):
+def test_the_last_crates_share_the_processors(monkeypatch):
     ways = prove.ways_to_the_top(CRATES, MINUTES)
     monkeypatch.setattr(prove, "LAST", 0.2)
     monkeypatch.setattr(machine, "processors", lambda: 4)
     monkeypatch.setattr(machine, "at_once", lambda: 2)
     assert prove.to_start(CRATES, ways, {"base", "left", "aside"}, {}) == [("right", prove.How(4, False, 0))]
+    assert prove.to_start(CRATES, ways, {"base", "left"}, {"aside": None}) == [("right", prove.How(2, False, 0))]
+    monkeypatch.setattr(machine, "processors", lambda: 3)
     assert prove.to_start(CRATES, ways, {"base", "left"}, {"aside": None}) == [("right", prove.How(2, True, 0))]
 
 
@@ -85,10 +87,10 @@ def repository(tmp_path, monkeypatch):
     (tmp_path / "crates.txt").write_text("# what stands here\nlow:\nhigh: low bytes\nlow_tests: low\n")
     (tmp_path / "HANDLES").write_text("Handles allowed: none.\n")
     for name, root in (("low", "lib.rt"), ("high", "main.rt"), ("low_tests", "lib.rt")):
-        for part in ("src", "must-fail", "out"):
+        for part in ("src", "wrong", "out"):
             (tmp_path / "crates" / name / part).mkdir(parents=True)
         (tmp_path / "crates" / name / "src" / root).write_text(f"// {name}\n")
-        (tmp_path / "crates" / name / "must-fail" / "wrong.edit").write_text("file: src/lib.rt\n")
+        (tmp_path / "crates" / name / "wrong" / "wrong.edit").write_text("file: src/lib.rt\n")
     (tmp_path / "crates" / "high" / "out" / "high").write_text("a program")
     monkeypatch.setattr(prove, "TOP", str(tmp_path))
     monkeypatch.setattr(prove, "NAME", "high")
@@ -108,7 +110,7 @@ def test_a_change_is_seen(repository, path):
     assert not prove.is_kept()
 
 
-@pytest.mark.parametrize("path", ["low/must-fail/wrong.edit", "low_tests/src/lib.rt"])
+@pytest.mark.parametrize("path", ["low/wrong/wrong.edit", "low_tests/src/lib.rt"])
 def test_what_the_program_does_not_stand_on_may_change(repository, path):
     (repository / "crates" / path).write_text("changed")
     assert prove.is_kept()
@@ -206,7 +208,7 @@ def test_the_minutes_are_read_as_they_were_written(tmp_path):
     path = str(tmp_path / "minutes.tsv")
     gate_times.write_minutes(path, minutes, "a run")
     assert gate_times.read_minutes(path) == minutes
-    assert gate_times.note_of(path) == "a run"
+    assert gate_times.notes_of(path) == ["a run"]
     assert gate_times.sums_in_words(minutes) == "7 processor minutes of the prover, 2 for proofs, 2 for tests, 3 for edits"
     table = gate_times.table_of(minutes)
     assert [line.split() for line in table.splitlines()] == [
@@ -217,14 +219,35 @@ def test_the_minutes_are_read_as_they_were_written(tmp_path):
     ]
 
 
+def test_with_the_minutes_stands_what_a_run_and_a_gate_took(tmp_path, monkeypatch):
+    path, whole, recorded = (tmp_path / name for name in ("minutes.tsv", "took", "recorded.tsv"))
+    gate_times.write_minutes(str(path), {"left": {"proofs": 1.5, "tests": 0.0, "edits": 3.0}}, "the prover")
+    whole.write_text("make run: 10:30\n")
+    monkeypatch.setattr(gate_times, "WHOLES", (str(tmp_path / "none"), str(whole)))
+    monkeypatch.setattr(gate_times, "MINUTES", str(recorded))
+    gate_times.take(str(path))
+    assert gate_times.notes_of(str(recorded)) == ["make run: 10:30", "the prover"]
+    assert gate_times.read_minutes(str(recorded)) == gate_times.read_minutes(str(path))
+
+
+@pytest.mark.parametrize("folder, words, kind", [
+    ("/r/crates/low", ["rattle", "check"], "proofs"),
+    ("/r/crates/low", ["rattle", "check", "--test"], "tests"),
+    (f"/tmp/{gate_times.EDITED}x1", ["rattle", "check"], "edits"),
+])
+def test_what_a_check_is_for_is_known_by_its_folder_and_words(monkeypatch, folder, words, kind):
+    monkeypatch.setattr(os, "readlink", lambda _: folder)
+    assert gate_times.kind_of("1", words) == kind
+
+
 def test_the_page_has_the_recorded_minutes():
     with open(gate_times.PAGE, encoding="utf-8") as file:
         page = file.read()
     assert gate_times.table_of(gate_times.read_minutes(gate_times.MINUTES)) in page
 
 
-def test_the_page_names_the_logic():
-    with open(gate_times.PAGE, encoding="utf-8") as file:
+def test_the_readme_names_the_logic():
+    with open(f"{gate_times.TOP}/README.md", encoding="utf-8") as file:
         assert f"`{machine.logic()}`" in file.read()
 
 

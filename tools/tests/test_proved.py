@@ -1,8 +1,12 @@
-"""tools/proved.py: what the record of the proofs takes from the gate's log."""
+"""tools/proved.py: what the record of the proofs takes from the gate's log, and the version of the package."""
+import os
+import re
 import subprocess
 
 import machine
 import proved
+import pytest
+import served
 
 LOG = """\
 == low: its tests
@@ -32,5 +36,39 @@ def test_a_log_says_what_was_proved_of_each_crate_and_not_of_its_tests(tmp_path)
 
 def test_the_program_names_its_version_and_the_logic_that_it_is_proved_with(program):
     lines = subprocess.run([program, "--version"], capture_output=True, text=True, check=True).stdout.splitlines()
-    assert lines[0].startswith("segcached ")
+    with open(f"{served.TOP}/crates/proto/src/version.rt", encoding="utf-8") as file:
+        number = re.search(r'VERSION: &str = "([0-9]+\.[0-9]+\.[0-9]+)";', file.read())[1]
+    assert lines[0] == f"segcached {number}"
     assert lines[1] == f"proved with Rattle's {machine.logic()}"
+
+
+@pytest.fixture
+def commit(tmp_path):
+    """Makes a commit at a moment, and says its hash."""
+
+    def git(*words, **variables):
+        name = ("-c", "user.name=a", "-c", "user.email=a@example")
+        ran = subprocess.run(["git", *name, *words], cwd=tmp_path, env={**os.environ, **variables}, capture_output=True, text=True, check=True)
+        return ran.stdout.strip()
+
+    def make(moment):
+        git("commit", "--quiet", "--allow-empty", "--message", moment, GIT_COMMITTER_DATE=moment)
+        return git("rev-parse", "HEAD")
+
+    git("init", "--quiet")
+    return make
+
+
+def is_newer(one, other):
+    return subprocess.run(["dpkg", "--compare-versions", one, "gt", other], check=False).returncode == 0
+
+
+def test_the_package_of_a_later_commit_is_newer(commit, tmp_path):
+    moments = ["2026-11-27T09:59:59+0000", "2026-11-27T10:00:00+0000", "2026-11-27T19:00:01+0900", "2026-11-27T10:30:00+0000", "2026-11-28T00:00:00+0000"]
+    commits = [commit(moment) for moment in moments]
+    versions = [proved.package_version("0.6.0", it, tmp_path) for it in commits]
+    changed = proved.package_version("0.6.0", f"{commits[-1]} and changes that aren't committed", tmp_path)
+    assert versions[2] == f"0.6.0+20261127.100001.g{commits[2][:7]}"
+    versions = ["0.1.0", "0.6.0", *versions, "0.6.1+20250101.000000.g0000000"]
+    assert all(is_newer(later, earlier) for earlier, later in zip(versions, versions[1:]))
+    assert re.fullmatch(rf"0\.6\.0\+[0-9]{{8}}\.[0-9]{{6}}\.g{commits[-1][:7]}\.changed", changed)

@@ -1,5 +1,5 @@
 """Tests of where a client's raw stream stands: in the two files of net's module `sockets`, whose types have these calls and no others, so
-that nothing reads from a stream or writes to it beside its log. They take no time.
+that nothing reads from a stream or writes to it beside its log, nor by its descriptor's number. They take no time.
 
     python3 -m pytest tools/tests/test_raw_streams.py
 """
@@ -20,6 +20,12 @@ CALLS = {
     "sockets/logged_stream.rt": {"LoggedStream": {"new", "into_stream", "read", "write"}},
 }
 
+# Libraries whose safe calls take any descriptor by its number. Of `os` the product uses this call alone, which takes none.
+BY_NUMBER = {"io", "libc", "std_io"}
+OF_OS = "set_thread_name"
+# What it uses of `std::os`: the type of such a number, for standard error.
+OF_STD_OS = "fd::RawFd"
+
 # Calls that only these two files can make.
 PRIVATE = {"sockets/logged_stream.rt": {"new", "into_stream"}}
 
@@ -27,6 +33,11 @@ PRIVATE = {"sockets/logged_stream.rt": {"new", "into_stream"}}
 def read(path):
     with open(path, encoding="utf-8") as file:
         return re.sub(r"//.*", "", file.read())
+
+
+def sources():
+    """The code of each crate, by its file."""
+    return {os.path.relpath(it, f"{TOP}/crates"): read(it) for it in glob.glob(f"{TOP}/crates/*/src/**/*.rt", recursive=True)}
 
 
 def naming(word):
@@ -40,8 +51,7 @@ def test_only_these_files_name_a_raw_stream():
 
 
 def test_no_other_crate_names_one():
-    crates = {it.split("/crates/")[1].split("/")[0] for it in glob.glob(f"{TOP}/crates/*/src/**/*.rt", recursive=True) if "mio::net" in read(it)}
-    assert crates == {"net"}
+    assert {name.split("/")[0] for name, text in sources().items() if "mio::net" in text} == {"net"}
 
 
 def test_they_have_these_calls_alone():
@@ -54,3 +64,16 @@ def test_they_have_these_calls_alone():
         assert len(re.findall(r"\bfn ", text)) == sum(map(len, types.values())), name
         assert set(re.findall(r"pub\(super\) fn (\w+)", text)) == PRIVATE.get(name, set()), name
         assert not re.search(r"pub(\(\w+\))? \w+:[^,]*\bTcp(Stream|Listener)\b", text), name
+
+
+def test_no_safe_call_takes_a_descriptors_number():
+    with open(f"{TOP}/crates.txt", encoding="utf-8") as file:
+        libraries = {word for line in file for word in line.partition("#")[0].partition(":")[2].split()}
+    assert "os" in libraries and not libraries & BY_NUMBER
+    uses = [(name, *it) for name, text in sources().items() for it in re.findall(r"(std::|)\bos\b(?:::([\w:]+))?", text)]
+    assert {it[1:] for it in uses} == {("", OF_OS), ("std::", OF_STD_OS)}, uses
+
+
+def test_exactly_one_thing_is_unsafe():
+    found = [(name, *re.findall(r"\bunsafe\b.*", text)) for name, text in sources().items() if re.search(r"\bunsafe\b", text)]
+    assert found == [("proto/src/trace.rt", "unsafe impl<T> Send for Trace<T> {}")]

@@ -67,6 +67,10 @@ LENIENT = {
     b"set a 0 0 1 \r\nx\r\n": None,
     b"delete a 0\r\n": None,
     b"flush_all \r\n": None,
+    b"append a 0 0 5\r\nget  \r\n": None,
+    b"touch a 5\r\n": None,
+    b"version\r\n": None,
+    b"verbosity 1\r\n": None,
 }
 # Further ones with --lenient.
 LENIENT_CASES = [(sent, LENIENT.get(sent, why)) for sent, why in CASES] + [
@@ -75,13 +79,20 @@ LENIENT_CASES = [(sent, LENIENT.get(sent, why)) for sent, why in CASES] + [
     (b"delete a 1\r\n", BAD_FORM),
     (b"delete a 0 0\r\n", BAD_FORM),
     (b"delete 0\r\n", None),
+    (b"append a 0 0\r\n", BAD_FORM),
+    (b"prepend a 4294967296 0 1\r\nx\r\n", BAD_FORM),
+    (b"touch a -1 noreply\r\n", None),
+    (b"cache_memlimit 64 noreply\r\n", None),
+    (b"cache_memlimit 64\r\n", BAD_FORM),
+    (b"touch a\r\n", BAD_FORM),
+    (b"touch a 10000000000\r\n", BAD_FORM),
     (b"get   \r\n", BAD_FORM),
     (b"get  a \r\n", SPACES),
     (b"   \r\n", UNKNOWN),
     (b"get" + b" %b" % LONG_KEY * 130 + b" %b\r\n" % (b"k" * 132), None),
     (b"get" + b" %b" % LONG_KEY * 130 + b" %b\r\n" % (b"k" * 134), TOO_LONG),
 ]
-COMMANDS = [b"get", b"gets", b"set", b"add", b"cas", b"delete", b"incr", b"flush_all"]
+COMMANDS = [b"get", b"gets", b"set", b"add", b"cas", b"delete", b"incr", b"flush_all", b"append", b"touch"]
 WORDS = [*COMMANDS, b"noreply", b"a", b"\x7f", b"", b"0", b"00", b"7", b"-1", b"-0", b"1x"]
 
 

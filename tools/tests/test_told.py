@@ -80,7 +80,7 @@ def test_noreply_does_not_suppress_the_answer_of_what_closes_the_session(server,
         assert is_closed_behind(stream, answer)
 
 
-def test_a_command_that_is_left_out_is_answered_with_noreply_too(server):
+def test_a_command_that_the_strict_dialect_leaves_out_is_answered_with_noreply_too(server):
     with server.connect() as stream:
         ask(stream, b"verbosity 0 noreply\r\nappend a 0 0 1 noreply\r\nx\r\nget no\r\n", 3 * ERROR + b"END\r\n")
 

@@ -1,7 +1,8 @@
-"""Items of a served program expire by seconds of its clock. (All waits are in three tests, of twelve seconds, five and four.)"""
+"""Items of a served program expire by seconds of its clock. (All waits are in four tests, of twelve seconds, three, five and four.)"""
 import threading
 import time
 
+import pytest
 from asking import ask, hit
 
 
@@ -26,6 +27,32 @@ def test_items_are_hits_until_they_expire_and_then_misses(serve):
             time.sleep(max(0, began + after - time.time()))
             for key, (_, until) in entries.items():
                 ask(stream, b"get %b\r\n" % key, hit(key, b"x") if until >= after else b"END\r\n")
+
+
+def serve_early_in_a_second(serve):
+    """A server whose clock began early in a second of Unix time, so that its own seconds begin early in those."""
+    for _ in range(20):
+        time.sleep(1.02 - time.time() % 1)
+        server = serve("--workers", "1")
+        with server.connect() as stream:
+            ask(stream, b"get none\r\n", b"END\r\n")
+        if time.time() % 1 < 0.3:
+            return server
+    return pytest.fail("no server began to serve within a third of a second")
+
+
+def test_the_clock_is_neither_late_nor_early(serve):
+    """A deadline of this second has passed, and one of the next hasn't. A request of the second before comes half a second earlier, so a reading
+    that is kept for a second shows."""
+    with serve_early_in_a_second(serve).connect() as stream:
+        time.sleep(1.9 - time.time() % 1)
+        ask(stream, b"get none\r\n", b"END\r\n")
+        time.sleep(1.4 - time.time() % 1)
+        second = int(time.time())
+        ask(stream, b"set over 0 %d 1\r\nx\r\nget over\r\n" % second, b"STORED\r\nEND\r\n")
+        stream.sendall(b"set soon 0 %d 1\r\nx\r\nget soon\r\n" % (second + 1))
+        # (a machine that stood still until then shows nothing)
+        assert stream.recv(100) == b"STORED\r\n" + hit(b"soon", b"x") or time.time() >= second + 1
 
 
 def look_for_late_ones(server, rate, late):
@@ -62,7 +89,7 @@ def test_an_item_expires_however_few_requests_come(serve):
 
 def test_a_counter_keeps_its_ttl_if_it_is_counted_in_place(serve):
     """Written anew at each count, a counter of 16 seconds is one of 8 after the first, and of one second after the next."""
-    servers = {is_in_place: serve("--workers", "1", *["--counters-in-place"] * is_in_place) for is_in_place in (False, True)}
+    servers = {is_in_place: serve("--workers", "1", *["--update-in-place"] * is_in_place) for is_in_place in (False, True)}
     with servers[False].connect() as anew, servers[True].connect() as in_place:
         for stream in (anew, in_place):
             ask(stream, b"set n 0 16 1\r\n1\r\n", b"STORED\r\n")

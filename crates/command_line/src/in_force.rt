@@ -1,8 +1,8 @@
 //! The options with which a server runs, as words.
 
 use crate::number_option::{IDLE, NumberOption, SEGMENT_SIZE, SEGMENTS, SESSIONS, SPIN, WORKERS};
-use crate::words::{COUNTERS_IN_PLACE, LENIENT, LISTEN, ServeOptions};
-use proto::Dialect;
+use crate::words::{EVICT, LEAST_READ, LENIENT, LISTEN, ServeOptions, UPDATE_IN_PLACE};
+use proto::{Dialect, Eviction};
 use std::alloc::{AllocError, Global};
 
 /// Adds an option's name.
@@ -55,7 +55,12 @@ pub fn options_in_force(alloc: Global, options: &ServeOptions) -> Result<String,
         &SPIN,
         options.spin.map(|micros| micros as u64),
     )?;
+    if options.eviction == Eviction::LeastRead {
+        push_name(&mut line, EVICT)?;
+        line.push_str(" ")?;
+        line.push_str(LEAST_READ)?;
+    }
     push_flag(&mut line, LENIENT, options.dialect == Dialect::Lenient)?;
-    push_flag(&mut line, COUNTERS_IN_PLACE, options.counters_in_place)?;
+    push_flag(&mut line, UPDATE_IN_PLACE, options.update_in_place)?;
     Ok(line)
 }

@@ -12,11 +12,11 @@ use crate::number_option::{
     ACCEPT, FAIL_GIVE, IDLE, NOW, NumberOption, REPLAY_OPTIONS, SEGMENT_SIZE, SEGMENTS,
     SERVE_OPTIONS, SESSIONS, SPIN, TICK, WORKERS,
 };
-use crate::version::VERSION;
+use crate::version::PROVED_WITH;
 use clap::builder::ValueParser;
 use clap::error::ErrorKind;
 use clap::{Arg, ArgAction, ArgMatches, Command};
-use proto::Dialect;
+use proto::{Dialect, Eviction, VERSION};
 use std::alloc::{AllocError, Global};
 use std::io;
 use thiserror::Error;
@@ -28,7 +28,17 @@ pub(crate) const LISTEN: &str = "listen";
 
 pub(crate) const LENIENT: &str = "lenient";
 
-pub(crate) const COUNTERS_IN_PLACE: &str = "counters-in-place";
+pub(crate) const UPDATE_IN_PLACE: &str = "update-in-place";
+
+/// The name that this option had before.
+const COUNTERS_IN_PLACE: &str = "counters-in-place";
+
+pub(crate) const EVICT: &str = "evict";
+
+/// The values of `--evict`.
+const OLDEST: &str = "oldest";
+
+pub(crate) const LEAST_READ: &str = "least-read";
 
 /// What `segcached replay` is told.
 #[derive(Drop)]
@@ -50,6 +60,9 @@ pub struct Options {
     /// Which give of each worker's port finds its peer gone, counted from 1; 0 is none.
     pub fail_give: u64,
     pub dialect: Dialect,
+    /// Whether `incr`, `decr`, `append` and `prepend` change a value where it stands.
+    pub update_in_place: bool,
+    pub eviction: Eviction,
 }
 
 /// What `segcached serve` is told.
@@ -71,8 +84,9 @@ pub struct ServeOptions {
     /// The number of segments, 8 to 65,536.
     pub segments: u64,
     pub dialect: Dialect,
-    /// Whether `incr` and `decr` change a number where it stands.
-    pub counters_in_place: bool,
+    /// Whether `incr`, `decr`, `append` and `prepend` change a value where it stands.
+    pub update_in_place: bool,
+    pub eviction: Eviction,
 }
 
 /// What the words ask for.
@@ -139,19 +153,33 @@ fn lenient<'a>(alloc: Global) -> Arg<'a> {
     flag(
         alloc,
         LENIENT,
-        "Take what many clients send: spaces before a line's end, lines of up to 32768 bytes in place of 2048, delete with a time of 0, and append and prepend, which are answered ERROR",
+        "Take what many clients send: spaces before a line's end, lines of up to 32768 bytes in place of 2048, delete with a time of 0, and the commands touch, append, prepend, version and verbosity",
     )
 }
 
-fn counters_in_place<'a>(alloc: Global) -> Arg<'a> {
+/// Both jobs have this option.
+fn update_in_place<'a>(alloc: Global) -> Result<Arg<'a>, AllocError> {
     flag(
         alloc,
-        COUNTERS_IN_PLACE,
-        "incr and decr change a number where it stands if the new one fits there, so that it keeps its TTL",
+        UPDATE_IN_PLACE,
+        "incr, decr, append and prepend change a value where it stands if the new one fits there, so that it keeps its TTL",
     )
+    .alias(COUNTERS_IN_PLACE)
 }
 
-/// The command with these options and `--lenient`, where there was memory for it so far.
+/// Both jobs have this option.
+fn evict<'a>(alloc: Global) -> Arg<'a> {
+    Arg::new(alloc, EVICT)
+        .long(EVICT)
+        .value_name("RULE")
+        .help(
+            "Which segments are merged or evicted: the oldest, or in turn those whose items were read least",
+        )
+        .value_parser(ValueParser::Names(&[OLDEST, LEAST_READ]))
+        .default_values(&[OLDEST])
+}
+
+/// The command with these options, and with those that both jobs have, where there was memory for it so far.
 fn with_options<'a>(
     alloc: Global,
     command: Result<Command<'a>, AllocError>,
@@ -161,7 +189,10 @@ fn with_options<'a>(
     for option in options {
         command = command.arg(number_option(alloc, option))?;
     }
-    command.arg(lenient(alloc))
+    command
+        .arg(update_in_place(alloc)?)?
+        .arg(evict(alloc))?
+        .arg(lenient(alloc))
 }
 
 fn file<'a>(alloc: Global) -> Arg<'a> {
@@ -192,8 +223,7 @@ fn serve_command<'a>(alloc: Global) -> Result<Command<'a>, AllocError> {
         .about("Listens on an address and serves")
         .override_usage("segcached serve [OPTIONS] --listen <ADDR>")
         .after_help(SERVE_HELP)
-        .arg(listen(alloc))?
-        .arg(counters_in_place(alloc))
+        .arg(listen(alloc))
 }
 
 /// The command with no job yet.
@@ -269,6 +299,13 @@ fn dialect(matches: &ArgMatches<'_>) -> Dialect {
     }
 }
 
+fn eviction(matches: &ArgMatches<'_>) -> Eviction {
+    match matches.get_str(EVICT) {
+        Some(LEAST_READ) => Eviction::LeastRead,
+        _ => Eviction::Oldest,
+    }
+}
+
 /// For how many microseconds a thread looks for work before it sleeps.
 fn spin(alloc: Global, matches: &ArgMatches<'_>) -> Result<Option<u32>, WordsFault>
     ensures { IfOk result (λ found. IfSome found (λ micros. micros ≤ 1000000)) }
@@ -291,6 +328,8 @@ fn replay_options(alloc: Global, matches: &ArgMatches<'_>) -> Result<Options, Wo
         accept: number_or_none(alloc, matches, &ACCEPT)?.unwrap_or(0),
         fail_give: number_or_none(alloc, matches, &FAIL_GIVE)?.unwrap_or(0),
         dialect: dialect(matches),
+        update_in_place: matches.get_flag(UPDATE_IN_PLACE),
+        eviction: eviction(matches),
         file: String::from_str(alloc, matches.get_str(FILE).unwrap_or(""))?,
     })
 }
@@ -306,7 +345,8 @@ fn serve_options(alloc: Global, matches: &ArgMatches<'_>) -> Result<ServeOptions
         segment_size: number(alloc, matches, &SEGMENT_SIZE)?,
         segments: number(alloc, matches, &SEGMENTS)?,
         dialect: dialect(matches),
-        counters_in_place: matches.get_flag(COUNTERS_IN_PLACE),
+        update_in_place: matches.get_flag(UPDATE_IN_PLACE),
+        eviction: eviction(matches),
         listen: String::from_str(alloc, matches.get_str(LISTEN).unwrap_or(""))?,
     })
 }
@@ -319,9 +359,12 @@ fn parse_fault(alloc: Global, error: &clap::Error) -> Result<Job, WordsFault>
     if error.kind() == ErrorKind::OutOfMemory {
         return Err(WordsFault::NoMemory);
     }
-    let text = error.to_string(alloc)?;
+    let mut text = error.to_string(alloc)?;
     if error.use_stderr() {
         return Err(WordsFault::BadWords(text));
+    }
+    if error.kind() == ErrorKind::DisplayVersion {
+        text.push_str(PROVED_WITH)?;
     }
     Ok(Job::Help(text))
 }

@@ -1,19 +1,19 @@
 -- What an engine makes of a request is a step, and `NoMemory` is answered only out of memory.
-use Rattle.std.proofs.Common.{◌≡◌, ◌≢◌, ℕ, Bool, true, false, true≢false, List, [], ◌∷◌, Option, Some, None, refl, sym, subst, ◌∙◌}
+use Rattle.std.proofs.Common.{◌≡◌, ◌≢◌, ℕ, Bool, true, false, true≢false, List, [], ◌∷◌, Option, Some, None, refl, sym, ap, subst, ◌∙◌}
 use Rattle.std.proofs.Common.{inl, inr}
 use Rattle.std.specs.Prelude.{◌⊎◌, ◌||◌, ◌&&◌, is_some, IsSome}
 use Rattle.std.specs.FinMap as map
 use Rattle.proto.specs.declared.hits.Hit.{Hit}
 use Rattle.proto.specs.declared.message.Request.{Request}
 use Rattle.proto.specs.declared.message.Reply.{Reply}
-use Rattle.proto.specs.declared.message.Reply.TheVariants.{Stored, NotStored, Exists, NotFound, Values, Deleted, Number, Flushed, TooLarge, NoMemory}
+use Rattle.proto.specs.declared.message.Reply.TheVariants.{Stored, NotStored, Exists, NotFound, Values, Deleted, Number, Touched, Flushed, TooLarge, NoMemory}
 use Rattle.proto.specs.declared.message.Reply.TheVariants.{NotNumber, NoCas}
 use Rattle.proto.specs.Sizes.{Sizes, item_limit}
 use Rattle.proto.specs.Cache.{Entry, Entries, Cache, found_at}
 use Rattle.proto.specs.Commands.{Outcome, act}
 use Rattle.proto.specs.Steps.{Step, MayEvict, IsDated, IsRefused, has_hits, without_keys}
 use Rattle.proto.proofs.CacheLemmas.{without-nil, remove-insert}
-use Rattle.proto.proofs.StepLemmas.{dated-insert}
+use Rattle.proto.proofs.StepLemmas.{dated-insert, live_dated, insert-same}
 use Rattle.proto.proofs.DeadlineLemmas.{may_be_exact}
 use Rattle.proto.specs.Cache.{has_arrived}
 use Rattle.engine.specs.declared.commands.Engine.{Engine}
@@ -21,7 +21,7 @@ use Rattle.engine.specs.Written.{IsWritten}
 use Rattle.engine.specs.Members.{MapOf}
 use Rattle.engine.specs.Keeping.{StaysKept}
 use Rattle.engine.specs.Outcomes.{outcome_at, needs_memory}
-use Rattle.engine.specs.Engines.{cache_in, Changes, IsDenied, Leaves, IsHandled}
+use Rattle.engine.specs.Engines.{Way, way_of, cache_in, Changes, IsDenied, Leaves, LeavesExecuted, IsHandled}
 use Rattle.engine.proofs.Refusals.{answers_act}
 
 -- ---- a write that forgets nothing and gives exactly the deadline asked for
@@ -44,11 +44,11 @@ written_exactly sizes t old key e new waits is =
 pub handled_by : {M P : Type 0} (m : MapOf M P) (old found : Engine M) (t : ℕ) (q : Request) (reply : Reply)
     (new : Engine M)
     → cache_in m.entries found ≡ found_at (cache_in m.entries old) t → m.sizes found.map ≡ m.sizes old.map
-    → m.moment found.map ≡ t → found.in_place ≡ old.in_place
+    → m.moment found.map ≡ t → found.in_place ≡ old.in_place → found.dialect ≡ old.dialect
     → m.alike old.map found.map → StaysKept m.keeps old.map found.map
-    → Leaves m found new (act (item_limit (m.sizes found.map)) (cache_in m.entries found) (m.moment found.map) q) reply
+    → LeavesExecuted m found q reply new
     → IsHandled m old t q reply new
-handled_by m old found t q reply new cache same at option alike kept leaves =
+handled_by m old found t q reply new cache same at option dialect alike kept leaves =
     let same_outcome : act (item_limit (m.sizes found.map)) (cache_in m.entries found) (m.moment found.map) q
     ≡ outcome_at (m.sizes old.map)
     (cache_in m.entries old) t q =
@@ -59,17 +59,18 @@ handled_by m old found t q reply new cache same at option alike kept leaves =
       sizes_same = same;
       moment_is = at;
       in_place_same = option;
+      dialect_same = dialect;
       alike = alike;
       kept = kept;
-      leaves = subst (λ (done : Outcome). Leaves m found new done reply) same_outcome leaves;
+      leaves = subst (λ (done : Outcome). Leaves m (way_of q found.in_place) found new done reply) same_outcome leaves;
     }
 
 -- ---- what a step asks of the entries
 
 -- the entries are those asked for, but that the stored one has a deadline that it may get, and some may have been forgotten
-record IsReached (sizes : Sizes) (t : ℕ) (asked : Entries) (stored : Option (List ℕ)) (new : Entries) : Type 0 where
+record IsReached (sizes : Sizes) (t : ℕ) (reply : Reply) (asked : Entries) (stored : Option (List ℕ)) (new : Entries) : Type 0 where
   dated : Entries
-  is_dated : IsDated t asked stored dated
+  is_dated : IsDated t reply asked stored dated
   forgotten : List (List ℕ)
   may_forget : (forgotten ≡ []) ⊎ ((key : List ℕ) × (stored ≡ Some key) × MayEvict sizes (map.remove dated key) forgotten)
   entries : new ≡ without_keys dated forgotten
@@ -84,9 +85,9 @@ forgets_beside sizes old key e forgotten (inr h) =
     inr (key, refl, subst (λ (others : Entries). MayEvict sizes others forgotten) (sym (remove-insert old key e)) h)
 
 -- what an engine's map becomes is what a step may leave
-reached : {M P : Type 0} (m : MapOf M P) (in_place : Bool) (old : M) (done : Outcome) (stored : Option (List ℕ)) (new : M)
-    → Changes m in_place old done stored new → IsReached (m.sizes old) (m.moment old) done.entries stored (m.entries new)
-reached m in_place old done None new is =
+reached : {M P : Type 0} (m : MapOf M P) (way : Way) (old : M) (done : Outcome) (stored : Option (List ℕ)) (new : M)
+    → Changes m way old done stored new → IsReached (m.sizes old) (m.moment old) done.reply done.entries stored (m.entries new)
+reached m way old done None new is =
     record {
       dated = done.entries;
       is_dated = refl;
@@ -94,27 +95,41 @@ reached m in_place old done None new is =
       may_forget = inl refl;
       entries = is.entries ∙ sym (without-nil done.entries);
     }
-reached m in_place old done (Some key) new s =
-    let w = s.written in
-    let left : Entry = record s.entry { deadline = w.deadline } in
-    let dated : Entries = map.insert (m.entries old) key left in
-    let is_dated : IsDated (m.moment old) (map.insert (m.entries old) key s.entry) (Some key) dated =
-    dated-insert (m.moment old)
-    (m.entries old) key s.entry w.deadline w.may_live in
-    record {
-      dated = dated;
-      is_dated = subst (λ (asks : Entries). IsDated (m.moment old) asks (Some key) dated) (sym s.asked_is) is_dated;
-      forgotten = w.forgotten;
-      may_forget = forgets_beside (m.sizes old) (m.entries old) key left w.forgotten w.may_forget;
-      entries = w.entries;
-    }
+reached m way old done (Some key) new s =
+    elim s.written [
+      | inl w ↦
+          let left : Entry = record s.entry { deadline = w.deadline } in
+          let dated : Entries = map.insert (m.entries old) key left in
+          let is_dated : IsDated (m.moment old) done.reply (map.insert (m.entries old) key s.entry) (Some key) dated =
+          dated-insert (m.moment old) done.reply (m.entries old) key s.entry w.deadline
+          (live_dated (m.moment old) s.entry.deadline w.deadline done.reply w.may_live) in
+          record {
+            dated = dated;
+            is_dated = subst (λ (asks : Entries). IsDated (m.moment old) done.reply asks (Some key) dated) (sym s.asked_is) is_dated;
+            forgotten = w.forgotten;
+            may_forget = forgets_beside (m.sizes old) (m.entries old) key left w.forgotten w.may_forget;
+            entries = w.entries;
+          }
+      | inr w ↦
+          let left : Entry = record s.entry { deadline = w.deadline } in
+          let dated : Entries = map.insert (m.entries old) key left in
+          let is_dated : IsDated (m.moment old) done.reply (map.insert (m.entries old) key s.entry) (Some key) dated =
+          dated-insert (m.moment old) done.reply (m.entries old) key s.entry w.deadline w.may_stay in
+          record {
+            dated = dated;
+            is_dated = subst (λ (asks : Entries). IsDated (m.moment old) done.reply asks (Some key) dated) (sym s.asked_is) is_dated;
+            forgotten = [];
+            may_forget = inl refl;
+            entries = ap m.entries w.same ∙ sym (insert-same (m.entries old) key left w.there) ∙ sym (without-nil dated);
+          }
+    ]
 
 -- the same for equal sizes and moments
-moved : (s u : Sizes) (t v : ℕ) (asked : Entries) (stored : Option (List ℕ)) (new : Entries) → s ≡ u → t ≡ v
-    → IsReached s t asked stored new → IsReached u v asked stored new
-moved s u t v asked stored new su tv h =
-    subst (λ (x : Sizes). IsReached x v asked stored new) su
-    (subst (λ (x : ℕ). IsReached s x asked stored new) tv h)
+moved : (s u : Sizes) (t v : ℕ) (r : Reply) (asked : Entries) (stored : Option (List ℕ)) (new : Entries) → s ≡ u → t ≡ v
+    → IsReached s t r asked stored new → IsReached u v r asked stored new
+moved s u t v r asked stored new su tv h =
+    subst (λ (x : Sizes). IsReached x v r asked stored new) su
+    (subst (λ (x : ℕ). IsReached s x r asked stored new) tv h)
 
 -- a request that may be refused stores an item or has hits
 asks_memory : (b stored hits : Bool) → ((b && stored) || hits) ≡ true → (stored || hits) ≡ true
@@ -134,6 +149,7 @@ wants_memory None NotStored e = absurd (true≢false (sym e))
 wants_memory None Exists e = absurd (true≢false (sym e))
 wants_memory None NotFound e = absurd (true≢false (sym e))
 wants_memory None Deleted e = absurd (true≢false (sym e))
+wants_memory None Touched e = absurd (true≢false (sym e))
 wants_memory None Flushed e = absurd (true≢false (sym e))
 wants_memory None TooLarge e = absurd (true≢false (sym e))
 wants_memory None NoMemory e = absurd (true≢false (sym e))
@@ -170,9 +186,9 @@ step_from_handled m old t q reply new h =
     let done = outcome_at (m.sizes old.map) (cache_in m.entries old) t q in
     elim h.leaves.gives [
       | inl d ↦
-          let r = moved (m.sizes h.found.map) (m.sizes old.map) (m.moment h.found.map) t done.entries done.stored
+          let r = moved (m.sizes h.found.map) (m.sizes old.map) (m.moment h.found.map) t done.reply done.entries done.stored
           (m.entries new.map) h.sizes_same h.moment_is
-          (reached m h.found.in_place h.found.map done done.stored new.map d.changes) in
+          (reached m (way_of q h.found.in_place) h.found.map done done.stored new.map d.changes) in
           inl (record {
             reply_is = d.reply_is;
             last_cas = d.last_cas;

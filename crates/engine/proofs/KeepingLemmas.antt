@@ -1,23 +1,22 @@
 -- While little is stored, and nothing with a deadline, an engine forgets nothing that its map keeps.
-use Rattle.std.proofs.Common.{◌≡◌, ℕ, Bool, List, [], ◌++◌, Option, Some, None, refl, sym, ap, subst, ◌∙◌, inl, inr, append-nil}
+use Rattle.std.proofs.Common.{◌≡◌, ℕ, List, [], ◌++◌, Option, Some, None, refl, sym, ap, subst, ◌∙◌, inl, inr, append-nil}
 use Rattle.std.specs.Prelude.{if◌then◌else◌}
 use Rattle.std.specs.FinMap as map
 use Rattle.proto.specs.declared.message.Request.{Request}
 use Rattle.proto.specs.declared.message.Reply.{Reply}
-use Rattle.proto.specs.declared.message.Reply.TheVariants.{Stored, NotStored, Exists, NotFound, Values, Deleted, Number, Flushed, TooLarge, NoMemory}
+use Rattle.proto.specs.declared.message.Reply.TheVariants.{Stored, NotStored, Exists, NotFound, Values, Deleted, Number, Touched, Flushed, TooLarge, NoMemory}
 use Rattle.proto.specs.declared.message.Reply.TheVariants.{NotNumber, NoCas}
 use Rattle.proto.specs.Sizes.{Sizes, item_limit}
 use Rattle.proto.specs.Cache.{Entries, Cache, found_at}
 use Rattle.proto.specs.Commands.{Outcome}
 use Rattle.proto.specs.Steps.{IsDated, deadline_at}
 use Rattle.proto.specs.Stored.{StoredItem, stored_item_of, item_stored, is_no_memory}
-use Rattle.proto.proofs.StepLemmas.{get-stored, deadline_at-insert, dated-insert}
-use Rattle.proto.proofs.DeadlineLemmas.{may_be_exact}
+use Rattle.proto.proofs.StepLemmas.{get-stored, deadline_at-insert, dated-exactly}
 use Rattle.engine.specs.declared.commands.Engine.{Engine}
 use Rattle.engine.specs.Members.{MapOf}
 use Rattle.engine.specs.Outcomes.{outcome_at}
 use Rattle.engine.specs.Keeping.{IsWithinBound, AddsNoDeadline, stored_in, KeepsAll}
-use Rattle.engine.specs.Engines.{cache_in, Changes, IsStored, IsHandled}
+use Rattle.engine.specs.Engines.{Way, way_of, cache_in, Changes, IsStored, IsHandled}
 use Rattle.engine.proofs.Refusals.{answers_act}
 use Rattle.engine.proofs.NoDeadlines.{AddsNone, none_act}
 
@@ -31,6 +30,7 @@ answered_item NotFound items other = refl
 answered_item (Values hits) items other = refl
 answered_item Deleted items other = refl
 answered_item (Number n) items other = refl
+answered_item Touched items other = refl
 answered_item Flushed items other = refl
 answered_item TooLarge items other = refl
 answered_item NoMemory items other = absurd (other refl)
@@ -38,18 +38,18 @@ answered_item NotNumber items other = refl
 answered_item NoCas items other = refl
 
 -- what a map leaves of what was asked for, where items are kept
-record IsKept {M P : Type 0} (m : MapOf M P) (t : ℕ) (asked : Entries) (stored : Option (List ℕ))
+record IsKept {M P : Type 0} (m : MapOf M P) (t : ℕ) (reply : Reply) (asked : Entries) (stored : Option (List ℕ))
     (items : List StoredItem) (new : M) : Type 0 where
-  dated : IsDated t asked stored (m.entries new)
+  dated : IsDated t reply asked stored (m.entries new)
   keeps : m.keeps new items
 
 -- a stored entry is kept with the others
-kept_entry : {M P : Type 0} (m : MapOf M P) (change : Bool) (old : M) (key : List ℕ) (done : Outcome) (new : M)
+kept_entry : {M P : Type 0} (m : MapOf M P) (way : Way) (old : M) (key : List ℕ) (done : Outcome) (new : M)
     (items : List StoredItem)
-    → IsStored m change old key done.entries new → m.keeps old items → AddsNone (m.entries old) done.entries
+    → IsStored m way old key done.entries done.reply new → m.keeps old items → AddsNone (m.entries old) done.entries
     → IsWithinBound (m.sizes old) (items ++ item_stored (m.moment old) done (Some key))
-    → IsKept m (m.moment old) done.entries (Some key) (items ++ item_stored (m.moment old) done (Some key)) new
-kept_entry m change old key done new items s keeps none within =
+    → IsKept m (m.moment old) done.reply done.entries (Some key) (items ++ item_stored (m.moment old) done (Some key)) new
+kept_entry m way old key done new items s keeps none within =
     let e = s.entry in
     let there : map.get done.entries key ≡ Some e =
     ap (λ (asked : Entries). map.get asked key) s.asked_is ∙ get-stored (m.entries old) key e in
@@ -66,26 +66,25 @@ kept_entry m change old key done new items s keeps none within =
       | inr same ↦ inr (sym deadline ∙ same)
     ] in
     let kept = s.kept items keeps adds (subst (IsWithinBound (m.sizes old)) all within) in
-    let exact : IsDated (m.moment old) (map.insert (m.entries old) key e) (Some key)
-    (map.insert (m.entries old) key e) = dated-insert (m.moment old)
-    (m.entries old) key e e.deadline (may_be_exact (m.moment old) e.deadline s.waits) in
+    let exact : IsDated (m.moment old) done.reply (map.insert (m.entries old) key e) (Some key)
+    (map.insert (m.entries old) key e) = dated-exactly (m.moment old) done.reply (m.entries old) key e s.waits in
     record {
-      dated = subst (λ (asked : Entries). IsDated (m.moment old) asked (Some key) (m.entries new)) (sym s.asked_is)
-          (subst (λ (left : Entries). IsDated (m.moment old) (map.insert (m.entries old) key e) (Some key) left)
+      dated = subst (λ (asked : Entries). IsDated (m.moment old) done.reply asked (Some key) (m.entries new)) (sym s.asked_is)
+          (subst (λ (left : Entries). IsDated (m.moment old) done.reply (map.insert (m.entries old) key e) (Some key) left)
           (sym kept.0) exact);
       keeps = subst (m.keeps new) (sym all) kept.1;
     }
 
 -- what was asked for is kept, whether an item was stored or not
-kept_change : {M P : Type 0} (m : MapOf M P) (in_place : Bool) (old : M) (stored : Option (List ℕ)) (done : Outcome) (new : M)
+kept_change : {M P : Type 0} (m : MapOf M P) (way : Way) (old : M) (stored : Option (List ℕ)) (done : Outcome) (new : M)
     (items : List StoredItem)
-    → Changes m in_place old done stored new → m.keeps old items → AddsNone (m.entries old) done.entries
+    → Changes m way old done stored new → m.keeps old items → AddsNone (m.entries old) done.entries
     → IsWithinBound (m.sizes old) (items ++ item_stored (m.moment old) done stored)
-    → IsKept m (m.moment old) done.entries stored (items ++ item_stored (m.moment old) done stored) new
-kept_change m in_place old None done new items is keeps none within =
+    → IsKept m (m.moment old) done.reply done.entries stored (items ++ item_stored (m.moment old) done stored) new
+kept_change m way old None done new items is keeps none within =
     record { dated = is.entries; keeps = subst (m.keeps new) (sym (append-nil items)) (is.kept items keeps) }
-kept_change m in_place old (Some key) done new items is keeps none within =
-    kept_entry m _ old key done new items is keeps none within
+kept_change m way old (Some key) done new items is keeps none within =
+    kept_entry m way old key done new items is keeps none within
 
 -- an engine keeps what its map keeps
 pub kept_from_handled : {M P : Type 0} (m : MapOf M P) (old : Engine M) (t : ℕ) (q : Request) (reply : Reply)
@@ -116,8 +115,8 @@ kept_from_handled m old t q reply new h items keeps sets within =
           (sym h.sizes_same)
           (subst (λ (at : ℕ). IsWithinBound sizes (items ++ item_stored at done done.stored)) (sym h.moment_is)
           (subst (IsWithinBound sizes) all within)) in
-          let kept = kept_change m h.found.in_place h.found.map done.stored done new.map items d.changes found_keeps none bound in (
-            inr (subst (λ (at : ℕ). IsDated at done.entries done.stored (m.entries new.map)) h.moment_is kept.dated),
+          let kept = kept_change m (way_of q h.found.in_place) h.found.map done.stored done new.map items d.changes found_keeps none bound in (
+            inr (subst (λ (at : ℕ). IsDated at done.reply done.entries done.stored (m.entries new.map)) h.moment_is kept.dated),
             subst (m.keeps new.map) (sym all)
                 (subst (λ (at : ℕ). m.keeps new.map (items ++ item_stored at done done.stored)) h.moment_is kept.keeps),
           )

@@ -4,6 +4,8 @@ pub mod CountLemmas
 pub mod Refusals
 pub mod NoDeadlines
 pub mod EngineLemmas
+pub mod TouchLemmas
+pub mod JoinLemmas
 pub mod KeepingLemmas
 pub mod ReachingLemmas
 pub mod PlainLemmas

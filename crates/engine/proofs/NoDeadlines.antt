@@ -1,5 +1,5 @@
 -- A request that sets no deadline leaves entries that have none, or the one of the entry in their place.
-use Rattle.std.proofs.Common.{◌≡◌, ℕ, ◌+◌, ◌-◌, ◌%◌, ◌^◌, Bool, true, false, cond, List, Option, Some, None, refl, sym, ap, ◌∙◌}
+use Rattle.std.proofs.Common.{◌≡◌, ℕ, ℤ, ◌+◌, ◌-◌, ◌%◌, ◌^◌, Bool, true, false, cond, List, ◌++◌, Option, Some, None, refl, sym, ap, ◌∙◌}
 use Rattle.std.proofs.Common.{inl, inr}
 use Rattle.std.specs.Prelude.{◌⊎◌, bytes_eq, decimal, if◌then◌else◌, ◌==◌, pos}
 use Rattle.std.specs.Str.Parse.{digits_value}
@@ -8,11 +8,11 @@ use Rattle.std.specs.FinMap as map
 use Rattle.std.proofs.lemmas.Slice.Eq.{bytes_eq-Decides}
 use Rattle.proto.specs.declared.message.Put.{Put}
 use Rattle.proto.specs.declared.message.Request.{Request}
-use Rattle.proto.specs.declared.message.Request.TheVariants.{Get, Set, Add, Replace, Cas, Delete, Incr, Decr, FlushAll}
+use Rattle.proto.specs.declared.message.Request.TheVariants.{Get, Set, Add, Replace, Cas, Append, Prepend, Delete, Incr, Decr, Touch, FlushAll}
 use Rattle.proto.specs.declared.message.Reply.{Reply}
 use Rattle.proto.specs.declared.message.Reply.TheVariants.{Stored, Exists, NotFound, Number}
 use Rattle.proto.specs.Cache.{Entry, Entries, no_entries, Cache, has_arrived, deadline_of}
-use Rattle.proto.specs.Commands.{Outcome, leaving, write, put, is_too_large, is_number, change, act}
+use Rattle.proto.specs.Commands.{Outcome, leaving, write, put, is_too_large, is_number, change, join, touch, act}
 use Rattle.proto.specs.Steps.{deadline_at}
 use Rattle.proto.specs.Stored.{SetsNoDeadline}
 use Rattle.proto.proofs.CacheLemmas.{get-insert, get-remove, get-no_entries}
@@ -109,6 +109,25 @@ none_change new (Some e) cache key is =
     (none_write cache key (λ cas. record { value = decimal n; flags = e.flags; deadline = e.deadline; cas = cas })
     (Number n) (λ cas. inr (sym same))) (none_stay cache.entries)
 
+-- a joined value keeps the deadline of its entry
+none_join : (joined : List ℕ → List ℕ) (o : Option Entry) (limit : ℕ) (cache : Cache) (p : Put)
+    → map.get cache.entries p.key ≡ o → AddsNone cache.entries (join joined o limit cache p).entries
+none_join joined None limit cache p is = none_stay cache.entries
+none_join joined (Some e) limit cache p is =
+    let same : deadline_at cache.entries p.key ≡ e.deadline = rw is refl in
+    none_if cache.entries (is_too_large limit (record p { value = joined e.value })) _ _ (none_stay cache.entries)
+    (none_write cache p.key (λ cas. record { value = joined e.value; flags = e.flags; deadline = e.deadline; cas = cas })
+    Stored (λ cas. inr (sym same)))
+
+-- a touch that asks for no deadline
+none_touch : (o : Option Entry) (cache : Cache) (t : ℕ) (key : List ℕ) (exptime : ℤ) → exptime ≡ pos 0
+    → AddsNone cache.entries (touch o cache t key exptime).entries
+none_touch None cache t key exptime sets = none_stay cache.entries
+none_touch (Some e) cache t key exptime sets =
+    let none : deadline_of exptime t ≡ None = ap (λ e. deadline_of e t) sets in
+    none_if cache.entries (has_arrived (deadline_of exptime t) t) _ _ (none_remove cache.entries key)
+    (none_insert cache.entries key (record e { deadline = deadline_of exptime t }) (inl none))
+
 -- any request
 pub none_act : (limit : ℕ) (cache : Cache) (t : ℕ) (q : Request) → SetsNoDeadline q
     → AddsNone cache.entries (act limit cache t q).entries
@@ -132,5 +151,10 @@ none_act limit cache t (Delete key) sets =
 none_act limit cache t (Incr key amount) sets =
     none_change (λ n. (n + amount) % 2 ^ 64) (map.get cache.entries key) cache key refl
 none_act limit cache t (Decr key amount) sets = none_change (λ n. n - amount) (map.get cache.entries key) cache key refl
+none_act limit cache t (Append p) sets =
+    none_join (λ value. value ++ p.value) (map.get cache.entries p.key) limit cache p refl
+none_act limit cache t (Prepend p) sets =
+    none_join (λ value. p.value ++ value) (map.get cache.entries p.key) limit cache p refl
+none_act limit cache t (Touch asked) sets = none_touch (map.get cache.entries asked.key) cache t asked.key asked.exptime sets
 none_act limit cache t (FlushAll delay) sets =
     none_if cache.entries (delay == 0) _ _ (none_empty cache.entries) (none_stay cache.entries)

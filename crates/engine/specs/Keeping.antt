@@ -42,7 +42,7 @@ stored_in sizes before t q reply =
 abbrev pub ForgetsNone : Sizes → Cache → ℕ → Request → Reply → Cache → Type 0
 ForgetsNone sizes before t q reply after =
     let done = outcome_at sizes before t q in
-    (reply ≡ NoMemory) ⊎ IsDated t done.entries done.stored after.entries
+    (reply ≡ NoMemory) ⊎ IsDated t done.reply done.entries done.stored after.entries
 
 -- Where items were kept, the request sets no deadline, and they are within the bound together with the item that it
 -- stores, nothing is forgotten, and that item is kept with them.

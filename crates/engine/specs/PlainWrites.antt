@@ -1,5 +1,5 @@
 -- How a plain map writes, and what a read of it leaves.
-use Rattle.std.specs.Prelude.{◌≡◌, ℕ, List}
+use Rattle.std.specs.Prelude.{◌≡◌, ℕ, Bool, true, false, ◌==◌, List, Option, Some, None}
 use Rattle.std.specs.FinMap as map
 use Rattle.proto.specs.Cache.{Entry}
 use Rattle.engine.specs.declared.plain_map.PlainMap.{PlainMap}
@@ -12,3 +12,9 @@ WritesPlainly old key entry new = plain_entries new ≡ map.insert (plain_entrie
 -- no read is counted
 abbrev pub ReadsPlainly : PlainMap → List ℕ → PlainMap → Type 0
 ReadsPlainly old key new = new ≡ old
+
+-- whether two deadlines are the same
+abbrev pub same_deadline : Option ℕ → Option ℕ → Bool
+same_deadline None None = true
+same_deadline (Some asked) (Some given) = asked == given
+same_deadline _ _ = false

@@ -1,22 +1,24 @@
 //! The commands, over any map of live entries.
 
-ghost use Rattle.std.specs.Prelude.{◌≡◌, ◌≤◌, ◌<◌, ◌&&◌, true, false};
+ghost use Rattle.std.specs.Prelude.{◌≡◌, ◌≤◌, ◌<◌, ◌++◌, ◌+◌, length, IsTrue, true, false};
 ghost use Rattle.std.specs.FinMap as map;
 ghost use Rattle.proto.specs.Cache.{found_at, has_arrived};
-ghost use Rattle.proto.specs.Commands.{write, put, change, is_too_large, leaving, hits_of};
+ghost use Rattle.proto.specs.Commands.{write, put, change, join, is_too_large, leaving, hits_of};
 ghost use Rattle.proto.specs.Sizes.{item_limit};
 ghost use Rattle.proto.specs.History.{max_moment};
+ghost use Rattle.proto.specs.declared.message.Put.{Put};
 ghost use Rattle.engine.specs.Written.{MayBeWritten, IsChanged};
-ghost use Rattle.engine.specs.Change.{changed_by};
+ghost use Rattle.engine.specs.Change.{changed_by, joined_by};
 ghost use Rattle.engine.specs.Keeping.{StaysKept};
-ghost use Rattle.engine.specs.AnswerSizes.{shown_size, answer_size};
+ghost use Rattle.engine.specs.AnswerSizes.{shown_size, answer_size, is_too_long};
 
 use crate::deadline::{deadline_of, has_arrived};
 use crate::hits::{hit_of_only, hits_of_keys};
 use crate::live_map::{EntryRef, LiveMap};
 use crate::number::{Change, number_of};
+use crate::scratch::Scratch;
 use itoa::Buffer;
-use proto::{HitWriter, Keys, MAX_ANSWER, MAX_KEY, Put, Reply, Request, item_size};
+use proto::{Dialect, HitWriter, Keys, MAX_KEY, Put, Reply, Request, Touch, item_size};
 
 /// A cache over a map of live entries.
 #[derive(Drop)]
@@ -24,12 +26,30 @@ pub struct Engine<M> {
     pub(crate) map: M,
     pub(crate) last_cas: u64,
     pub(crate) pending: Option<u64>,
-    /// Whether `incr` and `decr` change an entry where it stands, if its map can.
+    /// Whether `incr`, `decr`, `append` and `prepend` change an entry where it stands, if its map can.
     pub(crate) in_place: bool,
+    /// Whose limit answers keep.
+    pub(crate) dialect: Dialect,
+    /// Where a value is put together that is written anew.
+    pub(crate) scratch: Scratch,
+}
+
+/// Whether an item of this key with values of these lengths, one after the other, is too large.
+fn is_joined_too_large(limit: u32, key: &[u8], first: usize, second: usize) -> bool
+    requires limit { limit ≤ 131072 }
+    requires first { first ≤ 131072 }
+    ensures too_large { (p : Put) → p.key ≡ key.now → length p.value ≡ first + second → result ≡ is_too_large limit p }
+    ensures small { result ≡ false → first + second ≤ 131072 }
+{
+    key.is_empty()
+        || key.len() > MAX_KEY
+        || second > limit as usize
+        || first + second > limit as usize
+        || item_size(key.len(), first + second) > limit
 }
 
 impl<M: LiveMap> Engine<M> {
-    ghost use Rattle.engine.specs.Engines.{cache_in, Leaves, LeavesExecuted, tells_number};
+    ghost use Rattle.engine.specs.Engines.{cache_in, Leaves, LeavesExecuted, change_way, as_written, as_changed};
 
     /// Stores an entry with the next cas number. NoCas if the greatest one was given out, NoMemory if memory is
     /// refused.
@@ -43,8 +63,7 @@ impl<M: LiveMap> Engine<M> {
     ) -> Reply
         requires waits { has_arrived deadline (M.moment self.old.map) ≡ false }
         requires fits { MayBeWritten (M.sizes self.old.map) (M.entries self.old.map) key.now value.now }
-        requires anew { (tells_number reply && self.old.in_place) ≡ false }
-        ensures { Leaves M.LiveMap self.old self.new (write (cache_in M.entries self.old) key.now
+        ensures { Leaves M.LiveMap as_written self.old self.new (write (cache_in M.entries self.old) key.now
             (λ cas. record { value = value.now; flags = flags; deadline = deadline; cas = cas }) reply) result }
     {
         if self.last_cas == u64::MAX {
@@ -64,6 +83,48 @@ impl<M: LiveMap> Engine<M> {
         reply
     }
 
+    /// Stores what the scratch has as the value of the key's entry, which stands at the place and has these flags and this
+    /// deadline, with the next cas number: where it stands, if entries are changed in place and it fits there. It gives NoCas and
+    /// NoMemory as `write` does.
+    fn store_scratch(
+        &mut self,
+        key: &[u8],
+        place: M::Place,
+        flags: u32,
+        deadline: Option<u64>,
+    ) -> Reply
+        requires stands { M.stands self.old.map key.now place }
+        requires changed { IsChanged (map.get (M.entries self.old.map) key.now)
+            (record { value = self.old.scratch; flags = flags; deadline = deadline; cas = 0 }) }
+        requires waits { has_arrived deadline (M.moment self.old.map) ≡ false }
+        requires fits { MayBeWritten (M.sizes self.old.map) (M.entries self.old.map) key.now self.old.scratch }
+        ensures { Leaves M.LiveMap (change_way self.old.in_place) self.old self.new
+            (write (cache_in M.entries self.old) key.now
+            (λ cas. record { value = self.old.scratch; flags = flags; deadline = deadline; cas = cas }) Reply.Stored) result }
+    {
+        let Some(cas) = self.last_cas.checked_add(1) else {
+            return Reply::NoCas;
+        };
+        let entry = EntryRef {
+            value: self.scratch.as_slice(),
+            flags,
+            deadline,
+            cas,
+        };
+        let stored = if self.in_place {
+            self.map.rewrite(key, place, entry)
+        } else {
+            self.map.write(key, entry)
+        };
+        match stored {
+            Ok(()) => {
+                self.last_cas = cas;
+                Reply::Stored
+            }
+            Err(_) => Reply::NoMemory,
+        }
+    }
+
     /// Changes the entry of the key, which stands at the place and has these flags and this deadline, to this number
     /// with the next cas number. It gives NoCas and NoMemory as `write` does.
     fn rewrite(
@@ -75,13 +136,12 @@ impl<M: LiveMap> Engine<M> {
         deadline: Option<u64>,
         number: u64,
     ) -> Reply
-        requires in_place { self.old.in_place ≡ true }
         requires stands { M.stands self.old.map key.now place }
         requires changed { IsChanged (map.get (M.entries self.old.map) key.now)
             (record { value = value.now; flags = flags; deadline = deadline; cas = 0 }) }
         requires waits { has_arrived deadline (M.moment self.old.map) ≡ false }
         requires fits { MayBeWritten (M.sizes self.old.map) (M.entries self.old.map) key.now value.now }
-        ensures { Leaves M.LiveMap self.old self.new (write (cache_in M.entries self.old) key.now
+        ensures { Leaves M.LiveMap as_changed self.old self.new (write (cache_in M.entries self.old) key.now
             (λ cas. record { value = value.now; flags = flags; deadline = deadline; cas = cas })
             (Reply.Number number)) result }
     {
@@ -107,7 +167,7 @@ impl<M: LiveMap> Engine<M> {
     fn put(&mut self, item: &Put) -> Reply
         requires in_range { M.moment self.old.map ≤ max_moment }
         requires small { is_too_large (item_limit (M.sizes self.old.map)) item.now ≡ false }
-        ensures { Leaves M.LiveMap self.old self.new
+        ensures { Leaves M.LiveMap as_written self.old self.new
             (put (cache_in M.entries self.old) (M.moment self.old.map) item.now) result }
     {
         let deadline = deadline_of(item.exptime, self.map.last_moment());
@@ -124,6 +184,60 @@ impl<M: LiveMap> Engine<M> {
         )
     }
 
+    /// Joins the value with that of the entry of the key, behind it or before it, with the next cas number. It gives NotStored
+    /// if the key has no entry, TooLarge, and NoCas and NoMemory as `write` does.
+    fn join(&mut self, item: &Put, behind: bool) -> Reply
+        ensures { Leaves M.LiveMap (change_way self.old.in_place) self.old self.new
+            (join (joined_by behind item.now.value) (map.get (M.entries self.old.map) item.now.key)
+            (item_limit (M.sizes self.old.map)) (cache_in M.entries self.old) item.now) result }
+    {
+        let key = item.key.as_slice();
+        let more = item.value.as_slice();
+        let limit = self.map.item_limit();
+        let Some((here, place)) = self.map.get(key) else {
+            return Reply::NotStored;
+        };
+        if is_joined_too_large(limit, key, here.value.len(), more.len()) {
+            return Reply::TooLarge;
+        }
+        let (flags, deadline) = (here.flags, here.deadline);
+        self.scratch.put(here.value, more, behind);
+        self.store_scratch(key, place, flags, deadline)
+    }
+
+    /// Gives the entry of the key another deadline, or takes it out if that has come already. NotFound if the key has no entry,
+    /// and NoMemory as `write` gives it.
+    fn touch(&mut self, asked: &Touch) -> Reply
+        requires { M.moment self.old.map ≤ max_moment }
+        ensures { LeavesExecuted M.LiveMap self.old (Request.Touch asked.now) result self.new }
+    {
+        let key = asked.key.as_slice();
+        let Some((entry, place)) = self.map.get(key) else {
+            return Reply::NotFound;
+        };
+        let deadline = deadline_of(asked.exptime, self.map.last_moment());
+        if has_arrived(deadline, self.map.last_moment()) {
+            self.map.remove(key);
+            return Reply::Touched;
+        }
+        if self.map.may_stay(key, place, deadline) {
+            return Reply::Touched;
+        }
+        self.scratch.put(entry.value, b"", true);
+        let flags = entry.flags;
+        let cas = entry.cas;
+        let entry = EntryRef {
+            value: self.scratch.as_slice(),
+            flags,
+            deadline,
+            cas,
+        };
+        match self.map.write(key, entry) {
+            Ok(()) => Reply::Touched,
+            Err(_) => Reply::NoMemory,
+        }
+    }
+
     fn delete(&mut self, key: &[u8]) -> Reply
         ensures { LeavesExecuted M.LiveMap self.old (Request.Delete key.now) result self.new }
     {
@@ -136,7 +250,7 @@ impl<M: LiveMap> Engine<M> {
 
     /// Changes the number at the key. NotFound if it has no entry, NotNumber if its value is no number.
     fn change(&mut self, key: &[u8], by: Change) -> Reply
-        ensures { Leaves M.LiveMap self.old self.new
+        ensures { Leaves M.LiveMap (change_way self.old.in_place) self.old self.new
             (change (changed_by by) (map.get (M.entries self.old.map) key.now)
             (cache_in M.entries self.old) key.now) result }
     {
@@ -178,6 +292,7 @@ impl<M: LiveMap> Engine<M> {
         ensures sizes { M.sizes self.new.map ≡ M.sizes self.old.map }
         ensures moment { M.moment self.new.map ≡ now }
         ensures in_place { self.new.in_place ≡ self.old.in_place }
+        ensures dialect { self.new.dialect ≡ self.old.dialect }
         ensures alike { M.alike self.old.map self.new.map }
         ensures kept { StaysKept M.keeps self.old.map self.new.map }
     {
@@ -202,19 +317,19 @@ impl<M: LiveMap> Engine<M> {
     }
 
     /// Shows the entries at the keys, in the buffer that the keys were lent if that is large enough, and counts a read
-    /// of each. All hits are dropped, and no read is counted, if they take more than `MAX_ANSWER` bytes.
+    /// of each. NoMemory if they take more bytes than one answer may show, and then no read is counted.
     fn get(&mut self, keys: &mut Keys, with_cas: bool) -> Reply
-        ensures limit { MAX_ANSWER < shown_size (hits_of with_cas (M.entries self.old.map) keys.old)
-            → result ≡ Reply.NoMemory }
-        ensures leaves { Leaves M.LiveMap self.old self.new
+        ensures limit { IsTrue (is_too_long self.old.dialect
+            (shown_size (hits_of with_cas (M.entries self.old.map) keys.old))) → result ≡ Reply.NoMemory }
+        ensures leaves { Leaves M.LiveMap as_written self.old self.new
             (leaving (cache_in M.entries self.old)
             (Reply.Values (hits_of with_cas (M.entries self.old.map) keys.old))) result }
         ensures same { keys.new ≡ keys.old }
     {
         let hits = HitWriter::in_buffer(keys.take_buffer());
         let written = match keys.only() {
-            Some(only) => hit_of_only(&mut self.map, only, with_cas, hits),
-            None => hits_of_keys(&mut self.map, keys, with_cas, hits),
+            Some(only) => hit_of_only(&mut self.map, only, with_cas, self.dialect, hits),
+            None => hits_of_keys(&mut self.map, keys, with_cas, self.dialect, hits),
         };
         match written {
             Ok(hits) => Reply::Values(hits.finish()),
@@ -277,7 +392,8 @@ impl<M: LiveMap> Engine<M> {
     /// Executes the request at the last moment.
     pub(crate) fn execute(&mut self, request: &mut Request) -> Reply
         requires { M.moment self.old.map ≤ max_moment }
-        ensures limit { MAX_ANSWER < answer_size (M.entries self.old.map) request.old → result ≡ Reply.NoMemory }
+        ensures limit { IsTrue (is_too_long self.old.dialect (answer_size (M.entries self.old.map) request.old))
+            → result ≡ Reply.NoMemory }
         ensures leaves { LeavesExecuted M.LiveMap self.old request.old result self.new }
         ensures same { request.new ≡ request.old }
     {
@@ -287,6 +403,9 @@ impl<M: LiveMap> Engine<M> {
             Request::Add(item) => self.add(item),
             Request::Replace(item) => self.replace(item),
             Request::Cas(item, unique) => self.cas(item, *unique),
+            Request::Append(item) => self.join(item, true),
+            Request::Prepend(item) => self.join(item, false),
+            Request::Touch(asked) => self.touch(asked),
             Request::Delete { key } => self.delete(key.as_slice()),
             Request::Incr { key, amount } => self.change(key.as_slice(), Change::Add(*amount)),
             Request::Decr { key, amount } => self.change(key.as_slice(), Change::Subtract(*amount)),

@@ -1,18 +1,37 @@
 //! What a `get` shows.
 
 ghost use Rattle.std.specs.Prelude.{◌≡◌, ◌+◌, ◌<◌, ◌≤◌, ◌^◌, ◌∷◌, [], length, decimal, sum_by, nat_lt, if◌then◌else◌};
-ghost use Rattle.std.specs.Prelude.{Some, None, IfOk, IfSome, OnOk, OnErr, MatchOption};
+ghost use Rattle.std.specs.Prelude.{Some, None, Err, IfOk, IfSome, IsTrue, OnOk, OnErr, MatchOption, false};
 ghost use Rattle.proto.specs.Commands.{hits_of};
 ghost use Rattle.proto.specs.Hits.{hit_bytes, hit_room};
 ghost use Rattle.proto.specs.SeenHits.{seen_hit};
 ghost use Rattle.engine.specs.Finding.{AreFound, HasFound, keys_found};
-ghost use Rattle.engine.specs.AnswerSizes.{shown_size};
+ghost use Rattle.engine.specs.AnswerSizes.{shown_size, is_too_long};
 ghost use Rattle.engine.specs.Showing.{HasShown};
 
 use crate::live_map::LiveMap;
 use itoa::Buffer;
-use proto::{HitRef, HitWriter, Keys, MAX_ANSWER, NoMemory};
+use proto::{Dialect, HitRef, HitWriter, Keys, MAX_ANSWER, NoMemory};
 use std::hash::Hasher;
+
+/// Why no hits are shown.
+#[derive(Clone, Copy)]
+pub enum Unshown {
+    /// They take more bytes than one answer of the dialect may show.
+    TooLong,
+    NoMemory,
+}
+
+impl From<NoMemory> for Unshown {
+    ghost use Rattle.std.specs.Prelude.{◌≡◌};
+    ghost use Rattle.engine.specs.declared.hits.Unshown.TheVariants as unshown;
+
+    ghost from_gives = { λ _ e. e ≡ unshown.NoMemory };
+
+    fn from(_e: NoMemory) -> Unshown {
+        Unshown::NoMemory
+    }
+}
 
 /// How many digits the number has in decimal.
 fn digits(n: u64) -> usize
@@ -110,11 +129,19 @@ fn find_keys<'k, M: LiveMap>(
     Ok((found, room))
 }
 
-/// Whether the hits of keys that were found take more bytes than those of one answer may.
-fn are_too_long<M: LiveMap>(map: &M, found: &[Found<M::Place>], with_cas: bool) -> bool
+/// Whether the hits of keys that were found take more bytes than one answer of the dialect may show.
+fn are_too_long<M: LiveMap>(
+    map: &M,
+    found: &[Found<M::Place>],
+    with_cas: bool,
+    dialect: Dialect,
+) -> bool
     requires { AreFound M.LiveMap map.now found.now }
-    ensures { result ≡ nat_lt MAX_ANSWER (shown_size (hits_of with_cas (M.entries map.now) (keys_found found.now))) }
+    ensures { result ≡ is_too_long dialect (shown_size (hits_of with_cas (M.entries map.now) (keys_found found.now))) }
 {
+    if dialect == Dialect::Strict {
+        return false;
+    }
     let mut left = MAX_ANSWER;
     for i in 0..found.len() {
         let key = found[i].key;
@@ -152,26 +179,36 @@ fn hits_found<M: LiveMap>(
     hits
 }
 
-/// Writes the hit of the only key, which is looked up once, and counts its read. NoMemory if the hit takes more than
-/// `MAX_ANSWER` bytes, or memory is refused. The writer is new.
+/// Writes the hit of the only key, which is looked up once, and counts its read. The writer is new.
+///
+/// # Errors
+///
+/// TooLong if the hit takes more bytes than an answer of the dialect may show; NoMemory if memory is refused.
 pub fn hit_of_only<M: LiveMap>(
     map: &mut M,
     only: &[u8],
     with_cas: bool,
+    dialect: Dialect,
     hits: HitWriter,
-) -> Result<HitWriter, NoMemory>
+) -> Result<HitWriter, Unshown>
     requires { hits ≡ record { hits = []; room = 0 } }
     ensures ok { IfOk result (λ written. HasShown M.LiveMap with_cas map.old (only.now ∷ []) map.new written) }
-    ensures limit { OnOk result (shown_size (hits_of with_cas (M.entries map.old) (only.now ∷ [])) ≤ MAX_ANSWER) }
+    ensures too_long { result ≡ Err Unshown.TooLong
+        → IsTrue (is_too_long dialect (shown_size (hits_of with_cas (M.entries map.old) (only.now ∷ [])))) }
+    ensures limit { OnOk result
+        (is_too_long dialect (shown_size (hits_of with_cas (M.entries map.old) (only.now ∷ []))) ≡ false) }
     ensures err { OnErr result (0 < length (hits_of with_cas (M.entries map.old) (only.now ∷ []))) }
     ensures refused { OnErr result (map.new ≡ map.old) }
 {
     let mut hits = hits;
     if let Some((entry, place)) = map.get(only) {
         let hit = hit_with(only, entry.value, entry.flags, entry.cas, with_cas);
-        let wanted = hit.room().ok_or(NoMemory)?;
-        if wanted > MAX_ANSWER && left_after(MAX_ANSWER, hit).is_none() {
-            return Err(NoMemory);
+        let wanted = hit.room().ok_or(Unshown::NoMemory)?;
+        if dialect == Dialect::Lenient
+            && wanted > MAX_ANSWER
+            && left_after(MAX_ANSWER, hit).is_none()
+        {
+            return Err(Unshown::TooLong);
         }
         hits.reserve(wanted)?;
         hits.push(hit);
@@ -194,25 +231,32 @@ fn read_ahead<M: LiveMap>(map: &M, keys: &Keys) {
 }
 
 /// Writes the hits of the keys, each of which is looked up once, and counts a read of each. Memory is taken in two
-/// steps: for the list of the keys that are there, and then for all their hits. NoMemory if the hits take more than
-/// `MAX_ANSWER` bytes, or memory is refused. The writer is new.
+/// steps: for the list of the keys that are there, and then for all their hits. The writer is new.
+///
+/// # Errors
+///
+/// TooLong if the hits take more bytes than an answer of the dialect may show; NoMemory if memory is refused.
 pub fn hits_of_keys<M: LiveMap>(
     map: &mut M,
     keys: &Keys,
     with_cas: bool,
+    dialect: Dialect,
     hits: HitWriter,
-) -> Result<HitWriter, NoMemory>
+) -> Result<HitWriter, Unshown>
     requires { hits ≡ record { hits = []; room = 0 } }
     ensures ok { IfOk result (λ written. HasShown M.LiveMap with_cas map.old keys.now map.new written) }
-    ensures limit { OnOk result (shown_size (hits_of with_cas (M.entries map.old) keys.now) ≤ MAX_ANSWER) }
+    ensures too_long { result ≡ Err Unshown.TooLong
+        → IsTrue (is_too_long dialect (shown_size (hits_of with_cas (M.entries map.old) keys.now))) }
+    ensures limit { OnOk result
+        (is_too_long dialect (shown_size (hits_of with_cas (M.entries map.old) keys.now)) ≡ false) }
     ensures err { OnErr result (0 < length (hits_of with_cas (M.entries map.old) keys.now)) }
     ensures refused { OnErr result (map.new ≡ map.old) }
 {
     let mut hits = hits;
     read_ahead(map, keys);
     let (found, room) = find_keys(map, keys, with_cas)?;
-    if room > MAX_ANSWER && are_too_long(map, found.as_slice(), with_cas) {
-        return Err(NoMemory);
+    if room > MAX_ANSWER && are_too_long(map, found.as_slice(), with_cas, dialect) {
+        return Err(Unshown::TooLong);
     }
     hits.reserve(room)?;
     Ok(hits_found(map, found.as_slice(), with_cas, hits))

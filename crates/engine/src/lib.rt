@@ -9,6 +9,7 @@ mod laws;
 mod live_map;
 mod number;
 mod plain_map;
+mod scratch;
 mod storage_engine;
 mod store;
 

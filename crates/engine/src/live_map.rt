@@ -1,11 +1,13 @@
 //! What an engine asks of the map that has its entries.
 
-ghost use Rattle.std.specs.Prelude.{◌≡◌, ℕ, ◌≤◌, Bool, List, OnOk, OnErr, IfSome, IsSome, IsTrue, Some, false};
+ghost use Rattle.std.specs.Prelude.{◌≡◌, ℕ, ◌≤◌, Bool, List, Option, OnOk, OnErr, IfSome, IsSome, IsTrue, Some, false, length};
 ghost use Rattle.std.specs.Option.{option_map};
 ghost use Rattle.std.specs.FinMap as map;
 ghost use Rattle.proto.specs.Sizes.{Sizes, IsGeometry, item_limit};
 ghost use Rattle.proto.specs.Cache.{Entry, Entries, no_entries, live, has_arrived};
 ghost use Rattle.proto.specs.History.{max_moment};
+ghost use Rattle.proto.specs.Steps.{MayBeDated};
+ghost use Rattle.proto.specs.declared.message.Reply.TheVariants.{Touched};
 ghost use Rattle.proto.specs.Stored.{StoredItem};
 ghost use Rattle.engine.specs.Shown.{entry_of};
 ghost use Rattle.engine.specs.Written.{MayBeWritten, IsWritten, IsChanged};
@@ -53,6 +55,10 @@ pub trait LiveMap {
     /// What counting a read of the entry at the key does to this map.
     ghost reads: { Self → List ℕ → Self → Type 0 };
 
+    /// Whether an entry may keep its deadline at a moment where it is asked to have another one: the moment, the one asked
+    /// for, and the one that it has.
+    ghost stays: { ℕ → Option ℕ → Option ℕ → Bool };
+
     /// The other map has what this one has where this one has it, whatever of it is still live: what time that goes
     /// on and entries that are taken out leave.
     ghost alike: { Self → Self → Type 0 };
@@ -89,7 +95,8 @@ pub trait LiveMap {
     fn get<'a>(&'a self, key: &[u8]) -> Option<(EntryRef<'a>, Self::Place)>
         ensures found { option_map (λ r. entry_of r.0) result ≡ map.get (entries self.now) key.now }
         ensures stands { IfSome result (λ r. stands self.now key.now r.1) }
-        ensures waits { IfSome result (λ r. has_arrived r.0.deadline (moment self.now) ≡ false) };
+        ensures waits { IfSome result (λ r. has_arrived r.0.deadline (moment self.now) ≡ false) }
+        ensures small { IfSome result (λ r. length r.0.value.now ≤ 131072) };
 
     /// The entry at the key, which stands at the place, without a search.
     fn entry_at<'a>(&'a self, key: &[u8], place: Self::Place) -> EntryRef<'a>
@@ -151,6 +158,18 @@ pub trait LiveMap {
         ensures err_kept { OnErr result (StaysKept keeps self.old self.new) }
         ensures sizes { sizes self.new ≡ sizes self.old }
         ensures moment { moment self.new ≡ moment self.old };
+
+    /// Whether the entry of the key, which stands at the place, may be left as it is where it is asked to have this deadline.
+    fn may_stay(&self, key: &[u8], place: Self::Place, deadline: Option<u64>) -> bool
+        requires stands { stands self.now key.now place }
+        requires there { IsSome (map.get (entries self.now) key.now) }
+        requires waits { has_arrived deadline (moment self.now) ≡ false }
+        ensures decides { (e : Entry) → map.get (entries self.now) key.now ≡ Some e
+            → result ≡ stays (moment self.now) deadline e.deadline }
+        ensures may_stay { IsTrue result → (e : Entry) → map.get (entries self.now) key.now ≡ Some e
+            → MayBeDated (moment self.now) deadline e.deadline Touched }
+        ensures kept { IsTrue result → (e : Entry) → map.get (entries self.now) key.now ≡ Some e
+            → KeepsEntry sizes entries moment keeps self.now key.now (record e { deadline = deadline }) self.now };
 
     /// Takes the entry at the key out, if there is one.
     fn remove(&mut self, key: &[u8])

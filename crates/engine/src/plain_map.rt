@@ -1,11 +1,11 @@
 //! A map that evicts nothing and gives each entry exactly the deadline that it asks for, and the cache over it.
 
-ghost use Rattle.std.specs.Prelude.{◌≡◌, ⊤, true};
+ghost use Rattle.std.specs.Prelude.{◌≡◌, ◌≤◌, ⊤, true, length};
 ghost use Rattle.engine.specs.Shown.{entry_of};
 ghost use Rattle.engine.specs.PlainEntries.{plain_entries};
 
 use crate::{Engine, EntryRef, LiveMap, StoreMap, has_arrived};
-use proto::{ByteString, Geometry, NoMemory};
+use proto::{ByteString, Eviction, Geometry, MAX_BLOCK, NoMemory};
 use std::alloc::Global;
 use std::collections::BTreeMap;
 use std::hash::FoldHasher;
@@ -27,11 +27,16 @@ impl Model for Entry {
 
     ghost coded = { entry_code };
 
+    ghost use Rattle.std.specs.Prelude.{◌≤◌, length};
+
     ghost view = { λ a. record { value = a.value; flags = a.flags; deadline = a.deadline; cas = a.cas } };
+
+    ghost invariant = { λ a. length a.value ≤ 131072 };
 }
 
 impl Entry {
     fn new(value: ByteString, flags: u32, deadline: Option<u64>, cas: u64) -> Self
+        requires { length value ≤ 131072 }
         ensures { result ≡ record { value = value; flags = flags; deadline = deadline; cas = cas } }
     {
         Entry {
@@ -44,7 +49,8 @@ impl Entry {
 
     /// The entry, lent.
     fn lent(&self) -> EntryRef<'_>
-        ensures { entry_of result ≡ self.now }
+        ensures entry { entry_of result ≡ self.now }
+        ensures small { length result.value.now ≤ 131072 }
     {
         EntryRef {
             value: self.value.as_slice(),
@@ -69,7 +75,7 @@ pub struct PlainMap {
 pub type PlainStore = Engine<PlainMap>;
 
 impl LiveMap for PlainMap {
-    ghost use Rattle.engine.specs.PlainWrites.{WritesPlainly, ReadsPlainly};
+    ghost use Rattle.engine.specs.PlainWrites.{WritesPlainly, ReadsPlainly, same_deadline};
 
     /// An entry is found again by its key.
     type Place = ();
@@ -89,6 +95,8 @@ impl LiveMap for PlainMap {
     ghost changes = { WritesPlainly };
 
     ghost reads = { ReadsPlainly };
+
+    ghost stays = { λ t asked given. same_deadline asked given };
 
     ghost alike = { λ m n. ⊤ };
 
@@ -129,6 +137,9 @@ impl LiveMap for PlainMap {
     fn count_read(&mut self, _key: &[u8], _place: ()) {}
 
     fn write(&mut self, key: &[u8], entry: EntryRef) -> Result<(), NoMemory> {
+        if entry.value.len() > MAX_BLOCK as usize {
+            return Err(NoMemory);
+        }
         let value = ByteString::from_vec(Vec::from_slice(self.alloc, entry.value)?);
         let key = Vec::from_slice(self.alloc, key)?;
         self.map.insert(
@@ -143,6 +154,11 @@ impl LiveMap for PlainMap {
         self.write(key, entry)
     }
 
+    /// Only where it has this very deadline.
+    fn may_stay(&self, key: &[u8], _place: (), deadline: Option<u64>) -> bool {
+        self.get(key).unwrap().0.deadline == deadline
+    }
+
     fn remove(&mut self, key: &[u8]) {
         self.map.remove(key);
     }
@@ -155,12 +171,17 @@ impl LiveMap for PlainMap {
 impl StoreMap for PlainMap {
     ghost use Rattle.engine.specs.Plain.{HandlesPlainly};
 
-    ghost made = { λ sizes seed m. ⊤ };
+    ghost made = { λ sizes seed eviction m. ⊤ };
 
     ghost promises = { HandlesPlainly };
 
     /// An empty map takes no memory, and hashes no key.
-    fn seeded(alloc: Global, geometry: Geometry, _seed: u64) -> Result<Self, NoMemory> {
+    fn seeded(
+        alloc: Global,
+        geometry: Geometry,
+        _seed: u64,
+        _eviction: Eviction,
+    ) -> Result<Self, NoMemory> {
         Ok(PlainMap {
             alloc,
             geometry,

@@ -1,6 +1,6 @@
 //! What the storage thread asks of a store.
 
-ghost use Rattle.std.specs.Prelude.{◌≡◌, ◌≢◌, ℕ, ◌≤◌, List, true, false};
+ghost use Rattle.std.specs.Prelude.{◌≡◌, ◌≢◌, ℕ, ◌≤◌, Bool, List, false};
 ghost use Rattle.proto.specs.Sizes.{Sizes};
 ghost use Rattle.proto.specs.Cache.{Cache};
 ghost use Rattle.proto.specs.Steps.{Step};
@@ -27,6 +27,9 @@ pub trait StorageEngine {
     /// The moment of the last request, 0 before the first one.
     ghost moment: { Self → ℕ };
 
+    /// Whether a request that stores an item may be refused memory. One that shows a hit may always be.
+    ghost may_refuse: { Bool };
+
     /// These items were stored so far, none with a deadline, and no item was forgotten to make room.
     ghost keeps: { Self → List StoredItem → Type 0 };
 
@@ -51,8 +54,8 @@ pub trait StorageEngine {
         ensures sizes { sizes self.new ≡ sizes self.old }
         ensures moment { moment self.new ≡ now }
 
-        // NoMemory is answered only if an item would be stored or a hit be shown
-        ensures succeeds { needs_memory true (outcome_at (sizes self.old) (cache self.old) now request.old) ≡ false
+        // NoMemory is answered only if a hit would be shown, or an item be stored by a store that may refuse it
+        ensures succeeds { needs_memory may_refuse (outcome_at (sizes self.old) (cache self.old) now request.old) ≡ false
             → result ≢ Reply.NoMemory }
 
         // nothing is forgotten while little is stored, and nothing with a deadline

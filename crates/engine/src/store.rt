@@ -1,6 +1,9 @@
 //! An engine as a store: what it asks of its map beyond the commands, how it is made, and how it handles requests.
 
-ghost use Rattle.std.specs.Prelude.{◌≡◌, ◌≢◌, ℕ, ◌≤◌, ◌<◌, [], IfOk, false};
+ghost use Rattle.std.specs.Prelude.{◌≡◌, ◌≢◌, ℕ, ◌≤◌, [], IfOk, IsTrue, false};
+ghost use Rattle.proto.specs.declared.dialect.Dialect.TheVariants.{Strict};
+ghost use Rattle.proto.specs.declared.eviction.Eviction.{Eviction};
+ghost use Rattle.proto.specs.declared.eviction.Eviction.TheVariants.{Oldest};
 ghost use Rattle.proto.specs.declared.message.Request.{Request};
 ghost use Rattle.proto.specs.declared.message.Reply.{Reply};
 ghost use Rattle.proto.specs.Sizes.{Sizes};
@@ -11,11 +14,12 @@ ghost use Rattle.engine.specs.declared.commands.Engine.{Engine};
 ghost use Rattle.engine.specs.declared.store.TheConstants.{SEED};
 ghost use Rattle.engine.specs.Engines.{IsHandled};
 ghost use Rattle.engine.specs.Keeping.{KeepsAll};
-ghost use Rattle.engine.specs.AnswerSizes.{answer_size};
+ghost use Rattle.engine.specs.AnswerSizes.{answer_size, is_too_long};
 ghost use Rattle.engine.specs.Outcomes.{outcome_at, needs_memory};
 
+use crate::scratch::Scratch;
 use crate::{Engine, LiveMap, StorageEngine};
-use proto::{Geometry, MAX_ANSWER, NoMemory, Reply, Request};
+use proto::{Dialect, Eviction, Geometry, NoMemory, Reply, Request};
 use std::alloc::Global;
 use std::hash::FoldHasher;
 
@@ -24,19 +28,25 @@ const SEED: u64 = 0x9e37_79b9_7f4a_7c15;
 
 /// A map over which an engine is a store: it can be made, and says what a request leaves of it.
 pub trait StoreMap: LiveMap {
-    /// What a new map of these sizes and this seed is, beyond what any is.
-    ghost made: { Sizes → ℕ → Self → Type 0 };
+    /// What a new map of these sizes and this seed is, which evicts by this rule, beyond what any is.
+    ghost made: { Sizes → ℕ → Eviction → Self → Type 0 };
 
     /// What a request leaves of this map, beyond what one leaves of any.
     ghost promises: { Engine Self → ℕ → Request → Reply → Engine Self → Type 0 };
 
-    /// No entry, at the moment 0. A map that hashes keys hashes the seed before each. NoMemory if memory is refused.
-    fn seeded(alloc: Global, geometry: Geometry, seed: u64) -> Result<Self, NoMemory>
+    /// No entry, at the moment 0. A map that hashes keys hashes the seed before each, and one that evicts does it by
+    /// this rule. NoMemory if memory is refused.
+    fn seeded(
+        alloc: Global,
+        geometry: Geometry,
+        seed: u64,
+        eviction: Eviction,
+    ) -> Result<Self, NoMemory>
         ensures sizes { IfOk result (λ m. Self.sizes m ≡ geometry) }
         ensures entries { IfOk result (λ m. Self.entries m ≡ no_entries) }
         ensures moment { IfOk result (λ m. Self.moment m ≡ 0) }
         ensures keeps { IfOk result (λ m. Self.keeps m []) }
-        ensures made { IfOk result (λ m. made geometry seed m) };
+        ensures made { IfOk result (λ m. made geometry seed eviction m) };
 
     /// A law, which each map proves: whatever an engine over it handles is as the map promises. There is nothing to
     /// run.
@@ -48,49 +58,80 @@ pub trait StoreMap: LiveMap {
 impl<M: StoreMap> Engine<M> {
     ghost use Rattle.engine.specs.Engines.{cache_in};
 
-    /// An empty cache, at the moment 0. NoMemory if memory is refused.
+    /// An empty cache for the strict dialect, at the moment 0. NoMemory if memory is refused.
     pub fn new(alloc: Global, geometry: Geometry) -> Result<Self, NoMemory>
         ensures sizes { IfOk result (λ s. M.sizes s.map ≡ geometry) }
         ensures cache { IfOk result (λ s. cache_in M.entries s ≡ empty_cache 0) }
         ensures moment { IfOk result (λ s. M.moment s.map ≡ 0) }
         ensures keeps { IfOk result (λ s. M.keeps s.map []) }
-        ensures made { IfOk result (λ s. M.made geometry SEED s.map) }
+        ensures dialect { IfOk result (λ s. s.dialect ≡ Strict) }
+        ensures made { IfOk result (λ s. M.made geometry SEED Oldest s.map) }
     {
         Engine::starting(alloc, geometry, 0)
     }
 
-    /// An empty cache that has given out this cas number last. NoMemory if memory is refused.
+    /// An empty cache for this dialect, at the moment 0, that changes entries in place or writes them anew, and evicts by this
+    /// rule. NoMemory if memory is refused.
+    pub fn evicting(
+        alloc: Global,
+        geometry: Geometry,
+        in_place: bool,
+        dialect: Dialect,
+        eviction: Eviction,
+    ) -> Result<Self, NoMemory>
+        ensures sizes { IfOk result (λ s. M.sizes s.map ≡ geometry) }
+        ensures cache { IfOk result (λ s. cache_in M.entries s ≡ empty_cache 0) }
+        ensures moment { IfOk result (λ s. M.moment s.map ≡ 0) }
+        ensures keeps { IfOk result (λ s. M.keeps s.map []) }
+        ensures in_place { IfOk result (λ s. s.in_place ≡ in_place) }
+        ensures dialect { IfOk result (λ s. s.dialect ≡ dialect) }
+        ensures made { IfOk result (λ s. M.made geometry SEED eviction s.map) }
+    {
+        Engine::seeded(alloc, geometry, 0, SEED, in_place, dialect, eviction)
+    }
+
+    /// An empty cache for the strict dialect that has given out this cas number last. NoMemory if memory is refused.
     pub fn starting(alloc: Global, geometry: Geometry, last_cas: u64) -> Result<Self, NoMemory>
         ensures sizes { IfOk result (λ s. M.sizes s.map ≡ geometry) }
         ensures cache { IfOk result (λ s. cache_in M.entries s ≡ empty_cache last_cas) }
         ensures moment { IfOk result (λ s. M.moment s.map ≡ 0) }
         ensures keeps { IfOk result (λ s. M.keeps s.map []) }
-        ensures made { IfOk result (λ s. M.made geometry SEED s.map) }
+        ensures dialect { IfOk result (λ s. s.dialect ≡ Strict) }
+        ensures made { IfOk result (λ s. M.made geometry SEED Oldest s.map) }
     {
-        Engine::seeded(alloc, geometry, last_cas, SEED, false)
+        let dialect = Dialect::Strict;
+        let eviction = Eviction::Oldest;
+        Engine::seeded(alloc, geometry, last_cas, SEED, false, dialect, eviction)
     }
 
-    /// An empty cache that has given out this cas number last, and hashes the seed before each key. `incr` and `decr`
-    /// change numbers in place, if their map can, or write them anew. NoMemory if memory is refused.
+    /// An empty cache that has given out this cas number last, and hashes the seed before each key. `incr`, `decr`, `append` and
+    /// `prepend` change entries in place, if their map can, or write them anew. Answers keep the limit of the dialect, and the map
+    /// evicts by this rule. NoMemory if memory is refused.
     pub fn seeded(
         alloc: Global,
         geometry: Geometry,
         last_cas: u64,
         seed: u64,
         in_place: bool,
+        dialect: Dialect,
+        eviction: Eviction,
     ) -> Result<Self, NoMemory>
         ensures sizes { IfOk result (λ s. M.sizes s.map ≡ geometry) }
         ensures cache { IfOk result (λ s. cache_in M.entries s ≡ empty_cache last_cas) }
         ensures moment { IfOk result (λ s. M.moment s.map ≡ 0) }
         ensures keeps { IfOk result (λ s. M.keeps s.map []) }
         ensures in_place { IfOk result (λ s. s.in_place ≡ in_place) }
-        ensures made { IfOk result (λ s. M.made geometry seed s.map) }
+        ensures dialect { IfOk result (λ s. s.dialect ≡ dialect) }
+        ensures made { IfOk result (λ s. M.made geometry seed eviction s.map) }
     {
+        let scratch = Scratch::new(alloc)?;
         Ok(Engine {
-            map: M::seeded(alloc, geometry, seed)?,
+            map: M::seeded(alloc, geometry, seed, eviction)?,
             last_cas,
             pending: None,
             in_place,
+            dialect,
+            scratch,
         })
     }
 }
@@ -115,6 +156,8 @@ impl<M: StoreMap> StorageEngine for Engine<M> {
 
     ghost moment = { λ s. M.moment s.map };
 
+    ghost may_refuse = { M.may_refuse };
+
     ghost keeps = { λ s items. M.keeps s.map items };
 
     fn last_moment(&self) -> u64 {
@@ -130,7 +173,7 @@ impl<M: StoreMap> StorageEngine for Engine<M> {
     }
 
     /// Executes the request at this moment, in seconds. The hits of a `get` stand in the buffer that its keys were
-    /// lent. NoMemory if memory is refused, or the hits take more than `MAX_ANSWER` bytes.
+    /// lent. NoMemory if memory is refused, or the hits take more bytes than one answer may show.
     fn handle(&mut self, now: u64, request: &mut Request) -> Reply
         requires not_before { M.moment self.old.map ≤ now }
         requires in_range { now ≤ max_moment }
@@ -153,8 +196,10 @@ impl<M: StoreMap> StorageEngine for Engine<M> {
             → result ≢ Reply.NoMemory }
 
         // hits above the limit of one answer aren't shown
-        ensures limit { MAX_ANSWER < answer_size (found_at (cache_in M.entries self.old) now).entries request.old
-            → result ≡ Reply.NoMemory }
+        ensures limit { IsTrue (is_too_long self.old.dialect
+            (answer_size (found_at (cache_in M.entries self.old) now).entries request.old)) → result ≡ Reply.NoMemory }
+        ensures dialect { self.new.dialect ≡ self.old.dialect }
+
         // nothing is forgotten while little is stored, and nothing with a deadline
         ensures kept { KeepsAll (λ (engine : Engine M). M.sizes engine.map) (cache_in M.entries)
             (λ (engine : Engine M) items. M.keeps engine.map items) self.old now request.old result self.new }

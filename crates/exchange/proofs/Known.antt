@@ -54,7 +54,7 @@ module _ (key : LaneKey) (n id : ℕ) (me : SeatState) where
       (puts_it key n id c p i next slot_held open_)
 
   -- the store of posted
-  pub posts_as : (c : WorkerState) (i new : ℕ) → me ≡ (Worker c, []) → i ≡ 16 * c.worker → new ≡ placed_count c
+  pub posts_as : (c : WorkerState) (i new : ℕ) → me ≡ (Worker c, []) → i ≡ 16 * c.worker + 8 → new ≡ placed_count c
       → c.slot_held ≡ 0 → c.said_bye ≡ false
       → Allows (LanesHold key) n id me i (λ _. new) (λ _. tells_post (step n i new 0 none) me new)
   posts_as c i new is i_is new_is idle open_ =
@@ -65,7 +65,7 @@ module _ (key : LaneKey) (n id : ℕ) (me : SeatState) where
   -- the store of posted, with a bye
   pub posts_bye_as : (c : WorkerState) (i new : ℕ)
       → me ≡ (Worker c, (lane_slot c.worker (placed_count c), Some Bye) ∷ [])
-      → i ≡ 16 * c.worker → new ≡ suc (placed_count c)
+      → i ≡ 16 * c.worker + 8 → new ≡ suc (placed_count c)
       → c.put ≡ [] → c.slot_held ≡ suc (placed_count c) → c.said_bye ≡ false → length c.back ≡ length c.sent
       → Allows (LanesHold key) n id me i (λ _. new) (λ _. bye_posted (step n i new 0 none) me new)
   posts_bye_as c i new is i_is new_is none_put slot_held open_ all = subst (λ (z : SeatState × ℕ
@@ -91,7 +91,7 @@ module _ (key : LaneKey) (n id : ℕ) (me : SeatState) where
       (answers_it key n id d w p a i held mine for inside legal)
 
   -- the answers to lane w are told of
-  pub tells_as : (d : StorageState) (w i new : ℕ) → me.0 ≡ Storage d → i ≡ 16 * w + 8 → new ≡ settled_count d w
+  pub tells_as : (d : StorageState) (w i new : ℕ) → me.0 ≡ Storage d → i ≡ 16 * w + 16 → new ≡ settled_count d w
       → w < key.workers
       → ((j : ℕ) → j ≢ w → worker_share d.history j ≡ worker_share d.told j)
       → Allows (LanesHold key) n id me i (λ _. new) (λ _. told_done (step n i new 0 none) me new)
@@ -102,7 +102,7 @@ module _ (key : LaneKey) (n id : ℕ) (me : SeatState) where
   -- the store of done, after a bye
   pub settles_bye_as : (d : StorageState) (w : ℕ) (i new : ℕ)
       → me ≡ (Storage d, (lane_slot w (settled_count d w), None) ∷ [])
-      → i ≡ 16 * w + 8
+      → i ≡ 16 * w + 16
       → new ≡ suc (settled_count d w) → d.holding ≡ Some (w, Bye) → w < key.workers
       → Allows (LanesHold key) n id me i (λ _. new) (λ _. settle_bye (step n i new 0 none) me new)
   settles_bye_as d w i new is i_is new_is held inside = subst
@@ -111,7 +111,7 @@ module _ (key : LaneKey) (n id : ℕ) (me : SeatState) where
       (λ j. (sym is j, sym i_is j, sym new_is j)) (settles_bye_it key n id d w held inside)
 
   -- the load of done
-  pub loads_done_as : (c : WorkerState) (i : ℕ) → me.0 ≡ Worker c → i ≡ 16 * c.worker + 8 → c.slot_held ≡ 0
+  pub loads_done_as : (c : WorkerState) (i : ℕ) → me.0 ≡ Worker c → i ≡ 16 * c.worker + 16 → c.slot_held ≡ 0
       → Allows (LanesHold key) n id me i (λ x. x) (done_loaded (step n i 0 0 none) me)
   loads_done_as c i is i_is idle = subst
       (λ (z : ℕ). Allows (LanesHold key) n id me z (λ x. x) (done_loaded (step n z 0 0 none) me)) (sym i_is)

@@ -5,7 +5,7 @@ use Rattle.std.proofs.Common.{length-append, append_assoc}
 use mathlib.Core.Option.{some, some-injective, some-ne-none}
 use lib.ListN.{get_elem?}
 use Rattle.atomic_table.proofs.Lists.{at_longer}
-use Rattle.exchange.specs.Beginnings.{StartsWith}
+use Rattle.exchange.specs.Beginnings.{StartsWith, AreOfOne}
 
 module _ {A : Type 0} where
   -- what is there stands below the length
@@ -115,3 +115,23 @@ module _ {A : Type 0} where
   starts_take [] (suc k) = ([], refl)
   starts_take (x ∷ l) zero = (x ∷ l, refl)
   starts_take (x ∷ l) (suc k) = let h = starts_take l k in (h.0, λ i. x ∷ h.1 i)
+
+-- the first element, or else, and the others
+abbrev pub first_or : {A : Type 0} → A → List A → A
+first_or a [] = a
+first_or a (x ∷ l) = x
+
+abbrev pub others_of : {A : Type 0} → List A → List A
+others_of [] = []
+others_of (x ∷ l) = l
+
+-- of two beginnings of one list one begins with the other
+pub begin_one : {A : Type 0} (a b p q : List A) → a ++ p ≡ b ++ q → AreOfOne a b
+begin_one [] b p q e = inr (b, refl)
+begin_one (x ∷ a) [] p q e = inl (x ∷ a, refl)
+begin_one (x ∷ a) (y ∷ b) p q e = let here : x ≡ y = ap (first_or x) e in
+    ⊎_elim (λ (h : StartsWith a b). inl (h.0, λ i. here i ∷ h.1 i))
+    (λ (h : StartsWith b a). inr (h.0, λ i. sym here i ∷ h.1 i)) (begin_one a b p q (ap others_of e))
+
+pub of_one : {A : Type 0} (l a b : List A) → StartsWith l a → StartsWith l b → AreOfOne a b
+of_one l a b h g = begin_one a b h.0 g.0 (sym h.1 ∙ g.1)

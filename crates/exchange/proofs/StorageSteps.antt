@@ -26,7 +26,7 @@ use Rattle.exchange.specs.Beginnings.{StartsWith, posted_of}
 use Rattle.proto.proofs.HistoryLemmas.{legal_none}
 use Rattle.proto.specs.History.{worker_share, LegalBy}
 use Rattle.exchange.specs.Lanes.{Homes, SeatState, messages, open_at, count_of, lane_slot, at_home, LaneIs, Agree, Fits, first_worker_state}
-use Rattle.exchange.specs.Lanes.{first_storage_state, LanesHold, opening_view}
+use Rattle.exchange.specs.Lanes.{first_storage_state, LanesHold, opening_view, worker_seated}
 use Rattle.proto.specs.Counts.{times}
 use Rattle.exchange.specs.Steps.{PostedTells, settled_count, looked_at, with_message_held, SeenTells}
 use Rattle.exchange.specs.Steps.{with_held_answered}
@@ -36,6 +36,7 @@ use Rattle.exchange.specs.Steps.{new_worker, comparing, tells_comparison}
 use Rattle.exchange.proofs.Lists.{at_below, at_end, at_some, starts_below, starts_longer, starts_self, starts_trans}
 use Rattle.exchange.proofs.Lane.{SentAt, opens, replies, tells, settles_bye, sent_at, ask_at}
 use Rattle.exchange.proofs.Table.{slot_below, slot_else, slot_here, slot_other, lane_same, St, storage_moves}
+use Rattle.exchange.proofs.Table.{apart_set, apart_more, apart_one, fits_later, made_before}
 use Rattle.exchange.proofs.WorkerSteps.{worker_state_or, storage_state_or, item_or, answer_or, lane_or, loaded}
 use Rattle.std.proofs.Common.{cond}
 use Rattle.proto.proofs.CountLemmas.{share_mine, share_other}
@@ -151,14 +152,14 @@ module _ (key : LaneKey) where
             (legal_of s r d f.1) (legal_told_of s r d f.1) (first_of s r d f.1) (starts_self d.told)
             (length-set s.words i x) (length-set s.homes (lane_slot w t) none)
             (λ j other. (
-              loaded key s.words i (16 * j),
               loaded key s.words i (16 * j + 8),
+              loaded key s.words i (16 * j + 16),
               λ k. slot_other s.homes w t none j k other,
             ))
             (λ j other. (refl, refl, refl, open_other w j y (λ e. other (sym e)) ∙ sym (ap (λ z. open_at z j) idle)))
             (λ _. lane_same c _ _ _ _ _ _ _ _ _ _ _ _ (at_home homes' w)
-            (at_home homes' w) refl refl refl (open_mine w y) (loaded key s.words i (16 * w))
-            (loaded key s.words i (16 * w + 8)) (λ _. refl)
+            (at_home homes' w) refl refl refl (open_mine w y) (loaded key s.words i (16 * w + 8))
+            (loaded key s.words i (16 * w + 16)) (λ _. refl)
             (opens c _ _ _ _ _ _ (at_home s.homes w) lane (at_home homes' w) y none_open next.1
             (slot_else s.homes w t none))) few,
         tell (Storage d', (lane_slot w t, Some y) ∷ me.1) (
@@ -176,14 +177,14 @@ module _ (key : LaneKey) where
   -- the load of posted
   pub loads_posted : (n id : ℕ) (me : SeatState) (d : StorageState) (w : ℕ) → me.0 ≡ Storage d → d.holding ≡ None
       → w < key.workers
-      → Allows (LanesHold key) n id me (16 * w) (λ x. x) (posted_loaded (step n (16 * w) 0 0 none) me)
-  loads_posted n id me d w is idle inside s r _ at _ = let i : ℕ = 16 * w in let x : ℕ = get_or s.words i 0 in
+      → Allows (LanesHold key) n id me (16 * w + 8) (λ x. x) (posted_loaded (step n (16 * w + 8) 0 0 none) me)
+  loads_posted n id me d w is idle inside s r _ at _ = let i : ℕ = 16 * w + 8 in let x : ℕ = get_or s.words i 0 in
       let f = storage_state_of s r id me.0 d at is in let lane = lane_at s r d w f.1 inside in
       let t : ℕ = settled_count d w in let c : WorkerState = r.states w in
       let x_is : x ≡ length (messages c) = lane.posted_is in
       let few = one_more_look d w x r.states (λ _. let h : x ≤ length (messages c) = omega arith in h) in
       let tell : (m' : SeatState) → PostedTells d w x me.1 m'
-      → posted_loaded (step n i 0 0 none) me x m' = λ m' h d₂ w₂ is₂ word. let same : 16 * w ≡ 16 * w₂ = word in
+      → posted_loaded (step n i 0 0 none) me x m' = λ m' h d₂ w₂ is₂ word. let same : 16 * w + 8 ≡ 16 * w₂ + 8 = word in
       let e : w ≡ w₂ = omega arith in
       subst (λ (z : StorageState × ℕ). PostedTells z.0 z.1 x me.1 m')
       (λ j. (storage_state_or d ((sym is ∙ is₂) j), e j)) h in
@@ -194,11 +195,11 @@ module _ (key : LaneKey) where
         storage_moves key s r id d d' w (set s.words i x) s.homes (at ∙ ap (λ (z : LaneView). some z) is) refl refl
             (legal_of s r d f.1) (legal_told_of s r d f.1) (first_of s r d f.1) (starts_self d.told)
             (length-set s.words i x) refl
-            (λ j _. (loaded key s.words i (16 * j), loaded key s.words i (16 * j + 8), λ _. refl))
+            (λ j _. (loaded key s.words i (16 * j + 8), loaded key s.words i (16 * j + 16), λ _. refl))
             (λ _ _. (refl, refl, refl, refl))
             (λ _. lane_same c _ _ _ _ _ _ _ _ _ _ _ _ (at_home s.homes w)
-            (at_home s.homes w) refl refl refl refl (loaded key s.words i (16 * w))
-            (loaded key s.words i (16 * w + 8)) (λ _. refl) lane) few,
+            (at_home s.homes w) refl refl refl refl (loaded key s.words i (16 * w + 8))
+            (loaded key s.words i (16 * w + 16)) (λ _. refl) lane) few,
         tell (Storage d', me.1) ((λ _. refl), λ gt. let gt' : t < x = gt in absurd (omega arith)),
       ))
       (λ gt. takes_next s r id i me d (looked_at d w x).looks w (posted_loaded (step n i 0 0 none) me x) is idle inside
@@ -209,15 +210,15 @@ module _ (key : LaneKey) where
   pub opens_seen : (n id : ℕ) (me : SeatState) (d : StorageState) (w k p : ℕ) → me.0 ≡ Storage d → d.holding ≡ None
       → w < key.workers
       → get_elem? d.looks k ≡ some (w, p) → settled_count d w < p
-      → Allows (LanesHold key) n id me (16 * w + 8) (λ x. x) (seen_opened (step n (16 * w + 8) 0 0 none) me)
-  opens_seen n id me d w k p is idle inside look more s r _ at _ = let i : ℕ = 16 * w + 8 in
+      → Allows (LanesHold key) n id me (16 * w + 16) (λ x. x) (seen_opened (step n (16 * w + 16) 0 0 none) me)
+  opens_seen n id me d w k p is idle inside look more s r _ at _ = let i : ℕ = 16 * w + 16 in
       let f = storage_state_of s r id me.0 d at is in let c : WorkerState = r.states w in
       let named : p ≤ length (messages c) =
       r.looked k w p (subst (λ (z : StorageState). get_elem? z.looks k ≡ some (w, p)) (sym f.1) look) inside in
       let more' : settled_count d w < p = more in
       takes_next s r id i me d d.looks w (seen_opened (step n i 0 0 none) me (get_or s.words i 0)) is idle inside at
       (let h : settled_count d w < length (messages c) = omega arith in h) (λ _ _ _ e. inl e)
-      (λ m' seen d₂ w₂ k₂ p₂ is₂ word look₂ more₂. let same : 16 * w + 8 ≡ 16 * w₂ + 8 = word in
+      (λ m' seen d₂ w₂ k₂ p₂ is₂ word look₂ more₂. let same : 16 * w + 16 ≡ 16 * w₂ + 16 = word in
       let e : w ≡ w₂ = omega arith in
       subst (λ (z : StorageState × ℕ). SeenTells z.0 z.1 me.1 m')
       (λ j. (storage_state_or d ((sym is ∙ is₂) j), e j)) seen)
@@ -246,8 +247,8 @@ module _ (key : LaneKey) where
             (starts_longer d.history d.told (a ∷ []) (first_of s r d f.1)) (starts_self d.told)
             (length-set s.words i x) (length-set s.homes (lane_slot w t) (some v))
             (λ j other. (
-              loaded key s.words i (16 * j),
               loaded key s.words i (16 * j + 8),
+              loaded key s.words i (16 * j + 16),
               λ k. slot_other s.homes w t (some v) j k other,
             ))
             (λ j other. (
@@ -259,8 +260,8 @@ module _ (key : LaneKey) where
             ))
             (λ _. lane_same c _ _ _ _ _ _ _ _ _ _ _ _ (at_home homes' w) (at_home homes' w)
             (share_mine d.history a w mine) refl refl refl
-            (loaded key s.words i (16 * w))
-            (loaded key s.words i (16 * w + 8)) (λ _. refl)
+            (loaded key s.words i (16 * w + 8))
+            (loaded key s.words i (16 * w + 16)) (λ _. refl)
             (replies c _ _ _ _ _ _ (at_home s.homes w) lane (at_home homes' w) p a open_is for
             (slot_here s.homes w t (some v) near)
             (slot_else s.homes w t (some v)))) (λ _ _ _ e. inl e),
@@ -274,9 +275,9 @@ module _ (key : LaneKey) where
   -- the store of done, for all answers of the lane
   pub tells_it : (n id : ℕ) (me : SeatState) (d : StorageState) (w : ℕ) → me.0 ≡ Storage d → w < key.workers
       → ((j : ℕ) → j ≢ w → worker_share d.history j ≡ worker_share d.told j)
-      → Allows (LanesHold key) n id me (16 * w + 8) (λ _. settled_count d w)
-      (λ _. told_done (step n (16 * w + 8) (settled_count d w) 0 none) me (settled_count d w))
-  tells_it n id me d w is inside others s r _ at _ = let t : ℕ = settled_count d w in let i : ℕ = 16 * w + 8 in
+      → Allows (LanesHold key) n id me (16 * w + 16) (λ _. settled_count d w)
+      (λ _. told_done (step n (16 * w + 16) (settled_count d w) 0 none) me (settled_count d w))
+  tells_it n id me d w is inside others s r _ at _ = let t : ℕ = settled_count d w in let i : ℕ = 16 * w + 16 in
       let at' : get_elem? s.views id ≡ some (Storage d) = at ∙ ap (λ (z : LaneView). some z) is in
       let f = r.each_view id (Storage d) at' in
       let lane = lane_at s r d w f.1 inside in let wide = r.wide in let c : WorkerState = r.states w in
@@ -288,14 +289,14 @@ module _ (key : LaneKey) where
             (starts_self d.history)
             (first_of s r d f.1) (length-set s.words i t) refl
             (λ j other. (
-              get_or-set_other s.words i (16 * j) t 0 (λ e. omega arith),
-              get_or-set_other s.words i (16 * j + 8) t 0
+              get_or-set_other s.words i (16 * j + 8) t 0 (λ e. omega arith),
+              get_or-set_other s.words i (16 * j + 16) t 0
                   (λ e. other (omega arith)),
               λ k. refl,
             ))
             (λ j other. (refl, others j other, refl, refl))
             (λ _. lane_same c _ _ _ _ _ _ _ _ _ _ _ _ (at_home s.homes w) (at_home s.homes w) refl refl refl refl
-            (get_or-set_other s.words i (16 * w) t 0 (λ e. omega arith))
+            (get_or-set_other s.words i (16 * w + 8) t 0 (λ e. omega arith))
             (get_or-set_same s.words i t 0 (omega arith)) (λ _. refl)
             (tells c _ _ _ _ _ _ (at_home s.homes w) lane)) (λ _ _ _ e. inl e),
         λ d₂ is₂. λ j. (Storage (all_told (storage_state_or d ((sym is ∙ is₂) j))), me.1),
@@ -303,11 +304,11 @@ module _ (key : LaneKey) where
 
   -- the store of done, after a Bye
   pub settles_bye_it : (n id : ℕ) (d : StorageState) (w : ℕ) → d.holding ≡ Some (w, Bye) → w < key.workers
-      → Allows (LanesHold key) n id (Storage d, (lane_slot w (settled_count d w), None) ∷ []) (16 * w + 8)
+      → Allows (LanesHold key) n id (Storage d, (lane_slot w (settled_count d w), None) ∷ []) (16 * w + 16)
       (λ _. suc (settled_count d w))
-      (λ _. settle_bye (step n (16 * w + 8) (suc (settled_count d w)) 0 none)
+      (λ _. settle_bye (step n (16 * w + 16) (suc (settled_count d w)) 0 none)
       (Storage d, (lane_slot w (settled_count d w), None) ∷ []) (suc (settled_count d w)))
-  settles_bye_it n id d w held inside s r _ at _ = let t : ℕ = settled_count d w in let i : ℕ = 16 * w + 8 in
+  settles_bye_it n id d w held inside s r _ at _ = let t : ℕ = settled_count d w in let i : ℕ = 16 * w + 16 in
       let f = r.each_view id (Storage d) at in
       let lane = lane_at s r d w f.1 inside in let wide = r.wide in let deep = r.deep in
       let c : WorkerState = r.states w in
@@ -322,8 +323,8 @@ module _ (key : LaneKey) where
             (starts_self d.told) (length-set s.words i (suc t))
             (length-set s.homes (lane_slot w t) (some v))
             (λ j other. (
-              get_or-set_other s.words i (16 * j) (suc t) 0 (λ e. omega arith),
-              get_or-set_other s.words i (16 * j + 8) (suc t) 0
+              get_or-set_other s.words i (16 * j + 8) (suc t) 0 (λ e. omega arith),
+              get_or-set_other s.words i (16 * j + 16) (suc t) 0
                   (λ e. other (omega arith)),
               λ k. slot_other s.homes w t (some v) j k other,
             ))
@@ -335,7 +336,7 @@ module _ (key : LaneKey) where
             ))
             (λ _. lane_same c _ _ _ _ _ _ _ _ _ _ _ _ (at_home homes' w)
             (at_home homes' w) refl refl (times_mine w d.byes) refl
-            (get_or-set_other s.words i (16 * w) (suc t) 0 (λ e. omega arith))
+            (get_or-set_other s.words i (16 * w + 8) (suc t) 0 (λ e. omega arith))
             (get_or-set_same s.words i (suc t) 0 (omega arith)) (λ _. refl)
             (settles_bye c _ _ _ _ _ _ (at_home s.homes w) lane (at_home homes' w) open_is
             (slot_else s.homes w t (some v)))) (λ _ _ _ e. inl e),
@@ -355,8 +356,7 @@ module _ (key : LaneKey) where
       let c : WorkerState = first_worker_state d.terms d.made in let w : LaneView = Storage d' in
       let is' : r.storage_state ≡ d = f.1 in
       let same_terms : d.terms ≡ key.terms = ap (λ (z : StorageState). z.terms) (sym is') ∙ r.same_terms in
-      let long : length (set s.views id w) ≡ suc d.made =
-      length-set s.views id w ∙ (r.count ∙ ap (λ (z : StorageState). suc z.made) is') in record {
+      record {
         states = r.states;
         storage_state = d';
         legal = legal_of s r d is';
@@ -372,30 +372,32 @@ module _ (key : LaneKey) where
             (λ (h : get_elem? (set s.views id w) j ≡ some u). ⊎_elim
             (λ (x : (j ≡ id) × (w ≡ u)). subst (λ (z : ℕ × LaneView). Fits key r.states d' z.0 z.1)
             (λ i. (sym x.0 i, x.1 i)) (f.0, refl))
-            (λ (x : (j ≢ id) × (get_elem? s.views j ≡ some u)). stay s r d' j u (λ e. x.0 (e ∙ sym f.0))
-            (r.each_view j u x.1))
+            (λ (x : (j ≢ id) × (get_elem? s.views j ≡ some u)). fits_later key r.states d d' j u
+            (λ e. x.0 (e ∙ sym f.0)) (let g : d.made ≤ suc d.made = omega arith in g) (starts_self d.told)
+            (subst (λ (z : StorageState). Fits key r.states z j u) is' (r.each_view j u x.1)))
             (at_set s.views id j w u h))
             (λ (h : (j ≡ length (set s.views id w)) × (Worker c ≡ u)).
-            subst (λ (z : ℕ × LaneView). Fits key r.states d' z.0 z.1) (λ i. (sym (h.0 ∙ long) i, h.1 i)) (
-              refl,
+            subst (λ (z : LaneView). Fits key r.states d' j z) h.1 (
+              (let g : d.made < suc d.made = omega arith in g),
               r.later d.made (subst (λ (z : StorageState). z.made ≤ d.made) (sym is') (le_refl d.made))
                   ∙ ap (λ z. first_worker_state z d.made) (sym same_terms),
               room,
             ))
             (at_end (set s.views id w) (Worker c) j u e);
-        count = length-append (set s.views id w) (Worker c ∷ []) ∙ (omega (arith, long));
+        apart = apart_more (set s.views id w) (Worker c)
+            (λ j n u at_j is_u is_c. ⊎_elim
+            (λ (x : (j ≡ id) × (w ≡ u)). some-ne-none n (sym (ap worker_seated x.1 ∙ is_u)))
+            (λ (x : (j ≢ id) × (get_elem? s.views j ≡ some u)).
+            let low : n < d.made = subst (λ (z : StorageState). n < z.made) is'
+            (made_before key r.states r.storage_state j n u is_u (r.each_view j u x.1)) in
+            let same : d.made ≡ n = some-injective d.made n is_c in absurd (omega arith))
+            (at_set s.views id j w u at_j))
+            (apart_set s.views id (Storage d) w at (λ n e. absurd (some-ne-none n (sym e))) r.apart);
         looked = λ k j n e l. r.looked k j n
             (subst (λ (z : StorageState). get_elem? z.looks k ≡ some (j, n)) (sym is') e) l;
         later = λ j l. r.later j (subst (λ (z : StorageState). z.made ≤ j) (sym is')
             (let l' : suc d.made ≤ j = l in let g : d.made ≤ j = omega arith in g));
       })
-    where
-      stay : (s : St) (r : LanesHold key s) (d' : StorageState) (j : ℕ) (v : LaneView) → j ≢ 0
-          → Fits key r.states r.storage_state j v → Fits key r.states d' j v
-      stay s r d' j Nobody other f = tt
-      stay s r d' j (Worker u) other f = f
-      stay s r d' j (Storage e) other f = absurd (other f.0)
-      stay s r d' j (Comparing e u) other f = absurd (other f.0)
 
   -- storage joins a worker
   pub joins : (id other : ℕ) (v u : LaneView) (d : StorageState) (c : WorkerState) → v ≡ Storage d → u ≡ Worker c
@@ -446,7 +448,8 @@ module _ (key : LaneKey) where
         each_view = λ j x e. ⊎_elim
             (λ (h : (j ≡ other) × (Nobody ≡ x)). subst (λ (z : LaneView). Fits key r.states r.storage_state j z) h.1 tt)
             (λ (h : (j ≢ other) × (get_elem? vs j ≡ some x)). at_w j x h.1) (at_set vs other j Nobody x e);
-        count = length-set vs other Nobody ∙ (length-set s.views id both ∙ r.count);
+        apart = apart_set vs other (Worker c) Nobody there (λ n e. absurd (some-ne-none n (sym e)))
+            (apart_set s.views id (Storage d) both at (λ n e. absurd (some-ne-none n (sym e))) r.apart);
         looked = r.looked;
         later = r.later;
       })
@@ -491,7 +494,7 @@ module _ (key : LaneKey) where
                   (λ (x : (j ≡ id) × (w ≡ u)). subst (λ (z : ℕ × LaneView). Fits key r.states r.storage_state z.0 z.1)
                   (λ i. (sym x.0 i, x.1 i)) (f.0, f.1))
                   (λ (x : (j ≢ id) × (get_elem? s.views j ≡ some u)). r.each_view j u x.1) (at_set s.views id j w u e);
-              count = length-set s.views id w ∙ r.count;
+              apart = apart_set s.views id (Comparing d c) w at' (λ n e. absurd (some-ne-none n (sym e))) r.apart;
               looked = r.looked;
               later = r.later;
             },
@@ -511,7 +514,7 @@ module _ (key : LaneKey) where
   all_vacant (suc n) (suc i) a h = all_vacant n i a (omega arith)
 
   -- the table at the start
-  pub starts : (words : List ℕ) (slots : ℕ) → length words ≡ 16 * key.workers → slots ≡ WINDOW * key.workers
+  pub starts : (words : List ℕ) (slots : ℕ) → length words ≡ 16 * key.workers + 8 → slots ≡ WINDOW * key.workers
       → ((i : ℕ) → get_or words i 0 ≡ 0)
       → LanesHold key (opening words (replicate slots None) (opening_view key))
   starts words slots wide deep blank = record {
@@ -525,13 +528,13 @@ module _ (key : LaneKey) where
     deep = length-map (replicate slots None) (λ (x : Option LaneMessage). some x)
         ∙ (length-replicate slots None ∙ deep);
     each_lane = λ w l. record {
-      posted_is = blank (16 * w);
-      done_is = blank (16 * w + 8);
+      posted_is = blank (16 * w + 8);
+      done_is = blank (16 * w + 16);
       order = (
-        let a = blank (16 * w) in let b = blank (16 * w + 8) in
-            let g : get_or words (16 * w + 8) 0 ≤ get_or words (16 * w) 0 = omega (arith, a, b) in g,
-        let a = blank (16 * w) in let b = blank (16 * w + 8) in
-            let g : get_or words (16 * w) 0 ≤ get_or words (16 * w + 8) 0 + WINDOW = omega (arith, a, b) in g,
+        let a = blank (16 * w + 8) in let b = blank (16 * w + 16) in
+            let g : get_or words (16 * w + 16) 0 ≤ get_or words (16 * w + 8) 0 = omega (arith, a, b) in g,
+        let a = blank (16 * w + 8) in let b = blank (16 * w + 16) in
+            let g : get_or words (16 * w + 8) 0 ≤ get_or words (16 * w + 16) 0 + WINDOW = omega (arith, a, b) in g,
       );
       asked_is = refl;
       answered = omega arith;
@@ -551,7 +554,7 @@ module _ (key : LaneKey) where
     };
     each_seen = λ w l. (([], refl), refl, refl);
     each_view = λ j v e. first j v e;
-    count = refl;
+    apart = apart_one (opening_view key) refl;
     looked = λ k w n e _. absurd (some-ne-none (w, n) (sym e));
     later = λ w l. refl;
   }

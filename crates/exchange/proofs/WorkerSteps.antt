@@ -17,7 +17,7 @@ use Rattle.exchange.specs.declared.messages.LaneKey.{LaneKey}
 use Rattle.exchange.specs.declared.rule.WorkerState.{WorkerState}
 use Rattle.exchange.specs.declared.rule.StorageState.{StorageState}
 use Rattle.exchange.specs.declared.rule.LaneView.{LaneView}
-use Rattle.exchange.specs.declared.rule.LaneView.TheVariants.{Nobody, Worker, Storage, Comparing}
+use Rattle.exchange.specs.declared.rule.LaneView.TheVariants.{Nobody, Worker, Storage, Comparing, Told, TwoTold, Checking}
 use Rattle.exchange.specs.Beginnings.{StartsWith}
 use Rattle.proto.specs.History.{worker_share, LegalBy}
 use Rattle.exchange.specs.Lanes.{Homes, SeatState, messages, open_at, count_of, lane_slot, at_home, LaneIs, LanesHold}
@@ -38,6 +38,9 @@ worker_state_or c (Worker d) = d
 worker_state_or c Nobody = c
 worker_state_or c (Storage d) = c
 worker_state_or c (Comparing d e) = e
+worker_state_or c (Told t) = c
+worker_state_or c (TwoTold t u) = c
+worker_state_or c (Checking d t) = d
 
 -- what storage knows, or else
 abbrev pub storage_state_or : StorageState → LaneView → StorageState
@@ -45,6 +48,9 @@ storage_state_or d (Storage e) = e
 storage_state_or d Nobody = d
 storage_state_or d (Worker c) = d
 storage_state_or d (Comparing e c) = e
+storage_state_or d (Told t) = d
+storage_state_or d (TwoTold t u) = d
+storage_state_or d (Checking c t) = d
 
 -- what stands in a slot, or else
 abbrev pub item_or : Option LaneMessage → List (ℕ × Option LaneMessage) → Option LaneMessage
@@ -90,13 +96,13 @@ module _ (key : LaneKey) where
   worker_load s r i id c c' homes' at same terms more deep others lane seen =
       worker_moves key s r id c c' (set s.words i (get_or s.words i 0)) homes' at same terms more
       (length-set s.words i (get_or s.words i 0)) deep
-      (λ j other. (loaded s.words i (16 * j), loaded s.words i (16 * j + 8), λ k. others j k other))
+      (λ j other. (loaded s.words i (16 * j + 8), loaded s.words i (16 * j + 16), λ k. others j k other))
       (lane_same c' _ _ _ _ _ _ _ _ _ _ _ _ (at_home homes' c.worker)
-      (at_home homes' c.worker) refl refl refl refl (loaded s.words i (16 * c.worker))
-      (loaded s.words i (16 * c.worker + 8)) (λ _. refl) lane) seen
+      (at_home homes' c.worker) refl refl refl refl (loaded s.words i (16 * c.worker + 8))
+      (loaded s.words i (16 * c.worker + 16)) (λ _. refl) lane) seen
 
   -- what the worker has seen begins the history
-  seen_of : (s : St) (r : LanesHold key s) (c : WorkerState) → r.states c.worker ≡ c → c.worker < key.workers
+  pub seen_of : (s : St) (r : LanesHold key s) (c : WorkerState) → r.states c.worker ≡ c → c.worker < key.workers
       → StartsWith r.storage_state.told c.seen
   seen_of s r c is inside = subst (λ (z : WorkerState). StartsWith r.storage_state.told z.seen) is
       (r.each_seen c.worker inside).0
@@ -150,29 +156,29 @@ module _ (key : LaneKey) where
 
   -- the store of posted
   pub posts_it : (n id : ℕ) (c : WorkerState) → c.slot_held ≡ 0 → c.said_bye ≡ false
-      → Allows (LanesHold key) n id (Worker c, []) (16 * c.worker) (λ _. placed_count c)
-      (λ _. tells_post (step n (16 * c.worker) (placed_count c) 0 none) (Worker c, [])
+      → Allows (LanesHold key) n id (Worker c, []) (16 * c.worker + 8) (λ _. placed_count c)
+      (λ _. tells_post (step n (16 * c.worker + 8) (placed_count c) 0 none) (Worker c, [])
       (placed_count c))
   posts_it n id c idle open_ s r _ at _ = let w : ℕ = c.worker in let k : ℕ = placed_count c in
       let f = r.each_view id (Worker c) at in
       let lane = lane_of key s r c f.1 f.2 in let wide = r.wide in let inside : w < key.workers = f.2 in
       let c' : WorkerState = all_sent c in
-      let words' : List ℕ = set s.words (16 * w) k in (
+      let words' : List ℕ = set s.words (16 * w + 8) k in (
         Worker c',
         keeps,
         tt,
         worker_moves key s r id c c' words' s.homes at refl refl (let is = all_more c open_ in
             let long : length (messages c') ≡ length (messages c) + length (map Ask c.put) =
             ap length is ∙ length-append (messages c) (map Ask c.put) in
-            let g : length (messages c) ≤ length (messages c') = omega arith in g) (length-set s.words (16 * w) k) refl
+            let g : length (messages c) ≤ length (messages c') = omega arith in g) (length-set s.words (16 * w + 8) k) refl
             (λ j other. (
-              get_or-set_other s.words (16 * w) (16 * j) k 0 (λ e. other (omega arith)),
-              get_or-set_other s.words (16 * w) (16 * j + 8) k 0 (λ e. omega arith),
+              get_or-set_other s.words (16 * w + 8) (16 * j + 8) k 0 (λ e. other (omega arith)),
+              get_or-set_other s.words (16 * w + 8) (16 * j + 16) k 0 (λ e. omega arith),
               λ q. refl,
             ))
             (lane_same c' _ _ _ _ _ _ _ _ _ _ _ _ (at_home s.homes w) (at_home s.homes w) refl refl refl refl
-            (get_or-set_same s.words (16 * w) k 0 (omega arith))
-            (get_or-set_other s.words (16 * w) (16 * w + 8) k 0 (λ e. omega arith)) (λ _. refl)
+            (get_or-set_same s.words (16 * w + 8) k 0 (omega arith))
+            (get_or-set_other s.words (16 * w + 8) (16 * w + 16) k 0 (λ e. omega arith)) (λ _. refl)
             (sends c _ _ _ _ _ _ (at_home s.homes w) lane idle open_))
             (seen_of s r c f.1 f.2),
         λ c₂ e. λ i. (Worker (all_sent (worker_state_or c (e i).0)), []),
@@ -181,9 +187,9 @@ module _ (key : LaneKey) where
   -- the same with the Bye
   pub posts_bye : (n id : ℕ) (c : WorkerState) → c.put ≡ [] → c.slot_held ≡ suc (placed_count c) → c.said_bye ≡ false
       → length c.back ≡ length c.sent
-      → Allows (LanesHold key) n id (Worker c, (lane_slot c.worker (placed_count c), Some Bye) ∷ []) (16 * c.worker)
+      → Allows (LanesHold key) n id (Worker c, (lane_slot c.worker (placed_count c), Some Bye) ∷ []) (16 * c.worker + 8)
       (λ _. suc (placed_count c))
-      (λ _. bye_posted (step n (16 * c.worker) (suc (placed_count c)) 0 none)
+      (λ _. bye_posted (step n (16 * c.worker + 8) (suc (placed_count c)) 0 none)
       (Worker c, (lane_slot c.worker (placed_count c), Some Bye) ∷ [])
       (suc (placed_count c)))
   posts_bye n id c none_put slot_held open_ all s r _ at _ = let w : ℕ = c.worker in let k : ℕ = placed_count c in
@@ -193,8 +199,8 @@ module _ (key : LaneKey) where
       let v : Option LaneMessage = Some Bye in
       let near : lane_slot w k < length s.homes =
       subst (λ (z : ℕ). lane_slot w k < z) (sym deep) (slot_below key.workers w k inside) in
-      let homes' : Homes = set s.homes (lane_slot w k) (some v) in let words' : List ℕ = set s.words (16 * w) (suc k) in
-      let was : get_or s.words (16 * w) 0 ≡ k = lane.posted_is
+      let homes' : Homes = set s.homes (lane_slot w k) (some v) in let words' : List ℕ = set s.words (16 * w + 8) (suc k) in
+      let was : get_or s.words (16 * w + 8) 0 ≡ k = lane.posted_is
       ∙ (count c ∙ (omega (arith, ap Rattle.exchange.proofs.Lane.bye_count open_, ap length none_put))) in (
         Worker c',
         gives,
@@ -203,16 +209,16 @@ module _ (key : LaneKey) where
             let long : length (messages c') ≡ length (messages c) + 1 =
             ap length is ∙ length-append (messages c) (Bye ∷ []) in
             let g : length (messages c) ≤ length (messages c') = omega arith in
-            g) (length-set s.words (16 * w) (suc k)) (length-set s.homes (lane_slot w k) (some v))
+            g) (length-set s.words (16 * w + 8) (suc k)) (length-set s.homes (lane_slot w k) (some v))
             (λ j other. (
-              get_or-set_other s.words (16 * w) (16 * j) (suc k) 0 (λ e. other (omega arith)),
-              get_or-set_other s.words (16 * w) (16 * j + 8)
+              get_or-set_other s.words (16 * w + 8) (16 * j + 8) (suc k) 0 (λ e. other (omega arith)),
+              get_or-set_other s.words (16 * w + 8) (16 * j + 16)
                   (suc k) 0 (λ e. omega arith),
               λ q. slot_other s.homes w k (some v) j q other,
             ))
             (lane_same c' _ _ _ _ _ _ _ _ _ _ _ _ (at_home homes' w) (at_home homes' w) refl refl refl refl
-            (get_or-set_same s.words (16 * w) (suc k) 0 (omega arith) ∙ ap suc (sym was))
-            (get_or-set_other s.words (16 * w) (16 * w + 8) (suc k) 0 (λ e. omega arith)) (λ _. refl)
+            (get_or-set_same s.words (16 * w + 8) (suc k) 0 (omega arith) ∙ ap suc (sym was))
+            (get_or-set_other s.words (16 * w + 8) (16 * w + 16) (suc k) 0 (λ e. omega arith)) (λ _. refl)
             (posts_last c _ _ _ _ _ _ (at_home s.homes w) lane _ none_put slot_held open_ all
             (slot_here s.homes w k (some v) near) (slot_else s.homes w k (some v))))
             (seen_of s r c f.1 f.2),
@@ -221,9 +227,9 @@ module _ (key : LaneKey) where
 
   -- the load of done
   pub loads_done : (n id : ℕ) (me : SeatState) (c : WorkerState) → me.0 ≡ Worker c → c.slot_held ≡ 0
-      → Allows (LanesHold key) n id me (16 * c.worker + 8) (λ x. x)
-      (done_loaded (step n (16 * c.worker + 8) 0 0 none) me)
-  loads_done n id me c is idle s r _ at _ = let w : ℕ = c.worker in let i : ℕ = 16 * w + 8 in
+      → Allows (LanesHold key) n id me (16 * c.worker + 16) (λ x. x)
+      (done_loaded (step n (16 * c.worker + 16) 0 0 none) me)
+  loads_done n id me c is idle s r _ at _ = let w : ℕ = c.worker in let i : ℕ = 16 * w + 16 in
       let x : ℕ = get_or s.words i 0 in let b : ℕ = length c.back in
       let g : List Answered = r.storage_state.told in let mine : List Answered = worker_share g w in
       let all_mine : List Answered = worker_share r.storage_state.history w in

@@ -15,6 +15,10 @@ use Rattle.exchange.specs.declared.messages.Taken.TheVariants.{Asked, Bye}
 use Rattle.proto.specs.Counts.{times}
 use Rattle.exchange.specs.Beginnings.{StartsWith}
 
+-- which exchange it is
+abbrev pub ExchangeId : Type 0
+ExchangeId = TableId
+
 -- What a worker knows: the exchange that its end belongs to, the terms by which histories are legal, the
 -- requests that it sent, whether it said bye, the answers that it took back, the history that it was told
 -- of last, and the counts of done messages that it read, one a `take`.
@@ -54,6 +58,11 @@ pub record WorkerBatchView : Type 0 where
 pub record StorageBatchView : Type 0 where
   pub end : StorageView
   pub told : List Answered
+
+-- A history that a worker was told of, and the exchange at which it was.
+pub record ToldView : Type 0 where
+  pub exchange : TableId
+  pub items : List Answered
 
 -- Making
 

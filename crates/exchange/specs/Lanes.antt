@@ -1,6 +1,6 @@
 -- The rule of the lanes, and what each step tells.
--- A lane has the words 16 * lane (posted) and 16 * lane + 8 (done), and the slots from WINDOW * lane on. The words that
--- are used lie 64 bytes apart, so that no two share a cache line. A message uses the slot
+-- A lane has the words 16 * lane + 8 (posted) and 16 * lane + 16 (done), and the slots from WINDOW * lane on. These words,
+-- and word 0, which is never stored, lie 64 bytes apart, so that no two share a cache line. A message uses the slot
 -- WINDOW * lane + number % WINDOW, where the numbers begin at 0.
 use Rattle.std.specs.Prelude.{◌≡◌, ◌≢◌, ℕ, suc, ◌+◌, ◌*◌, ◌%◌, ◌<◌, ◌≤◌, List, [], ◌∷◌, ◌++◌, map, length, take, slice_index, Option, Some, None, Bool}
 use Rattle.std.specs.Prelude.{true, false, ◌==◌, if◌then◌else◌}
@@ -18,7 +18,7 @@ use Rattle.exchange.specs.declared.messages.LaneKey.{LaneKey}
 use Rattle.exchange.specs.declared.rule.WorkerState.{WorkerState}
 use Rattle.exchange.specs.declared.rule.StorageState.{StorageState}
 use Rattle.exchange.specs.declared.rule.LaneView.{LaneView}
-use Rattle.exchange.specs.declared.rule.LaneView.TheVariants.{Nobody, Worker, Storage, Comparing}
+use Rattle.exchange.specs.declared.rule.LaneView.TheVariants.{Nobody, Worker, Storage, Comparing, Told, TwoTold, Checking}
 use Rattle.proto.specs.Counts.{times}
 use Rattle.exchange.specs.Beginnings.{StartsWith}
 use Rattle.proto.specs.History.{worker_share, asked_posted, LegalBy}
@@ -112,7 +112,7 @@ pub record LaneOk (worker : WorkerState) (mine told : List Answered) (byes : ℕ
 abbrev pub LaneIs : List ℕ → Homes → StorageState → WorkerState → ℕ → Type 0
 LaneIs words homes storage worker lane =
     LaneOk worker (worker_share storage.history lane) (worker_share storage.told lane) (times lane storage.byes)
-    (open_at storage.holding lane) (slice_index words (16 * lane)) (slice_index words (16 * lane + 8))
+    (open_at storage.holding lane) (slice_index words (16 * lane + 8)) (slice_index words (16 * lane + 16))
     (at_home homes lane)
 
 -- What storage and a worker find where their ends come together
@@ -129,14 +129,35 @@ pub record Agree (storage : StorageState) (worker : WorkerState) : Type 0 where
   pub all_back : worker.said_bye ≡ true → length worker.back ≡ length worker.sent
   pub leaves : 0 < times worker.worker storage.byes → worker.said_bye ≡ true
 
--- The view of each seat is what the states say: the first seat is storage's, and then come the workers'.
+-- The view of each seat is what the states say: the first seat is storage's. The history of a seat that knows no more
+-- than one begins what was told.
 module _ (key : LaneKey) (states : ℕ → WorkerState) (storage_state : StorageState) where
   abbrev pub Fits : ℕ → LaneView → Type 0
   Fits seat Nobody = Unit {0}
-  Fits seat (Worker worker) = (seat ≡ suc worker.worker) × (states worker.worker ≡ worker)
+  Fits seat (Worker worker) = (worker.worker < storage_state.made) × (states worker.worker ≡ worker)
       × (worker.worker < key.workers)
   Fits seat (Storage storage) = (seat ≡ 0) × (storage_state ≡ storage)
   Fits seat (Comparing storage worker) = (seat ≡ 0) × (storage_state ≡ storage) × Agree storage worker
+  Fits seat (Told told) = StartsWith storage_state.told told
+  Fits seat (TwoTold told other) = StartsWith storage_state.told told × StartsWith storage_state.told other
+  Fits seat (Checking worker told) = ((worker.worker < storage_state.made) × (states worker.worker ≡ worker)
+      × (worker.worker < key.workers)) × StartsWith storage_state.told told
+
+-- the worker whose seat this is
+abbrev pub worker_seated : LaneView → maybe.Option ℕ
+worker_seated Nobody = none
+worker_seated (Worker worker) = some worker.worker
+worker_seated (Storage storage) = none
+worker_seated (Comparing storage worker) = none
+worker_seated (Told told) = none
+worker_seated (TwoTold told other) = none
+worker_seated (Checking worker told) = some worker.worker
+
+-- no two seats are of one worker
+abbrev pub AreApart : List LaneView → Type 0
+AreApart views = (seat other : ℕ) (view other_view : LaneView) (worker : ℕ) → get_elem? views seat ≡ some view
+    → get_elem? views other ≡ some other_view → worker_seated view ≡ some worker → worker_seated other_view ≡ some worker
+    → seat ≡ other
 
 -- what a worker knows at first
 abbrev pub first_worker_state : Terms → ℕ → WorkerState
@@ -174,7 +195,7 @@ pub record LanesHold (key : LaneKey) (table : State (Option LaneMessage) LaneVie
   pub legal_told : LegalBy key.terms storage_state.told
   pub told_first : StartsWith storage_state.history storage_state.told
   pub same_terms : storage_state.terms ≡ key.terms
-  pub wide : length table.words ≡ 16 * key.workers
+  pub wide : length table.words ≡ 16 * key.workers + 8
   pub deep : length table.homes ≡ WINDOW * key.workers
   pub each_lane : (lane : ℕ) → lane < key.workers → LaneIs table.words table.homes storage_state (states lane) lane
   pub each_seen : (lane : ℕ) → lane < key.workers
@@ -182,7 +203,7 @@ pub record LanesHold (key : LaneKey) (table : State (Option LaneMessage) LaneVie
       × ((states lane).worker ≡ lane)
   pub each_view : (seat : ℕ) (view : LaneView) → get_elem? table.views seat ≡ some view
       → Fits key states storage_state seat view
-  pub count : length table.views ≡ suc storage_state.made
+  pub apart : AreApart table.views
   pub looked : (place lane posted : ℕ) → get_elem? storage_state.looks place ≡ some (lane, posted) → lane < key.workers
       → posted ≤ length (messages (states lane))
   pub later : (lane : ℕ) → storage_state.made ≤ lane → states lane ≡ first_worker_state key.terms lane

@@ -19,10 +19,10 @@ use Rattle.exchange.specs.declared.messages.LaneMessage.TheVariants.{Ask, Bye, A
 use Rattle.exchange.specs.declared.rule.WorkerState.{WorkerState}
 use Rattle.exchange.specs.declared.rule.StorageState.{StorageState}
 use Rattle.exchange.specs.declared.rule.LaneView.{LaneView}
-use Rattle.exchange.specs.declared.rule.LaneView.TheVariants.{Nobody, Worker, Storage, Comparing}
+use Rattle.exchange.specs.declared.rule.LaneView.TheVariants.{Nobody, Worker, Storage, Comparing, Told, TwoTold, Checking}
 use Rattle.exchange.specs.Lanes.{SeatState, known_by, slots_of, lane_slot, first_worker_state, first_storage_state}
 use Rattle.exchange.specs.Steps.{placed_count, learnt_of, settled_count, Learnt, looked_at, with_message_held, IsSent}
-use Rattle.exchange.specs.Ends.{WorkerView, WorkerBatchView, StorageView, StorageBatchView, max_posts, LastLook}
+use Rattle.exchange.specs.Ends.{WorkerView, WorkerBatchView, StorageView, StorageBatchView, ToldView, max_posts, LastLook}
 
 -- The views
 
@@ -79,7 +79,7 @@ storage_batch_view table workers last storage = record {
 
 -- some sizes, for views that aren't a worker's or storage's
 abbrev pub any_terms : Terms
-any_terms = record { geometry = record { segment_size = 4096; segments = 8 }; system_clock = false }
+any_terms = record { geometry = record { segment_size = 4096; segments = 8 }; system_clock = false; may_refuse = true }
 
 -- what the view of a worker's seat says
 abbrev pub worker_state_in : LaneView → WorkerState
@@ -87,6 +87,9 @@ worker_state_in (Worker worker) = worker
 worker_state_in Nobody = first_worker_state any_terms 0
 worker_state_in (Storage storage) = first_worker_state any_terms 0
 worker_state_in (Comparing storage worker) = worker
+worker_state_in (Told told) = first_worker_state any_terms 0
+worker_state_in (TwoTold told other) = first_worker_state any_terms 0
+worker_state_in (Checking worker told) = worker
 
 -- what the view of storage's seat says
 abbrev pub storage_state_in : LaneView → StorageState
@@ -94,6 +97,32 @@ storage_state_in (Storage storage) = storage
 storage_state_in Nobody = first_storage_state any_terms
 storage_state_in (Worker worker) = first_storage_state any_terms
 storage_state_in (Comparing storage worker) = storage
+storage_state_in (Told told) = first_storage_state any_terms
+storage_state_in (TwoTold told other) = first_storage_state any_terms
+storage_state_in (Checking worker told) = first_storage_state any_terms
+
+-- what the view of a history's seat says
+abbrev pub told_in : LaneView → List Answered
+told_in (Told told) = told
+told_in Nobody = []
+told_in (Worker worker) = []
+told_in (Storage storage) = []
+told_in (Comparing storage worker) = []
+told_in (TwoTold told other) = told
+told_in (Checking worker told) = told
+
+-- the history whose seat this is
+abbrev pub told_at : SeatState → List Answered
+told_at me = told_in (known_by me)
+
+-- the same of a seat that is put away, by its view
+abbrev pub told_in_seat : List LaneView → List Answered
+told_in_seat [] = []
+told_in_seat (view ∷ views) = told_in view
+
+-- what a contract sees of a history that was told
+abbrev pub told_view : TableId → List Answered → ToldView
+told_view table told = record { exchange = table; items = told }
 
 -- what the worker knows whose seat this is
 abbrev pub worker_at : SeatState → WorkerState
@@ -107,11 +136,11 @@ storage_at me = storage_state_in (known_by me)
 
 -- the table has the words and slots of a lane for each worker
 abbrev pub IsTableSized : TableId → ℕ → Type 0
-IsTableSized table workers = (table.words ≡ 16 * workers) × (table.slots ≡ WINDOW * workers)
+IsTableSized table workers = (table.words ≡ 16 * workers + 8) × (table.slots ≡ WINDOW * workers)
 
 -- the words and slots of this worker's lane are in the table
 abbrev pub IsLane : TableId → ℕ → Type 0
-IsLane table lane = (16 * lane + 8 < table.words) × (WINDOW * lane + WINDOW ≤ table.slots) × (lane < 8)
+IsLane table lane = (16 * lane + 16 < table.words) × (WINDOW * lane + WINDOW ≤ table.slots) × (lane < 8)
 
 -- a seat at the table
 abbrev pub LaneSeat : Type 0

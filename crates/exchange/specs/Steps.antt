@@ -11,9 +11,9 @@ use Rattle.exchange.specs.declared.messages.LaneMessage.TheVariants.{Ask, Bye, A
 use Rattle.exchange.specs.declared.rule.WorkerState.{WorkerState}
 use Rattle.exchange.specs.declared.rule.StorageState.{StorageState}
 use Rattle.exchange.specs.declared.rule.LaneView.{LaneView}
-use Rattle.exchange.specs.declared.rule.LaneView.TheVariants.{Nobody, Worker, Storage, Comparing}
+use Rattle.exchange.specs.declared.rule.LaneView.TheVariants.{Nobody, Worker, Storage, Comparing, Told, TwoTold, Checking}
 use Rattle.proto.specs.Counts.{times}
-use Rattle.exchange.specs.Beginnings.{StartsWith}
+use Rattle.exchange.specs.Beginnings.{StartsWith, AreOfOne}
 use Rattle.proto.specs.History.{worker_share, asked_posted, LegalBy}
 use Rattle.exchange.specs.Lanes.{SeatState, known_by, slots_of, lane_slot, first_worker_state, Agree}
 
@@ -183,12 +183,12 @@ PostedTells storage lane count slots after =
 -- the load of the posted word of a lane
 abbrev pub posted_loaded : StepTells
 posted_loaded step before count after = (storage : StorageState) (lane : ℕ) → known_by before ≡ Storage storage
-    → step.word ≡ 16 * lane → PostedTells storage lane count (slots_of before) after
+    → step.word ≡ 16 * lane + 8 → PostedTells storage lane count (slots_of before) after
 
 -- a load, where an earlier look at the lane named a message that isn't settled
 abbrev pub seen_opened : StepTells
 seen_opened step before found after = (storage : StorageState) (lane place count : ℕ)
-    → known_by before ≡ Storage storage → step.word ≡ 16 * lane + 8
+    → known_by before ≡ Storage storage → step.word ≡ 16 * lane + 16
     → get_elem? storage.looks place ≡ some (lane, count)
     → settled_count storage lane < count → SeenTells storage lane (slots_of before) after
 
@@ -215,12 +215,18 @@ with_one_more (Storage storage) = Storage (record storage { made = suc storage.m
 with_one_more Nobody = Nobody
 with_one_more (Worker worker) = Worker worker
 with_one_more (Comparing storage worker) = Comparing storage worker
+with_one_more (Told told) = Told told
+with_one_more (TwoTold told other) = TwoTold told other
+with_one_more (Checking worker told) = Checking worker told
 
 abbrev pub new_worker : LaneView → LaneView
 new_worker (Storage storage) = Worker (first_worker_state storage.terms storage.made)
 new_worker Nobody = Nobody
 new_worker (Worker worker) = Nobody
 new_worker (Comparing storage worker) = Nobody
+new_worker (Told told) = Nobody
+new_worker (TwoTold told other) = Nobody
+new_worker (Checking worker told) = Nobody
 
 -- how storage and a worker compare
 abbrev pub comparing : LaneView → LaneView → LaneView
@@ -228,11 +234,77 @@ comparing (Storage storage) (Worker worker) = Comparing storage worker
 comparing (Storage storage) Nobody = Storage storage
 comparing (Storage storage) (Storage other) = Storage storage
 comparing (Storage storage) (Comparing other worker) = Storage storage
+comparing (Storage storage) (Told told) = Storage storage
+comparing (Storage storage) (TwoTold told other) = Storage storage
+comparing (Storage storage) (Checking worker told) = Storage storage
 comparing Nobody view = Nobody
 comparing (Worker worker) view = Worker worker
 comparing (Comparing storage worker) view = Comparing storage worker
+comparing (Told told) view = Told told
+comparing (TwoTold told other) view = TwoTold told other
+comparing (Checking worker told) view = Checking worker told
 
 -- what the two find then, and storage goes on alone
 abbrev pub tells_comparison : StepTells
 tells_comparison step before found after = (storage : StorageState) (worker : WorkerState)
     → known_by before ≡ Comparing storage worker → Agree storage worker × (after ≡ (Storage storage, slots_of before))
+
+-- a view that stays as it is
+abbrev pub unchanged : LaneView → LaneView
+unchanged view = view
+
+-- what a seat knows that is cut off a worker's: the history that the worker was told of last
+abbrev pub noting : LaneView → LaneView
+noting Nobody = Nobody
+noting (Worker worker) = Told worker.seen
+noting (Storage storage) = Nobody
+noting (Comparing storage worker) = Nobody
+noting (Told told) = Told told
+noting (TwoTold told other) = Nobody
+noting (Checking worker told) = Nobody
+
+-- how a history meets a worker
+abbrev pub meeting_worker : WorkerState → LaneView → LaneView
+meeting_worker worker Nobody = Worker worker
+meeting_worker worker (Worker other) = Worker worker
+meeting_worker worker (Storage storage) = Worker worker
+meeting_worker worker (Comparing storage other) = Worker worker
+meeting_worker worker (Told told) = Checking worker told
+meeting_worker worker (TwoTold told other) = Worker worker
+meeting_worker worker (Checking other told) = Worker worker
+
+-- how a history meets another one
+abbrev pub meeting_told : List Answered → LaneView → LaneView
+meeting_told told Nobody = Told told
+meeting_told told (Worker worker) = Told told
+meeting_told told (Storage storage) = Told told
+meeting_told told (Comparing storage worker) = Told told
+meeting_told told (Told other) = TwoTold told other
+meeting_told told (TwoTold other another) = Told told
+meeting_told told (Checking worker other) = Told told
+
+-- how a history that was told meets a worker, or another one
+abbrev pub meeting : LaneView → LaneView → LaneView
+meeting Nobody view = Nobody
+meeting (Worker worker) view = meeting_worker worker view
+meeting (Storage storage) view = Storage storage
+meeting (Comparing storage worker) view = Comparing storage worker
+meeting (Told told) view = meeting_told told view
+meeting (TwoTold told other) view = TwoTold told other
+meeting (Checking worker told) view = Checking worker told
+
+-- What a worker and a history that any worker was told of find: it has no request of this worker that wasn't sent yet,
+-- and it and the history that this worker was told of last are of one history.
+pub record IsOfOneWith (worker : WorkerState) (told : List Answered) : Type 0 where
+  pub asked : StartsWith worker.sent (asked_posted (worker_share told worker.worker))
+  pub one : AreOfOne worker.seen told
+
+-- what a worker and a history find, and the worker goes on alone
+abbrev pub tells_check : StepTells
+tells_check step before found after = (worker : WorkerState) (told : List Answered)
+    → known_by before ≡ Checking worker told → IsOfOneWith worker told × (after ≡ (Worker worker, slots_of before))
+
+-- what two histories find, and the first goes on alone
+abbrev pub tells_two : StepTells
+tells_two step before found after = (told other : List Answered) → known_by before ≡ TwoTold told other
+    → AreOfOne told other × (after ≡ (Told told, slots_of before))

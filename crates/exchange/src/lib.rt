@@ -9,12 +9,14 @@ mod rule;
 mod signals;
 mod steps;
 mod storage;
+mod told;
 mod worker;
 
 pub use idle_turns::IdleTurns;
 pub use messages::Taken;
-pub use opening::{Gathered, MakeFault, gather, make};
+pub use opening::{Exchange, Gathered, MakeFault, gather, make};
 pub use proto::{Answered, MAX_POSTS, Posted, WINDOW};
 pub use signals::{ParkingWord, StorageSignals};
 pub use storage::{StorageBatch, StorageEnd};
+pub use told::{ExchangeName, ToldHistory};
 pub use worker::{SentList, WorkerBatch, WorkerEnd};

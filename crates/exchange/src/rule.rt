@@ -2,6 +2,7 @@
 ghost use Rattle.exchange.specs.Steps.{tells_begin, request_put, tells_post, seen_taken, bye_posted, done_loaded};
 ghost use Rattle.exchange.specs.Steps.{slot_returned, posted_loaded, tells_answer, told_done, seen_opened, settle_bye};
 ghost use Rattle.exchange.specs.Steps.{with_one_more, new_worker, comparing, tells_comparison};
+ghost use Rattle.exchange.specs.Steps.{unchanged, noting, meeting, tells_check, tells_two};
 
 use crate::messages::{LaneKey, LaneMessage};
 use atomic_table::{Join, Play, Seat, Split, Table, TableRule};
@@ -51,6 +52,12 @@ pub enum LaneView {
     Worker(WorkerState),
     Storage(StorageState),
     Comparing(StorageState, WorkerState),
+    /// A history that a worker was told of.
+    Told(LinkedList<Answered>),
+    /// Two such histories.
+    TwoTold(LinkedList<Answered>, LinkedList<Answered>),
+    /// A worker that is compared with such a history.
+    Checking(WorkerState, LinkedList<Answered>),
 }
 
 pub struct Lanes;
@@ -161,4 +168,34 @@ impl Join<LaneView> for JoinsWorker {
     ghost both = { comparing };
 
     ghost spent = { Nobody };
+}
+
+pub struct NotesTold;
+
+impl Split<LaneView> for NotesTold {
+    ghost left = { unchanged };
+
+    ghost right = { noting };
+}
+
+pub struct MeetsTold;
+
+impl Join<LaneView> for MeetsTold {
+    ghost use Rattle.exchange.specs.declared.rule.LaneView.TheVariants.{Nobody};
+
+    ghost both = { meeting };
+
+    ghost spent = { Nobody };
+}
+
+pub struct Checks;
+
+impl Play<Option<LaneMessage>, LaneView> for Checks {
+    ghost then = { tells_check };
+}
+
+pub struct ComparesTold;
+
+impl Play<Option<LaneMessage>, LaneView> for ComparesTold {
+    ghost then = { tells_two };
 }

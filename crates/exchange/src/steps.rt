@@ -22,12 +22,15 @@ use crate::rule::{
 };
 use proto::{Answered, WINDOW};
 
-/// A lane has two words that its two threads store, posted first and then done. Each is followed by enough unused words of
-/// eight bytes that no two share a line of a processor's cache.
-pub(crate) const DONE: usize = 8;
+/// A lane has two words that its two threads store, posted first and then done. Before each are enough unused words of eight
+/// bytes that no two share a line of a processor's cache. Word 0 is unused too: what loads it when a seat is split or joined, as
+/// for each `give`, finds its line in the cache.
+pub(crate) const POSTED: usize = 8;
+
+pub(crate) const DONE: usize = 2 * POSTED;
 
 /// The words of a lane.
-pub(crate) const LANE: usize = 2 * DONE;
+pub(crate) const LANE: usize = 2 * POSTED;
 
 /// The slot of the message with this number. A lane has as many as requests may be on their way.
 pub(crate) fn slot_at(worker: usize, number: u64) -> usize
@@ -67,10 +70,10 @@ pub(crate) fn put_bye(lane_table: &LaneTable, seat: &mut LaneSeat, worker: usize
     ensures sent { seat.new.me ≡ (Worker (with_bye (worker_at seat.old.me)), []) }
 {
     let lanes = &lane_table.shared;
-    lanes.load::<Begins>(seat, LANE * worker);
+    lanes.load::<Begins>(seat, LANE * worker + POSTED);
     let slot = slot_at(worker, number);
     drop(lanes.exchange(seat, slot, Some(LaneMessage::Bye)));
-    lanes.store::<PostsBye>(seat, LANE * worker, number + 1);
+    lanes.store::<PostsBye>(seat, LANE * worker + POSTED, number + 1);
 }
 
 /// Loads done, and takes the next answer out of its slot, if there is one. The number is the word.
@@ -94,7 +97,9 @@ pub(crate) fn take_answer(
         return (done, None);
     }
     let answered = take_out_answer(lane_table, seat, worker, back);
-    lane_table.shared.load::<ReturnsSlot>(seat, LANE * worker);
+    lane_table
+        .shared
+        .load::<ReturnsSlot>(seat, LANE * worker + POSTED);
     (done, Some(answered))
 }
 
@@ -113,9 +118,13 @@ pub(crate) fn take_seen_answer(
         (length (worker_at seat.old.me).back) ≡ some result }
     ensures taken { seat.new.me ≡ (Worker (holding_slot (took_seen (worker_at seat.old.me) result) 0), []) }
 {
-    lane_table.shared.load::<TakesSeen>(seat, LANE * worker);
+    lane_table
+        .shared
+        .load::<TakesSeen>(seat, LANE * worker + POSTED);
     let answered = take_out_answer(lane_table, seat, worker, back);
-    lane_table.shared.load::<ReturnsSlot>(seat, LANE * worker);
+    lane_table
+        .shared
+        .load::<ReturnsSlot>(seat, LANE * worker + POSTED);
     answered
 }
 
@@ -132,7 +141,9 @@ pub(crate) fn take_message(
     ensures table { SameSeat seat.old seat.new }
     ensures looked { Looks (storage_at seat.old.me) lane result.0 result.1 seat.new.me }
 {
-    let posted = lane_table.shared.load::<LoadsPosted>(seat, LANE * lane);
+    let posted = lane_table
+        .shared
+        .load::<LoadsPosted>(seat, LANE * lane + POSTED);
     if posted <= count {
         return (posted, None);
     }

@@ -1,8 +1,11 @@
 //! The worker's end of its lane, by which storage is told of several requests at once, or of each.
 
 use crate::messages::LaneMessage;
-use crate::rule::{Begins, LaneSeat, LaneTable, Posts, PutsRequest};
-use crate::steps::{LANE, put_bye, slot_at, take_answer, take_seen_answer};
+use crate::rule::{
+    Begins, Checks, ComparesTold, LaneSeat, LaneTable, MeetsTold, NotesTold, Posts, PutsRequest,
+};
+use crate::steps::{LANE, POSTED, put_bye, slot_at, take_answer, take_seen_answer};
+use crate::told::ToldHistory;
 use proto::{Answered, MAX_POSTS, Posted, WINDOW};
 use std::alloc::Global;
 use std::marker::Model;
@@ -47,10 +50,10 @@ impl WorkerBatch {
     ghost use Rattle.proto.specs.declared.terms.Terms.{Terms};
     ghost use mathlib.Core.Option.{some};
     ghost use lib.ListN.{get_elem?};
-    ghost use Rattle.proto.specs.History.{worker_share};
+    ghost use Rattle.proto.specs.History.{worker_share, asked_posted};
     ghost use Rattle.exchange.specs.declared.rule.LaneView.TheVariants.{Worker};
     ghost use Rattle.exchange.specs.declared.rule.WorkerState.{WorkerState};
-    ghost use Rattle.exchange.specs.Beginnings.{StartsWith, posted_of};
+    ghost use Rattle.exchange.specs.Beginnings.{StartsWith, AreOfOne, posted_of};
     ghost use Rattle.exchange.specs.Lanes.{first_worker_state};
     ghost use Rattle.exchange.specs.Ends.{new_worker_view, max_posts, CanPut, with_put_sent, TakesAnswer, TakesSeen};
     ghost use Rattle.exchange.specs.Seats.{IsLane, worker_view};
@@ -143,7 +146,7 @@ impl WorkerBatch {
         if number - self.back == WINDOW || self.said_bye || number == MAX_POSTS {
             return Err(posted);
         }
-        let posted_word = LANE * self.worker;
+        let posted_word = LANE * self.worker + POSTED;
         let slot = slot_at(self.worker, number);
         let request = LaneMessage::Ask(posted);
         let lanes = &self.lane_table.shared;
@@ -163,7 +166,7 @@ impl WorkerBatch {
             let number = self.sent + self.put;
             self.lane_table
                 .shared
-                .store::<Posts>(&mut self.seat, LANE * self.worker, number);
+                .store::<Posts>(&mut self.seat, LANE * self.worker + POSTED, number);
             self.sent = number;
             self.put = 0;
         }
@@ -219,6 +222,46 @@ impl WorkerBatch {
     {
         put_bye(&self.lane_table, &mut self.seat, self.worker, self.sent);
         self.said_bye = true;
+    }
+
+    /// The history that the worker was told of last, to be kept. It is a load of a word that is never stored.
+    pub fn told(&mut self) -> ToldHistory
+        ensures same { self.new ≡ self.old }
+        ensures told { result ≡ record { exchange = self.old.end.exchange; items = self.old.end.seen } }
+    {
+        ToldHistory::of(
+            self.lane_table
+                .shared
+                .split_seat::<NotesTold>(&mut self.seat),
+        )
+    }
+
+    /// What any worker was told of, at whatever moment before, has no request of this worker that it hasn't sent by now. It and
+    /// what this worker was told of are of one history. A law: the server doesn't call it.
+    pub fn check(&mut self, told: ToldHistory)
+        requires { told.exchange ≡ self.old.end.exchange }
+        ensures same { self.new ≡ self.old }
+        ensures asked { StartsWith self.old.end.sent (asked_posted (worker_share told.items self.old.end.worker)) }
+        ensures one { AreOfOne self.old.end.seen told.items }
+    {
+        let lanes = &self.lane_table.shared;
+        lanes.join_seat::<MeetsTold>(&mut self.seat, told.into_seat());
+        lanes.load::<Checks>(&mut self.seat, LANE * self.worker + POSTED);
+    }
+
+    /// Two histories that workers were told of, at whatever moments: one begins with the other. A law: the server doesn't call
+    /// it.
+    pub fn compare(&self, told: ToldHistory, other: ToldHistory) -> ToldHistory
+        requires { (told.exchange ≡ self.now.end.exchange) × (other.exchange ≡ self.now.end.exchange) }
+        ensures same { result ≡ told }
+        ensures one { AreOfOne told.items other.items }
+    {
+        let lanes = &self.lane_table.shared;
+        let mut seat = told.into_seat();
+        let met = other.into_seat();
+        lanes.join_seat::<MeetsTold>(&mut seat, met);
+        lanes.load::<ComparesTold>(&mut seat, LANE * self.worker + POSTED);
+        ToldHistory::of(seat)
     }
 
     /// The end, where all was flushed.

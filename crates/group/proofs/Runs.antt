@@ -1,5 +1,5 @@
 -- What the threads left makes the run of a group.
-use Rattle.std.proofs.Common.{◌≡◌, ℕ, ◌<◌, ◌≤◌, List, [], length, map, Option, refl, sym, ap, subst, ◌∙◌, append-nil}
+use Rattle.std.proofs.Common.{◌≡◌, ℕ, ◌<◌, ◌≤◌, List, [], length, map, Option, refl, sym, ap, subst, ◌∙◌, append-nil, Bool}
 use Rattle.std.specs.Prelude.{All, slice_index, slice_index_or}
 use Rattle.std.proofs.lemmas.List.{length-map}
 use mathlib.Core.Option.{some}
@@ -93,24 +93,25 @@ module _ {P : Type 0} (told : P → Option PortTrace) (leads_to : P → P → Ty
       }
 
   -- the report of a storage thread that was given the clock and the end as it was made
-  pub stored : {C : Type 0} (clock_told : C → Option (List ℕ)) (clock_leads : C → C → Type 0) (keeps : Type 0) (n : ℕ)
+  pub stored : {C : Type 0} (clock_told : C → Option (List ℕ)) (clock_leads : C → C → Type 0) (keeps : Type 0) (may_refuse : Bool)
+      (n : ℕ)
       (g : Terms)
       (ends : List WorkerView) (s : StorageView) → AreMade n g ends s → (ports : List P) → n ≡ length ports
       → (clock c₀ : C) (e₀ : StorageView) (report : StorageReport C) → c₀ ≡ clock → e₀ ≡ s
-      → KeepsStorage clock_told clock_leads keeps c₀ e₀ report
-      → IsLeftByStorage clock_told clock_leads keeps g ports clock report
-  stored {C} clock_told clock_leads keeps n g ends s made ports count clock c₀ e₀ report clock_is end_is kept =
-      let k : KeepsStorage clock_told clock_leads keeps clock s report = subst
-      (λ (z : C × StorageView). KeepsStorage clock_told clock_leads keeps z.0 z.1 report)
+      → KeepsStorage clock_told clock_leads keeps may_refuse c₀ e₀ report
+      → IsLeftByStorage clock_told clock_leads keeps may_refuse g ports clock report
+  stored {C} clock_told clock_leads keeps may_refuse n g ends s made ports count clock c₀ e₀ report clock_is end_is kept =
+      let k : KeepsStorage clock_told clock_leads keeps may_refuse clock s report = subst
+      (λ (z : C × StorageView). KeepsStorage clock_told clock_leads keeps may_refuse z.0 z.1 report)
       (λ i. (clock_is i, end_is i)) kept in
-      subst (λ (z : StorageView). KeepsStorage clock_told clock_leads keeps clock z report)
+      subst (λ (z : StorageView). KeepsStorage clock_told clock_leads keeps may_refuse clock z report)
       (made.2 ∙ (λ i. new_storage_view (sym k.same.0 i) g (count i))) k
 
   pub run : {C : Type 0} (clock_told : C → Option (List ℕ)) (clock_leads : C → C → Type 0) (keeps : Type 0)
-      (terms : Terms)
+      (may_refuse : Bool) (terms : Terms)
       (ports : List P) (clock : C) (reports : List (WorkerReport P)) (storage : StorageReport C)
       (report : GroupReport P C)
-      → IsLeftByStorage clock_told clock_leads keeps terms ports clock storage
+      → IsLeftByStorage clock_told clock_leads keeps may_refuse terms ports clock storage
       → AreJoined told leads_to terms storage.storage_end ports reports
       → report.workers.items ≡ workers_of reports → report.clock ≡ storage.clock → report.executed ≡ storage.executed
       → ((i : ℕ) (v : WorkerView) → get_elem? (ends_of reports) i ≡ some v
@@ -118,8 +119,8 @@ module _ {P : Type 0} (told : P → Option PortTrace) (leads_to : P → P → Ty
       (slice_index report.gathered.back v.worker))
       → ((w : ℕ) → storage.storage_end.workers ≤ w
       → (slice_index report.gathered.sent w ≡ 0) × (slice_index report.gathered.back w ≡ 0))
-      → IsRun told leads_to clock_told clock_leads keeps terms.geometry ports clock report
-  run {C} clock_told clock_leads keeps terms ports clock reports storage report stored joined workers_are clock_is
+      → IsRun told leads_to clock_told clock_leads keeps may_refuse terms.geometry ports clock report
+  run {C} clock_told clock_leads keeps may_refuse terms ports clock reports storage report stored joined workers_are clock_is
       executed_is counted beyond = record {
         history = storage.storage_end.history;
         made = subst (λ (y : C × ℕ). IsHistoryOf clock_told clock_leads terms.geometry (length ports) clock y.0 y.1
@@ -131,18 +132,20 @@ module _ {P : Type 0} (told : P → Option PortTrace) (leads_to : P → P → Ty
             (worker_holds terms storage.storage_end report.gathered port w q.0 (joined.each w port q.0 there q.1)
             (counted w q.0.worker_end (at_map (λ (r : WorkerReport P). r.worker_end) reports w q.0 q.1)));
         none_beyond = λ w le. beyond w (subst (λ n. n ≤ w) (sym stored.same.1) le);
+        refused = stored.refused;
         bounded = stored.bounded;
       }
 
 -- the ports are those of the ends, as they were made
 pub ports_at : {P : Type 0} (told : P → Option PortTrace) (n : ℕ) (g : Terms) (d : Dialect) (ports : List P) (ends : List WorkerView)
-    (s : StorageView) → AreMade n g ends s → length ports ≡ n → ArePortsOf told g d ports
+    (s : StorageView) → AreMade n g ends s → length ports ≡ n → ArePortsOf told s.exchange g d ports
     → AreEach (IsPortAt told d) ports ends
 ports_at told n g d ports ends s made long h = (
   long ∙ sym made.0,
   λ w port end at there. subst (IsPortAt told d port) (sym (made.1 w end there)) (record {
     silent = λ trace e. (h w port at trace e).3;
     whose = λ trace e. let k = h w port at trace e in record {
+      exchange_is = k.5;
       worker_is = k.0;
       terms_are = k.1;
       later = ([], sym k.4 ∙ sym (append-nil trace.history));
@@ -156,3 +159,8 @@ pub fresh_ends : (n : ℕ) (g : Terms) (ends : List WorkerView) (s : StorageView
     → All HasSentNothing ends
 fresh_ends n g ends s made k d low = subst HasSentNothing
     (sym (made.1 k (slice_index_or ends k d) (or_at ends k d low))) (refl, refl, refl, refl)
+
+-- the ends that were made for as many workers, by these terms
+pub made_for : (n m : ℕ) (g h : Terms) (ends : List WorkerView) (s : StorageView) → (n ≡ m) × (g ≡ h)
+    → AreMade n g ends s → AreMade m h ends s
+made_for n m g h ends s same made = subst (λ (z : ℕ × Terms). AreMade z.0 z.1 ends s) (λ i. (same.0 i, same.1 i)) made

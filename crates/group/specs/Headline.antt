@@ -1,15 +1,15 @@
 -- The headline: what holds once a group has ended.
-use Rattle.std.specs.Prelude.{◌≡◌, ℕ, ◌^◌, ◌-◌, ◌<◌, ◌≤◌, List, length, min, All, Option, Some, is_some, slice_index}
+use Rattle.std.specs.Prelude.{◌≡◌, ℕ, ◌^◌, ◌-◌, ◌<◌, ◌≤◌, Bool, List, length, min, All, Option, Some, is_some, slice_index}
 use mathlib.Core.Option.{some}
 use lib.ListN.{get_elem?}
 use Rattle.proto.specs.declared.message.Message.{Message}
 use Rattle.proto.specs.declared.history.Answered.{Answered}
 use Rattle.proto.specs.Sizes.{Sizes}
-use Rattle.proto.specs.History.{Legal, worker_share, asked_posted}
+use Rattle.proto.specs.History.{Legal, RefusesBy, worker_share, asked_posted}
 use Rattle.proto.specs.Reading.{Reads}
 use Rattle.exchange.specs.declared.opening.Gathered.{Gathered}
 use Rattle.exchange.specs.Beginnings.{StartsWith}
-use Rattle.storage_thread.specs.Keeping.{MayForgetNothing}
+use Rattle.storage_thread.specs.Keeping.{MayAlwaysForgetNothing}
 use Rattle.storage_thread.specs.Serving.{IsTimed}
 use Rattle.session_book.specs.declared.causes.EndCause.{EndCause}
 use Rattle.worker_port.specs.Ports.{PortTrace, fed}
@@ -47,11 +47,11 @@ pub record IsWorkerOf {P : Type 0} (told : P → Option PortTrace) (leads_to : P
       → trace.dialect ≡ first.dialect
   pub given_by : (trace : PortTrace) → told worker.port ≡ Some trace → StartsWith history trace.history
 
--- The headline: there is a history that was made. Each port's worker was answered in it, and no other worker was. For a store that
--- keeps, some chain of this history forgets nothing, if it stores little and sets no deadline.
+-- The headline: there is a history that was made. Each port's worker was answered in it, and no other worker was. It refuses memory
+-- as the store may. For a store that keeps, each beginning of it may forget nothing, if it stores little and sets no deadline.
 pub record IsRun {P C : Type 0} (told : P → Option PortTrace) (leads_to : P → P → Type 0)
-    (clock_told : C → Option (List ℕ)) (clock_leads : C → C → Type 0) (keeps : Type 0) (sizes : Sizes) (ports : List P)
-    (clock : C) (report : GroupReport P C) : Type 0 where
+    (clock_told : C → Option (List ℕ)) (clock_leads : C → C → Type 0) (keeps : Type 0) (may_refuse : Bool) (sizes : Sizes)
+    (ports : List P) (clock : C) (report : GroupReport P C) : Type 0 where
   pub history : List Answered
   pub made : IsHistoryOf clock_told clock_leads sizes (length ports) clock report.clock report.executed history
   pub one_each : length report.workers.items ≡ length ports
@@ -59,4 +59,5 @@ pub record IsRun {P C : Type 0} (told : P → Option PortTrace) (leads_to : P �
       → get_elem? report.workers.items w ≡ some worker → IsWorkerOf told leads_to history report.gathered port w worker
   pub none_beyond : (w : ℕ) → length ports ≤ w
       → (slice_index report.gathered.sent w ≡ 0) × (slice_index report.gathered.back w ≡ 0)
-  pub bounded : keeps → MayForgetNothing sizes history
+  pub refused : RefusesBy may_refuse history
+  pub bounded : keeps → MayAlwaysForgetNothing sizes history

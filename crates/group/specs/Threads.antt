@@ -1,5 +1,5 @@
 -- What the threads of a group leave.
-use Rattle.std.specs.Prelude.{◌≡◌, ℕ, true, false, List, [], length, map, Option, Some, None, is_some, IsSome, IfSome}
+use Rattle.std.specs.Prelude.{◌≡◌, ℕ, Bool, true, false, List, [], length, map, Option, Some, None, is_some, IsSome, IfSome}
 use mathlib.Core.Option.{some}
 use lib.ListN.{get_elem?}
 use Rattle.proto.specs.declared.dialect.Dialect.{Dialect}
@@ -7,8 +7,9 @@ use Rattle.proto.specs.declared.terms.Terms.{Terms}
 use Rattle.proto.specs.declared.logged_clock.ClockStart.{ClockStart}
 use Rattle.proto.specs.Cache.{Cache, empty_cache}
 use Rattle.proto.specs.Sizes.{Sizes}
-use Rattle.exchange.specs.Ends.{WorkerView, StorageView, new_worker_view, new_storage_view}
-use Rattle.storage_thread.specs.Keeping.{MayForgetNothing}
+use Rattle.proto.specs.History.{RefusesBy}
+use Rattle.exchange.specs.Ends.{ExchangeId, WorkerView, StorageView, new_worker_view, new_storage_view}
+use Rattle.storage_thread.specs.Keeping.{MayAlwaysForgetNothing}
 use Rattle.storage_thread.specs.Serving.{IsSameExchange}
 use Rattle.storage_thread.specs.declared.serving.StorageReport.{StorageReport}
 use Rattle.worker_port.specs.Ports.{PortTrace}
@@ -34,15 +35,15 @@ pub record KeepsWorker {P : Type 0} (told : P → Option PortTrace) (leads_to : 
       → trace.dialect ≡ first.dialect
 
 -- what the storage thread leaves of the clock and the end that it was given, over a store that keeps what it stores where
--- `keeps` says so
+-- `keeps` says so, and may be refused memory for it where `may_refuse` does
 pub record KeepsStorage {C : Type 0} (told : C → Option (List ℕ)) (leads_to : C → C → Type 0) (keeps : Type 0)
-    (clock : C)
-    (end : StorageView) (report : StorageReport C) : Type 0 where
+    (may_refuse : Bool) (clock : C) (end : StorageView) (report : StorageReport C) : Type 0 where
   pub same : IsSameExchange end report.storage_end
   pub none_open : report.storage_end.open_request ≡ None
   pub made : IsHistoryOf told leads_to end.terms.geometry end.workers clock report.clock report.executed
       report.storage_end.history
-  pub bounded : keeps → MayForgetNothing end.terms.geometry report.storage_end.history
+  pub refused : RefusesBy may_refuse report.storage_end.history
+  pub bounded : keeps → MayAlwaysForgetNothing end.terms.geometry report.storage_end.history
 
 -- what a thread leaves that waited for the start `id`: it ran if it was told to begin, and what it left is kept
 pub record IsFinished {T : Type 0} (id : ℕ) (keeps : T → Type 0) (finished : Finished T) : Type 0 where
@@ -54,11 +55,12 @@ pub record IsFinished {T : Type 0} (id : ℕ) (keeps : T → Type 0) (finished :
 abbrev pub HasSentNothing : WorkerView → Type 0
 HasSentNothing end = (end.sent ≡ []) × (end.back ≡ []) × (end.said_bye ≡ false) × (end.seen ≡ [])
 
--- the ports of workers 0, 1 and so on, by these terms and in this dialect, at which nothing has happened yet
-abbrev pub ArePortsOf : {P : Type 0} → (P → Option PortTrace) → Terms → Dialect → List P → Type 0
-ArePortsOf {P} told terms d ports =
+-- the ports of workers 0, 1 and so on, of this exchange, by these terms and in this dialect, at which nothing has happened yet
+abbrev pub ArePortsOf : {P : Type 0} → (P → Option PortTrace) → ExchangeId → Terms → Dialect → List P → Type 0
+ArePortsOf {P} told exchange terms d ports =
     (w : ℕ) (port : P) → get_elem? ports w ≡ some port → (trace : PortTrace) → told port ≡ Some trace
     → (trace.worker ≡ w) × (trace.terms ≡ terms) × (trace.dialect ≡ d) × (trace.events ≡ []) × (trace.history ≡ [])
+    × (trace.exchange ≡ exchange)
 
 -- the port of this end's worker, at which nothing has happened yet, read in this dialect
 pub record IsPortAt {P : Type 0} (told : P → Option PortTrace) (d : Dialect) (port : P)
@@ -67,12 +69,13 @@ pub record IsPortAt {P : Type 0} (told : P → Option PortTrace) (d : Dialect) (
   pub whose : (trace : PortTrace) → told port ≡ Some trace → IsTraceOf trace end
   pub spelled : (trace : PortTrace) → told port ≡ Some trace → trace.dialect ≡ d
 
--- a store of these sizes that has no entry and was asked nothing, and a clock by these terms, which was asked nothing
+-- a store by these terms that has no entry and was asked nothing, and a clock by them, which was asked nothing
 -- where it says what it starts from
-abbrev pub StartsEmpty : {E C : Type 0} → (E → Cache) → (E → ℕ) → (E → Sizes) → (C → Option (List ℕ))
+abbrev pub StartsEmpty : {E C : Type 0} → (E → Cache) → (E → ℕ) → (E → Sizes) → Bool → (C → Option (List ℕ))
     → (C → Option ClockStart) → Terms → E → C → Type 0
-StartsEmpty cache moment sizes told start terms store clock =
+StartsEmpty cache moment sizes may_refuse told start terms store clock =
     (cache store ≡ empty_cache 0) × (moment store ≡ 0) × (sizes store ≡ terms.geometry)
+    × (terms.may_refuse ≡ false → may_refuse ≡ false)
     × (terms.system_clock ≡ true → IsSome (start clock)) × (IsSome (start clock) → told clock ≡ Some [])
 
 -- two lists of one length, whose elements go together place by place
@@ -107,7 +110,7 @@ pub record AreJoined {P : Type 0} (told : P → Option PortTrace) (leads_to : P 
       → KeepsWorker told leads_to port (new_worker_view storage.exchange terms w) report
 
 -- what the storage thread left, which was given this clock and its end of the exchange that was made for these ports
-abbrev pub IsLeftByStorage : {P C : Type 0} → (C → Option (List ℕ)) → (C → C → Type 0) → Type 0 → Terms → List P → C
+abbrev pub IsLeftByStorage : {P C : Type 0} → (C → Option (List ℕ)) → (C → C → Type 0) → Type 0 → Bool → Terms → List P → C
     → StorageReport C → Type 0
-IsLeftByStorage told leads_to keeps terms ports clock report =
-    KeepsStorage told leads_to keeps clock (new_storage_view report.storage_end.exchange terms (length ports)) report
+IsLeftByStorage told leads_to keeps may_refuse terms ports clock report =
+    KeepsStorage told leads_to keeps may_refuse clock (new_storage_view report.storage_end.exchange terms (length ports)) report

@@ -1,9 +1,8 @@
 //! A whole run of a group.
-ghost use Rattle.std.specs.Prelude.{◌≡◌, ℕ, Some, IsSome, ◌<◌, ◌≤◌, ◌≢◌, ◌⊎◌, List, [], IfOk, IfErr, MatchResult, vec_len, vec_capacity, true};
+ghost use Rattle.std.specs.Prelude.{◌≡◌, Some, IsSome, ◌≤◌, List, [], IfOk, vec_len, vec_capacity, true, false};
 ghost use Rattle.proto.specs.declared.terms.Terms.{Terms};
 ghost use Rattle.proto.specs.Cache.{empty_cache};
 ghost use Rattle.exchange.specs.Ends.{AreTogether, IsCount};
-ghost use Rattle.group.specs.declared.fault.GroupFault.TheVariants.{BadConfig};
 ghost use Rattle.group.specs.Threads.{ArePortsOf, AreJoined, IsLeftByStorage, StartsEmpty, ends_of, workers_of};
 ghost use Rattle.group.specs.Headline.{IsRun};
 
@@ -13,8 +12,7 @@ use crate::report::{Config, GroupReport, GroupWorker};
 use crate::start::announce_start;
 use crate::threads::{join_storage, join_workers, start_storage, start_workers};
 use engine::{Clock, StorageEngine};
-use exchange::{StorageSignals, WorkerEnd, gather, make};
-use proto::MAX_WORKERS;
+use exchange::{Exchange, StorageSignals, WorkerEnd, gather};
 use std::alloc::Global;
 use std::sync::{OnceLock, Wait};
 use std::thread::{Scope, Threads};
@@ -57,9 +55,9 @@ fn gather_report<P: Port, E: StorageEngine, C: Clock>(
     requires ends { (ends.items ≡ []) × (vec_len reports ≤ vec_capacity ends) }
     requires together { AreTogether (ends_of reports.items) storage.storage_end }
     ensures { (store : E) (terms : Terms) (ports : List P) (clock : C)
-        → IsLeftByStorage C.told C.leads_to (E.keeps store []) terms ports clock storage
+        → IsLeftByStorage C.told C.leads_to (E.keeps store []) E.may_refuse terms ports clock storage
         → AreJoined P.told P.leads_to terms storage.storage_end ports reports.items
-        → IsRun P.told P.leads_to C.told C.leads_to (E.keeps store []) terms.geometry ports clock result }
+        → IsRun P.told P.leads_to C.told C.leads_to (E.keeps store []) E.may_refuse terms.geometry ports clock result }
 {
     let (workers, ends) = split_reports(reports, workers, ends);
     GroupReport {
@@ -70,7 +68,7 @@ fn gather_report<P: Port, E: StorageEngine, C: Clock>(
     }
 }
 
-/// Makes the ends and all room that joining needs, starts the threads, and joins them.
+/// Makes all room that joining needs, starts the threads, and joins them.
 fn run_in<
     's,
     'e,
@@ -84,18 +82,19 @@ fn run_in<
     scope: &'s Scope<'s, &'e ()>,
     context: &'s GroupContext<'s, G>,
     ports: Vec<P>,
+    exchange: Exchange,
     store: E,
     clock: C,
 ) -> Result<GroupReport<P, C>, GroupFault>
-    requires ports { ArePortsOf P.told context.now.config.terms context.now.config.dialect ports.items }
-    requires store { StartsEmpty E.cache E.moment E.sizes C.told C.start context.now.config.terms store clock }
+    requires ports { ArePortsOf P.told exchange.id context.now.config.terms context.now.config.dialect ports.items }
+    requires made { (exchange.workers ≡ vec_len ports) × (exchange.terms ≡ context.now.config.terms) }
+    requires store { StartsEmpty E.cache E.moment E.sizes E.may_refuse C.told C.start context.now.config.terms store clock }
     requires count { IsCount (vec_len ports) }
-    ensures run { IfOk result (λ report. IsRun P.told P.leads_to C.told C.leads_to (E.keeps store []) (E.sizes store)
+    ensures run { IfOk result (λ report. IsRun P.told P.leads_to C.told C.leads_to (E.keeps store []) E.may_refuse (E.sizes store)
         ports.items clock report) }
-    ensures fault { IfErr result (λ fault. fault ≢ BadConfig) }
 {
     let count = ports.len();
-    let (ends, storage_end) = make(context.alloc, count, context.config.terms)?;
+    let (ends, storage_end) = exchange.into_ends();
     let handles = Vec::with_capacity(context.alloc, count)?;
     let reports = Vec::with_capacity(context.alloc, count)?;
     let workers = Vec::with_capacity(context.alloc, count)?;
@@ -120,14 +119,14 @@ fn run_in<
 }
 
 /// Runs a worker for each port, and one storage thread over the store, each in a thread of its own, until all ports
-/// have ended and all was answered and given. The store is new, and the configuration has its sizes.
+/// have ended and all was answered and given. The store is new, the configuration has its sizes, and the exchange was made for as
+/// many workers, by the same terms.
 ///
 /// # Errors
 ///
-/// BadConfig exactly where the number of ports isn't 1 to 8; NoMemory where a growth was refused at the start, where
-/// all room for joining and gathering is made too; NoThread where a thread couldn't be started. After each of them
-/// the threads that were started have ended, no event was taken and no request executed; ports, store and clock are
-/// dropped.
+/// NoMemory where a growth was refused at the start, where all room for joining and gathering is made too; NoThread
+/// where a thread couldn't be started. After both of them the threads that were started have ended, no event was taken
+/// and no request executed; ports, store and clock are dropped.
 pub fn run_group<
     P: Port + Send,
     E: StorageEngine + Drop + Send,
@@ -138,27 +137,25 @@ pub fn run_group<
     rt: &R,
     alloc: Global,
     ports: Vec<P>,
+    exchange: Exchange,
     config: Config,
     store: E,
     clock: C,
     gate: &G,
 ) -> Result<GroupReport<P, C>, GroupFault>
-    requires ports { ArePortsOf P.told config.terms config.dialect ports.items }
+    requires ports { ArePortsOf P.told exchange.id config.terms config.dialect ports.items }
+    requires made { (exchange.workers ≡ vec_len ports) × (exchange.terms ≡ config.terms) }
     requires empty { (E.cache store ≡ empty_cache 0) × (E.moment store ≡ 0) }
     requires sizes { E.sizes store ≡ config.terms.geometry }
+    requires refuses { config.terms.may_refuse ≡ false → E.may_refuse ≡ false }
     requires system_clock { config.terms.system_clock ≡ true → IsSome (C.start clock) }
     requires unasked { IsSome (C.start clock) → C.told clock ≡ Some [] }
-    ensures run { IfOk result (λ report. IsRun P.told P.leads_to C.told C.leads_to (E.keeps store []) (E.sizes store)
+    ensures run { IfOk result (λ report. IsRun P.told P.leads_to C.told C.leads_to (E.keeps store []) E.may_refuse (E.sizes store)
         ports.items clock report) }
-    ensures count { MatchResult result (λ _. (1 ≤ vec_len ports) × (vec_len ports ≤ 8))
-        (λ fault. ((1 ≤ vec_len ports) × (vec_len ports ≤ 8) × (fault ≢ BadConfig))
-        ⊎ (((vec_len ports ≡ 0) ⊎ (8 < vec_len ports)) × (fault ≡ BadConfig))) }
 {
-    if ports.is_empty() || ports.len() > MAX_WORKERS {
-        return Err(GroupFault::BadConfig);
-    }
     let start = OnceLock::new();
-    let signals = StorageSignals::new(alloc, store.key_hasher(), ports.len(), config.spin)?;
+    let workers = exchange.workers();
+    let signals = StorageSignals::new(alloc, store.key_hasher(), workers, config.spin)?;
     let group = GroupContext {
         alloc,
         start: &start,
@@ -172,11 +169,11 @@ pub fn run_group<
         rt,
         move |scope| -> Result<GroupReport<P, C>, GroupFault>
             requires count { IsCount (vec_len ports) }
-            requires ports { ArePortsOf P.told context.now.config.terms context.now.config.dialect ports.items }
-            requires store { StartsEmpty E.cache E.moment E.sizes C.told C.start context.now.config.terms store clock }
-            ensures run { IfOk result (λ report. IsRun P.told P.leads_to C.told C.leads_to (E.keeps store [])
+            requires ports { ArePortsOf P.told exchange.id context.now.config.terms context.now.config.dialect ports.items }
+            requires made { (exchange.workers ≡ vec_len ports) × (exchange.terms ≡ context.now.config.terms) }
+            requires store { StartsEmpty E.cache E.moment E.sizes E.may_refuse C.told C.start context.now.config.terms store clock }
+            ensures run { IfOk result (λ report. IsRun P.told P.leads_to C.told C.leads_to (E.keeps store []) E.may_refuse
                 (E.sizes store) ports.items clock report) }
-            ensures fault { IfErr result (λ fault. fault ≢ BadConfig) }
-        { run_in(rt, scope, context, ports, store, clock) },
+        { run_in(rt, scope, context, ports, exchange, store, clock) },
     )
 }

@@ -11,7 +11,7 @@ use crate::context::GroupContext;
 use crate::fault::GroupFault;
 use crate::start::{Finished, wait_for_start};
 use engine::{Clock, StorageEngine};
-use exchange::{StorageEnd, WorkerEnd};
+use exchange::{StorageEnd, StorageSignals, WorkerEnd};
 use os::set_thread_name;
 use std::snapshot::Snapshot;
 use std::sync::{OnceLock, OnceToken, Wait};
@@ -49,7 +49,7 @@ impl<'a, E: StorageEngine, C: Clock> Promise<Finished<'a, StorageReport<C>>>
     ghost use Rattle.std.specs.Prelude.{[]};
     ghost use Rattle.group.specs.Threads.{IsFinished, KeepsStorage};
 
-    ghost kept_by = { λ p r. IsFinished p.start.now.id (KeepsStorage C.told C.leads_to (E.keeps p.store.value [])
+    ghost kept_by = { λ p r. IsFinished p.start.now.id (KeepsStorage C.told C.leads_to (E.keeps p.store.value []) E.may_refuse
         p.clock.value p.end.value) r };
 }
 
@@ -100,6 +100,21 @@ fn worker_thread<'a, P: Port, G: Gate, R: Wait + time::Clock>(
     Finished { told, ran }
 }
 
+/// Runs the storage loop over an end and a store as they were made.
+fn run_new_storage<E: StorageEngine + Drop, C: Clock, R: Wait + time::Clock>(
+    rt: &R,
+    store: E,
+    clock: C,
+    end: StorageEnd,
+    signals: &StorageSignals,
+) -> StorageReport<C>
+    requires store { StartsEmpty E.cache E.moment E.sizes E.may_refuse C.told C.start end.terms store clock }
+    requires unused { IsUnused end }
+    ensures { KeepsStorage C.told C.leads_to (E.keeps store []) E.may_refuse clock end result }
+{
+    run_storage(rt, store, clock, end, signals)
+}
+
 /// Names the thread, and runs the storage loop in it once it is told to begin.
 fn run_storage_thread<'a, E: StorageEngine + Drop, C: Clock, G, R: Wait + time::Clock>(
     rt: &R,
@@ -108,14 +123,14 @@ fn run_storage_thread<'a, E: StorageEngine + Drop, C: Clock, G, R: Wait + time::
     clock: C,
     end: StorageEnd,
 ) -> Finished<'a, StorageReport<C>>
-    requires store { StartsEmpty E.cache E.moment E.sizes C.told C.start end.terms store clock }
+    requires store { StartsEmpty E.cache E.moment E.sizes E.may_refuse C.told C.start end.terms store clock }
     requires unused { IsUnused end }
-    ensures { IsFinished context.now.start.now.id (KeepsStorage C.told C.leads_to (E.keeps store []) clock end) result }
+    ensures { IsFinished context.now.start.now.id (KeepsStorage C.told C.leads_to (E.keeps store []) E.may_refuse clock end) result }
 {
     let _ = set_thread_name(b"storage");
     let told = wait_for_start(rt, context.start);
     let ran = if *context.start.value(&told) {
-        Some(run_storage(rt, store, clock, end, context.signals))
+        Some(run_new_storage(rt, store, clock, end, context.signals))
     } else {
         None
     };
@@ -142,7 +157,7 @@ pub fn start_storage<
     clock: C,
     end: StorageEnd,
 ) -> Result<StorageHandle<'s, E, C>, GroupFault>
-    requires store { StartsEmpty E.cache E.moment E.sizes C.told C.start end.terms store clock }
+    requires store { StartsEmpty E.cache E.moment E.sizes E.may_refuse C.told C.start end.terms store clock }
     requires unused { IsUnused end }
     ensures fault { IfErr result (λ fault. fault ≡ NoThread) }
     ensures start { IfOk result (λ h. h.promise.start.now.id ≡ context.now.start.now.id) }
@@ -239,7 +254,7 @@ pub fn join_storage<'s, E: StorageEngine, C: Clock, R: Threads>(
     handle: StorageHandle<'s, E, C>,
 ) -> StorageReport<C>
     requires began { (told.now.of ≡ handle.promise.start.now.id) × (told.now.value ≡ true) }
-    ensures { KeepsStorage C.told C.leads_to (E.keeps handle.entry.promise.store.value [])
+    ensures { KeepsStorage C.told C.leads_to (E.keeps handle.entry.promise.store.value []) E.may_refuse
         handle.entry.promise.clock.value handle.entry.promise.end.value result }
 {
     let finished = handle.join(rt);

@@ -208,10 +208,10 @@ pub plan_in_turn : (lives : Liveness) (p : PoolState) (plan : Plan) → IsPool p
     → AreInTurn plan.moves
 plan_in_turn lives p plan k h =
     subst AreInTurn (sym h.moves_are)
-    (moves_in_turn (first_of_list (merged_segments p plan.bucket)) 0 h.judged
-    (subst (AreLaid (first_of_list (merged_segments p plan.bucket))) (sym h.is_judged.all_live)
-    (by (merged_segments p plan.bucket)
-    (once_from (merged_segments p plan.bucket) (λ m. merged_once p plan.bucket m k))))
+    (moves_in_turn (first_of_list (merged_segments p plan.choice)) 0 h.judged
+    (subst (AreLaid (first_of_list (merged_segments p plan.choice))) (sym h.is_judged.all_live)
+    (by (merged_segments p plan.choice)
+    (once_from (merged_segments p plan.choice) (λ m. merged_once p plan.choice m k))))
     (λ i d lt is. zero_le (get_or h.judged i d).place.offset))
   where
     zero_le : (n : ℕ) → 0 ≤ n

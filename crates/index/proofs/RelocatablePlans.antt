@@ -59,8 +59,8 @@ pub starts_live : (lives : Liveness) (p : PoolState) (plan : Plan) → IsPlan li
 starts_live lives p plan h =
     All-unmap (StandsLive lives p) plan.moves
     (subst (All (StandsLive lives p)) (sym (sources_live lives p plan h))
-    (All-map (StandsLive lives p) (λ (s : Standing). s.place) (live_items lives p (merged_segments p plan.bucket))
-    (live_all lives p (merged_segments p plan.bucket))))
+    (All-map (StandsLive lives p) (λ (s : Standing). s.place) (live_items lives p (merged_segments p plan.choice))
+    (live_all lives p (merged_segments p plan.choice))))
 
 -- where the same item stands, the key is the same
 pub key_by : (p q : PoolState) (a b : Place) → item_in p a ≡ item_in q b → key_at p a ≡ key_at q b
@@ -111,7 +111,7 @@ plan_relocates lives p plan t k h behind layout index holds =
       others = λ q held none.
           (let i = value_there (item_in p q) (some_key p q (held_key (key_at p) t index q held)) in
           let live = holds.live q i.0 held i.1 in
-          elim (cases_Bool (contains_number (merged_segments p plan.bucket) q.segment)) [
+          elim (cases_Bool (contains_number (merged_segments p plan.choice) q.segment)) [
             | inl y ↦ absurd (false≢true (sym none ∙ live_source lives p plan q i.0 h i.1 live y))
             | inr n ↦ key_by after (with_merge_planned p plan) q q (moved_other p plan after q c n).1
           ]);

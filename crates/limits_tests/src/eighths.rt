@@ -3,6 +3,7 @@
 
 use bytes::Bytes;
 use engine::PlainStore;
+use exchange::{Exchange, WorkerBatch};
 use group::{Config, run_group};
 use proto::{Clock as Moments, ClockAnswer, Dialect, Geometry, Terms};
 use std::alloc::Global;
@@ -98,7 +99,7 @@ impl Port for ListedPort {
 
     ghost leads_to = { λ _ _. Unit {0} };
 
-    fn next(&mut self, _may_wait: bool) -> PortEvent {
+    fn next(&mut self, _may_wait: bool, _sender: &WorkerBatch) -> PortEvent {
         match self.events.pop_front() {
             Some(event) => event,
             None => PortEvent::Ended,
@@ -151,23 +152,19 @@ fn each_eighth_answer_is_told(rt: HostRuntime) {
     let store = PlainStore::new(alloc, geometry).expect(&rt, "memory");
     let mut ports = Vec::new(alloc);
     ports.push(port_of(&rt, alloc)).expect(&rt, "memory");
-    let report = run_group(
-        &rt,
-        alloc,
-        ports,
-        Config {
-            terms: Terms {
-                geometry,
-                system_clock: false,
-            },
-            dialect: Dialect::Strict,
-            spin: None,
+    let config = Config {
+        terms: Terms {
+            geometry,
+            system_clock: false,
+            may_refuse: true,
         },
-        store,
-        clock,
-        &answers,
-    )
-    .expect(&rt, "a group");
+        dialect: Dialect::Strict,
+        spin: None,
+    };
+    let exchange = Exchange::new(alloc, ports.len(), config.terms).expect(&rt, "an exchange");
+    let report = run_group(&rt, alloc, ports, exchange, config, store, clock, &answers).expect(
+        &rt, "a group",
+    );
     assert_eq!(rt; report.executed, REQUESTS);
     assert_eq!(rt; answers.given_up.load(Ordering::SeqCst), 0);
 }

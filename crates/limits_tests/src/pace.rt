@@ -6,6 +6,7 @@ ghost use Rattle.std.specs.Prelude.{◌≡◌, [], Some, IsSome};
 use crate::runs::SteadyClock;
 use bytes::Bytes;
 use engine::PlainStore;
+use exchange::{Exchange, WorkerBatch};
 use group::{Config, run_group};
 use proto::{Clock as Moments, ClockAnswer, Dialect, Geometry, Terms};
 use std::alloc::Global;
@@ -72,7 +73,7 @@ impl<R: Clock + Drop> Port for OneAtATime<R> {
 
     ghost leads_to = { λ _ _. Unit {0} };
 
-    fn next(&mut self, _may_wait: bool) -> PortEvent {
+    fn next(&mut self, _may_wait: bool, _sender: &WorkerBatch) -> PortEvent {
         if !self.is_open {
             self.is_open = true;
             return PortEvent::Opened(1);
@@ -125,6 +126,7 @@ where
         terms: Terms {
             geometry,
             system_clock: false,
+            may_refuse: true,
         },
         dialect: Dialect::Strict,
         spin: None,
@@ -132,8 +134,11 @@ where
     let store = PlainStore::new(alloc, geometry).expect(rt, "memory");
     let mut ports = Vec::new(alloc);
     ports.push(port).expect(rt, "memory");
+    let exchange = Exchange::new(alloc, ports.len(), config.terms).expect(rt, "an exchange");
     let start = Instant::now(rt).expect(rt, "the time");
-    let report = run_group(rt, alloc, ports, config, store, clock, &OpenGate).expect(rt, "a group");
+    let report = run_group(rt, alloc, ports, exchange, config, store, clock, &OpenGate).expect(
+        rt, "a group",
+    );
     (report.executed, start.elapsed(rt).expect(rt, "the time"))
 }
 

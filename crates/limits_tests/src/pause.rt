@@ -4,7 +4,9 @@ ghost use Rattle.std.specs.Prelude.{◌≡◌, [], Some, true};
 ghost use Rattle.worker_port.specs.Ports.{PortTrace, is_open};
 ghost use Rattle.script.specs.States.{trace_told};
 
+use crate::serving::exchange_of_one;
 use bytes::Bytes;
+use exchange::WorkerBatch;
 use proto::{Dialect, Geometry};
 use script::{ScriptEvent, ScriptPort};
 use std::alloc::Global;
@@ -12,8 +14,8 @@ use std::process::Abort;
 use std::test::Fail;
 use worker_port::{Port, PortEvent};
 
-fn is_next(rt: &impl Abort, port: &mut ScriptPort, wanted: &str) {
-    let event = port.next(false);
+fn is_next(rt: &impl Abort, port: &mut ScriptPort, sender: &WorkerBatch, wanted: &str) {
+    let event = port.next(false, sender);
     let holds = match &event {
         PortEvent::Opened(2) => wanted == "opened",
         PortEvent::Data(2, bytes) => bytes.as_slice() == wanted.as_bytes(),
@@ -24,14 +26,21 @@ fn is_next(rt: &impl Abort, port: &mut ScriptPort, wanted: &str) {
     assert!(rt; holds, "{wanted}");
 }
 
-/// A port at which session 1 was opened, and nothing else has happened.
-fn with_session_1(rt: &impl Abort, alloc: Global, events: Vec<ScriptEvent>) -> ScriptPort
-    ensures { (trace : PortTrace) → trace_told result ≡ Some trace → is_open 1 trace.events ≡ true }
+/// A port at which session 1 was opened, and nothing else has happened, and its worker's end.
+fn with_session_1(
+    rt: &impl Abort,
+    alloc: Global,
+    events: Vec<ScriptEvent>,
+) -> (ScriptPort, WorkerBatch)
+    ensures { (trace : PortTrace) → trace_told result.0 ≡ Some trace → is_open 1 trace.events ≡ true }
 {
     let geometry = Geometry::new(65_536, 64).expect(rt, "a geometry");
-    let mut port = ScriptPort::new(alloc, geometry, Dialect::Strict, 0, events);
-    match port.next(false) {
-        PortEvent::Opened(1) => port,
+    let exchange = exchange_of_one(rt, alloc, geometry);
+    let mut port = ScriptPort::new(alloc, geometry, Dialect::Strict, 0, exchange.name(), events);
+    let (mut ends, _storage) = exchange.into_ends();
+    let sender = ends.pop().expect(rt, "an end").batched();
+    match port.next(false, &sender) {
+        PortEvent::Opened(1) => (port, sender),
         _ => panic!(rt; "session 1 isn't opened first"),
     }
 }
@@ -45,10 +54,10 @@ fn other_sessions_play_beside_a_paused_one(rt: HostRuntime) -> Result<(), Fail> 
         ScriptEvent::Open(2),
         ScriptEvent::Send(2, Bytes::from_static(b"second")),
     ]?;
-    let mut port = with_session_1(&rt, alloc, events);
+    let (mut port, sender) = with_session_1(&rt, alloc, events);
     port.pause(1);
-    is_next(&rt, &mut port, "opened");
-    is_next(&rt, &mut port, "second");
-    is_next(&rt, &mut port, "idle");
+    is_next(&rt, &mut port, &sender, "opened");
+    is_next(&rt, &mut port, &sender, "second");
+    is_next(&rt, &mut port, &sender, "idle");
     Ok(())
 }

@@ -1,7 +1,7 @@
 //! Runs that are large in one way: each finds memory, in the plain program and over the exchange.
 
 use crate::same::check_same;
-use crate::serving::serve;
+use crate::serving::{exchange_of_one, serve};
 use crate::talk::{Shape, Talk, script_of, talk_of};
 use engine::PlainStore;
 use proto::{Clock, ClockAnswer, Dialect, Geometry};
@@ -101,10 +101,12 @@ where
     R: Abort + Threads + Wait + time::Clock + Copy + Drop + Send + Sync + 'static,
 {
     let events = events_of(rt, alloc, case.script).into_events();
-    let port = ScriptPort::new(alloc, case.geometry, Dialect::Strict, 0, events).with_faults(
+    let exchange = exchange_of_one(rt, alloc, case.geometry);
+    let name = exchange.name();
+    let port = ScriptPort::new(alloc, case.geometry, Dialect::Strict, 0, name, events).with_faults(
         accept, fail_give,
     );
-    serve(rt, alloc, case.geometry, port, &OpenGate)
+    serve(rt, alloc, case.geometry, exchange, port, &OpenGate)
 }
 
 /// Each session of the case was opened, and was given its output.

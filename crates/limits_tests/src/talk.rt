@@ -23,7 +23,7 @@ fn add<R: Abort>(rt: &R, bytes: &mut Vec<u8>, piece: &[u8]) {
     bytes.extend_from_slice(piece).expect(rt, "memory");
 }
 
-fn add_times<R: Abort>(rt: &R, bytes: &mut Vec<u8>, piece: &[u8], times: usize) {
+pub(crate) fn add_times<R: Abort>(rt: &R, bytes: &mut Vec<u8>, piece: &[u8], times: usize) {
     for _ in 0..times {
         add(rt, bytes, piece);
     }

@@ -1,9 +1,10 @@
-//! How many requests a worker has on their way while much is unfinished, and afterwards.
+//! How many requests a worker has on their way while much is unfinished, and which session it shuts where too much output waits.
 
 use crate::same::check_same;
-use crate::serving::serve;
-use crate::talk::{Shape, talk_of};
+use crate::serving::{exchange_of_one, serve};
+use crate::talk::{Shape, add_times, talk_of};
 use bytes::Bytes;
+use exchange::WorkerBatch;
 use proto::Geometry;
 use std::alloc::Global;
 use std::collections::VecDeque;
@@ -12,19 +13,22 @@ use std::sync::Wait;
 use std::sync::atomic::{AtomicU64, Ordering};
 use std::thread::Threads;
 use std::time::Clock;
-use worker::Gate;
+use worker::{Gate, OpenGate};
 use worker_port::{Gone, Port, PortEvent, ToldHistory};
 
 /// The most bytes of one piece.
 const MAX_PIECE: usize = 16_384;
 
-/// What a port plays. Session 1 accepts nothing until it is let.
+/// These sessions accept nothing until they are let.
+const SILENT: [u64; 3] = [2, 3, 4];
+
+/// What a port plays.
 #[derive(Drop)]
 enum Step {
     Open(u64),
     Send(u64, Bytes),
     Gone(u64),
-    /// Goes on once this number of bytes was offered to session 1 at once.
+    /// Goes on once this number of bytes was offered to the silent sessions, to each at once.
     UntilOffered(usize),
     /// Goes on once this number of bytes was accepted, over all sessions.
     UntilGiven(usize),
@@ -36,10 +40,11 @@ enum Step {
 struct StepPort {
     steps: VecDeque<Step>,
     accepts: bool,
-    offered: usize,
+    /// The most that was offered at once to each of the silent sessions.
+    offered: [usize; 3],
     given: usize,
-    /// How many sessions were shut.
-    shut: u64,
+    /// How many sessions were shut, and the last of them.
+    shut: (u64, u64),
     has_ended: bool,
 }
 
@@ -48,16 +53,21 @@ impl StepPort {
         StepPort {
             steps,
             accepts: false,
-            offered: 0,
+            offered: [0; 3],
             given: 0,
-            shut: 0,
+            shut: (0, 0),
             has_ended: false,
         }
     }
 
+    fn offered(&self) -> usize {
+        let [first, second, third] = self.offered;
+        first.saturating_add(second).saturating_add(third)
+    }
+
     fn waits(&self) -> bool {
         match self.steps.front() {
-            Some(Step::UntilOffered(length)) => self.offered < *length,
+            Some(Step::UntilOffered(length)) => self.offered() < *length,
             Some(Step::UntilGiven(length)) => self.given < *length,
             _ => false,
         }
@@ -71,7 +81,7 @@ impl Port for StepPort {
 
     ghost leads_to = { λ _ _. Unit {0} };
 
-    fn next(&mut self, _may_wait: bool) -> PortEvent {
+    fn next(&mut self, _may_wait: bool, _sender: &WorkerBatch) -> PortEvent {
         if self.has_ended || self.waits() {
             return PortEvent::Idle;
         }
@@ -92,10 +102,12 @@ impl Port for StepPort {
     }
 
     fn give(&mut self, session: u64, bytes: &[u8], _history: ToldHistory) -> Result<usize, Gone> {
-        if session == 1 {
-            self.offered = self.offered.max(bytes.len());
-            if !self.accepts {
-                return Ok(0);
+        for (silent, offered) in SILENT.iter().zip(&mut self.offered) {
+            if *silent == session {
+                *offered = (*offered).max(bytes.len());
+                if !self.accepts {
+                    return Ok(0);
+                }
             }
         }
         self.given = self.given.saturating_add(bytes.len());
@@ -106,8 +118,8 @@ impl Port for StepPort {
 
     fn resume(&mut self, _session: u64) {}
 
-    fn shut(&mut self, _session: u64) {
-        self.shut = self.shut.saturating_add(1);
+    fn shut(&mut self, session: u64) {
+        self.shut = (self.shut.0.saturating_add(1), session);
     }
 
     ghost leads_reflexive = { λ _. tt };
@@ -204,15 +216,17 @@ fn lines_of<R: Abort>(rt: &R, alloc: Global, lines: usize, keys: usize) -> Vec<u
     bytes
 }
 
-/// How many keys stand in a line, how many such lines come in a piece, and how many of them are on their way at most: the
-/// hits of 767 keys and one more answer fit into 128 MiB.
-const KEYS: [(usize, usize, u64); 7] = [
+/// How many keys stand in a line, how many such lines come in a piece, and how many of them are on their way at most. A line of
+/// more than 8 keys isn't asked while those on their way have more than 128, and no line is while they have more than 255: the
+/// hits of 255 keys and one more answer fit into 64 MiB.
+const KEYS: [(usize, usize, u64); 8] = [
     (1, 100, 64),
-    (12, 100, 64),
-    (13, 100, 60),
-    (59, 100, 14),
-    (383, 10, 3),
-    (384, 10, 2),
+    (3, 100, 64),
+    (4, 100, 64),
+    (8, 100, 32),
+    (9, 100, 15),
+    (128, 10, 2),
+    (129, 10, 1),
     (1021, 8, 1),
 ];
 
@@ -224,105 +238,144 @@ where
     let bytes = lines_of(rt, alloc, lines, keys);
     assert!(*rt; bytes.len() <= MAX_PIECE);
     let mut steps = Steps::new(rt, alloc);
-    steps.add(Step::Open(2));
-    steps.send(2, bytes.as_slice());
+    steps.add(Step::Open(1));
+    steps.send(1, bytes.as_slice());
     steps.add(Step::UntilGiven(lines.saturating_mul(5)));
-    steps.send(2, bytes.as_slice());
+    steps.send(1, bytes.as_slice());
     let gate = CountingGate::new(1, (lines as u64).saturating_add(1));
     let geometry = Geometry::new(65_536, 64).expect(rt, "a geometry");
-    let report = serve(rt, alloc, geometry, StepPort::new(steps.steps), &gate);
+    let exchange = exchange_of_one(rt, alloc, geometry);
+    let port = StepPort::new(steps.steps);
+    let report = serve(rt, alloc, geometry, exchange, port, &gate);
     check_same(rt, gate.most(), (wanted, wanted), keys);
     check_same(rt, report.port.given, lines.saturating_mul(10), keys);
 }
 
 #[test]
-fn at_most_767_keys_and_a_line_are_on_their_way(rt: HostRuntime) {
+fn few_keys_and_a_line_are_on_their_way(rt: HostRuntime) {
     for (keys, lines, wanted) in &KEYS {
         check_keys(&rt, rt.alloc(), *keys, *lines, *wanted);
     }
 }
 
-/// How session 1 ends: it accepts its output, or its peer goes.
+/// How the silent sessions end: they accept their output, or their peers go.
 #[derive(Clone, Copy)]
 enum Ending {
-    Accepts,
-    Goes,
+    Accept,
+    Go,
 }
 
-/// The bytes of a value, how many keys ask for it in each of three lines, how many lines of 5 bytes are answered after
-/// them, what waits then, and how many requests of another session are on their way at most while it does.
-type Row = (usize, usize, usize, usize, u64);
+/// Three sessions that accept nothing ask for one value of `value` bytes by `keys` keys in a line; before it session 3 asks for a
+/// missing key in `misses` lines.
+#[derive(Clone, Copy)]
+struct Unread {
+    value: usize,
+    keys: usize,
+    misses: usize,
+    /// What waits then.
+    waiting: usize,
+    /// How many sessions are shut, the last of them, and what waits after that.
+    shut: (u64, u64),
+    left: usize,
+}
 
 /// At 64 MiB, and one byte above it.
-const OUTPUTS: [Row; 2] = [
-    (103_543, 216, 5, 67_108_864, 20),
-    (127_080, 176, 10, 67_108_865, 1),
+const UNREAD: [Unread; 2] = [
+    Unread {
+        value: 103_543,
+        keys: 216,
+        misses: 5,
+        waiting: 67_108_864,
+        shut: (0, 0),
+        left: 67_108_864,
+    },
+    Unread {
+        value: 127_080,
+        keys: 176,
+        misses: 10,
+        waiting: 67_108_865,
+        shut: (1, 3),
+        left: 44_739_210,
+    },
 ];
 
-/// What session 1 sends, whose last piece has all its lines: so they are asked before any output waits.
-fn input_of<R: Abort>(rt: &R, alloc: Global, shape: Shape, misses: usize) -> Vec<u8> {
-    let mut input = talk_of(rt, alloc, shape).input;
-    input
-        .extend_from_slice(lines_of(rt, alloc, misses, 1).as_slice())
-        .expect(rt, "memory");
-    input
+/// Session 1 writes the value, and the silent sessions ask for it.
+fn add_silent<R: Abort + Copy + Drop>(steps: &mut Steps<R>, unread: &Unread) {
+    let rt = steps.rt;
+    let alloc = steps.alloc;
+    let shape = Shape {
+        value: unread.value,
+        keys: unread.keys,
+        lines: 0,
+    };
+    let set = talk_of(&rt, alloc, shape).input;
+    steps.add(Step::Open(1));
+    steps.send(1, set.as_slice());
+    for session in &SILENT {
+        let misses = if *session == 3 { unread.misses } else { 0 };
+        let mut input = lines_of(&rt, alloc, misses, 1);
+        add_times(&rt, &mut input, b"get", 1);
+        add_times(&rt, &mut input, b" a", unread.keys);
+        add_times(&rt, &mut input, b"\r\n", 1);
+        steps.add(Step::Open(*session));
+        steps.send(*session, input.as_slice());
+    }
 }
 
-/// How session 1 ends, and how many of the bytes that wait it accepts.
+/// How the silent sessions that weren't shut end, and how many of the bytes that wait they accept.
 fn add_ending<R: Abort + Copy + Drop>(
     steps: &mut Steps<R>,
     ending: Ending,
-    waiting: usize,
+    unread: &Unread,
 ) -> usize {
     match ending {
-        Ending::Accepts => {
+        Ending::Accept => {
             steps.add(Step::LetAccept);
-            steps.add(Step::UntilGiven(waiting.saturating_add(100)));
-            waiting
+            steps.add(Step::UntilGiven(unread.left.saturating_add(100)));
+            unread.left
         }
-        Ending::Goes => {
-            steps.add(Step::Gone(1));
+        Ending::Go => {
+            for session in &SILENT {
+                if *session != unread.shut.1 {
+                    steps.add(Step::Gone(*session));
+                }
+            }
             0
         }
     }
 }
 
-/// Session 2 sends 20 requests while the output of session 1 waits, and 20 more once it doesn't.
-fn check_output<R>(rt: &R, alloc: Global, row: &Row, ending: Ending)
+/// Session 1 sends 20 requests while the output of the others waits, and 20 more once it doesn't.
+fn check_unread<R>(rt: &R, alloc: Global, unread: &Unread, ending: Ending)
 where
     R: Abort + Threads + Wait + Clock + Copy + Drop + Send + Sync + 'static,
 {
-    let (value, keys, misses, waiting, wanted) = *row;
-    let shape = Shape {
-        value,
-        keys,
-        lines: 3,
-    };
-    let input = input_of(rt, alloc, shape, misses);
     let burst = lines_of(rt, alloc, 20, 1);
     let mut steps = Steps::new(rt, alloc);
-    steps.add(Step::Open(1));
-    steps.send(1, input.as_slice());
-    steps.add(Step::UntilOffered(waiting));
-    steps.add(Step::Open(2));
-    steps.send(2, burst.as_slice());
+    add_silent(&mut steps, unread);
+    steps.add(Step::UntilOffered(unread.waiting));
+    steps.send(1, burst.as_slice());
     steps.add(Step::UntilGiven(100));
-    let accepted = add_ending(&mut steps, ending, waiting);
-    steps.send(2, burst.as_slice());
-    let first = (misses as u64).saturating_add(5);
-    let gate = CountingGate::new(first, first.saturating_add(20));
+    let accepted = add_ending(&mut steps, ending, unread);
+    steps.send(1, burst.as_slice());
     let geometry = Geometry::new(1_048_576, 8).expect(rt, "a geometry");
-    let report = serve(rt, alloc, geometry, StepPort::new(steps.steps), &gate);
-    check_same(rt, gate.most(), (wanted, 20), waiting);
-    let counts = (report.port.offered, report.port.given);
-    check_same(rt, counts, (waiting, accepted.saturating_add(200)), waiting);
-    check_same(rt, report.port.shut, 0, waiting);
+    let exchange = exchange_of_one(rt, alloc, geometry);
+    let port = StepPort::new(steps.steps);
+    let report = serve(rt, alloc, geometry, exchange, port, &OpenGate);
+    let counts = (report.port.offered(), report.port.given);
+    check_same(
+        rt,
+        counts,
+        (unread.waiting, accepted.saturating_add(200)),
+        unread.waiting,
+    );
+    check_same(rt, report.port.shut, unread.shut, unread.waiting);
 }
 
 #[test]
-fn above_64_mib_of_output_one_request_at_a_time_goes_on(rt: HostRuntime) {
-    for row in &OUTPUTS {
-        check_output(&rt, rt.alloc(), row, Ending::Accepts);
-        check_output(&rt, rt.alloc(), row, Ending::Goes);
+fn above_64_mib_of_output_the_fullest_session_is_shut(rt: HostRuntime) {
+    for unread in &UNREAD {
+        check_unread(&rt, rt.alloc(), unread, Ending::Accept);
+        check_unread(&rt, rt.alloc(), unread, Ending::Go);
     }
 }

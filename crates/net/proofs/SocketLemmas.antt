@@ -3,7 +3,7 @@ use Rattle.std.proofs.Common.{◌≡◌, ℕ, zero, suc, ◌+◌, ◌-◌, Bool,
 use Rattle.std.specs.Prelude.{ℤ, Option, None, Some, is_some, slice_get}
 use Rattle.std.specs.Bool.{nat_eq}
 use Rattle.std.proofs.lemmas.Bool.{both_ways, eqb-true}
-use Rattle.net.specs.Seen.{Seen, IsSet, fresh, socket_of}
+use Rattle.net.specs.Seen.{Seen, IsSet, fresh, open_socket}
 use Rattle.net.specs.Ties.{SocketsAgree, SocketTies}
 
 found_more : (l : List ℤ) (k : ℕ) (x y : ℤ) → slice_get l k ≡ Some x → slice_get (l ++ y ∷ []) k ≡ Some x
@@ -16,24 +16,24 @@ found_last [] y = refl
 found_last (z ∷ l) y = found_last l y
 
 -- a socket after the others changes no other session's
-more_at : (l : List ℤ) (k : ℕ) (y : ℤ) (n : Option Seen) → is_some n ≡ true → slice_get l k ≡ socket_of n
-    → slice_get (l ++ y ∷ []) k ≡ socket_of n
+more_at : (l : List ℤ) (k : ℕ) (y : ℤ) (n : Option Seen) → is_some n ≡ true → slice_get l k ≡ open_socket n
+    → slice_get (l ++ y ∷ []) k ≡ open_socket n
 more_at l k y None some h = absurd (both_ways false refl some)
 more_at l k y (Some x) some h = found_more l k x.socket y h
 
 -- one stream is set
 module _ (streams next : ℕ → Option Seen) (s : ℕ) (now : Option Seen) (sockets : List ℤ) where
-  set_case : (o : ℕ) → next o ≡ cond (nat_eq s o) now (streams o) → (is_some now ≡ true → slice_get sockets (s - 1) ≡ socket_of now)
-      → (is_some (streams o) ≡ true → slice_get sockets (o - 1) ≡ socket_of (streams o)) → (b : Bool) → nat_eq s o ≡ b
-      → is_some (next o) ≡ true → slice_get sockets (o - 1) ≡ socket_of (next o)
+  set_case : (o : ℕ) → next o ≡ cond (nat_eq s o) now (streams o) → (is_some now ≡ true → slice_get sockets (s - 1) ≡ open_socket now)
+      → (is_some (streams o) ≡ true → slice_get sockets (o - 1) ≡ open_socket (streams o)) → (b : Bool) → nat_eq s o ≡ b
+      → is_some (next o) ≡ true → slice_get sockets (o - 1) ≡ open_socket (next o)
   set_case o set here old true is some =
       let now_it_is : next o ≡ now = set ∙ ap (λ c. cond c now (streams o)) is in
-      ap (λ (k : ℕ). slice_get sockets (k - 1)) (sym (eqb-true s o is)) ∙ here (sym (ap is_some now_it_is) ∙ some) ∙ sym (ap socket_of now_it_is)
+      ap (λ (k : ℕ). slice_get sockets (k - 1)) (sym (eqb-true s o is)) ∙ here (sym (ap is_some now_it_is) ∙ some) ∙ sym (ap open_socket now_it_is)
   set_case o set here old false is some =
       let as_before : next o ≡ streams o = set ∙ ap (λ c. cond c now (streams o)) is in
-      old (sym (ap is_some as_before) ∙ some) ∙ sym (ap socket_of as_before)
+      old (sym (ap is_some as_before) ∙ some) ∙ sym (ap open_socket as_before)
 
-  sockets_set : IsSet s now streams next → (is_some now ≡ true → slice_get sockets (s - 1) ≡ socket_of now)
+  sockets_set : IsSet s now streams next → (is_some now ≡ true → slice_get sockets (s - 1) ≡ open_socket now)
       → SocketsAgree streams sockets → SocketsAgree next sockets
   sockets_set set here old o = set_case o (set o) here (old o) (nat_eq s o) refl
 

@@ -49,8 +49,8 @@ sent_of None = []
 sent_of (Some x) = x.sent
 
 -- its socket, where it is open
-abbrev pub socket_of : Option Seen → Option ℤ
-socket_of x = option_map (λ (y : Seen). y.socket) x
+abbrev pub open_socket : Option Seen → Option ℤ
+open_socket x = option_map (λ (y : Seen). y.socket) x
 
 -- of the open streams, the one of this number is now this one, or closed, and no other changes
 abbrev pub IsSet : ℕ → Option Seen → (ℕ → Option Seen) → (ℕ → Option Seen) → Type 0

@@ -1,5 +1,5 @@
 -- What clauses see of the open streams of a port.
-use Rattle.std.specs.Prelude.{◌≡◌, ⊤, ℕ, ◌<◌, ◌≤◌, Bool, true, false, List, length, Option}
+use Rattle.std.specs.Prelude.{◌≡◌, ⊤, ℕ, ◌<◌, ◌≤◌, Bool, true, false, cond, List, [], ◌∷◌, ◌++◌, length, Option}
 use Rattle.std.specs.Option.{option_map}
 use Rattle.std.specs.Map.{lookup}
 use Rattle.std.specs.Bool.{nat_eq}
@@ -16,6 +16,22 @@ is_paused_input Waiting = false
 is_paused_input Listed = false
 is_paused_input Draining = false
 is_paused_input (Paused _) = true
+
+-- whether a stream stands in the list of those that are to be read
+abbrev pub is_listed : Input → Bool
+is_listed Waiting = false
+is_listed Listed = true
+is_listed Draining = true
+is_listed (Paused listed) = listed
+
+-- its place in the list, where it stands there
+abbrev pub listing : ℕ → OpenStream → List ℕ
+listing session o = cond (is_listed o.input) (session ∷ []) []
+
+-- A stream that comes to be listed goes behind the others, and one that is listed already isn't listed again.
+abbrev pub Lists : ℕ → OpenStream → OpenStream → List ℕ → List ℕ → Type 0
+Lists session before after ready_before ready_after =
+    ready_after ≡ ready_before ++ cond (is_listed before.input) [] (listing session after)
 
 abbrev pub seen_of : OpenStream → Seen
 seen_of o =

@@ -3,7 +3,7 @@ use Rattle.std.specs.Prelude.{◌≡◌, ℕ, ℤ, ◌-◌, ◌<◌, Bool, true,
 use Rattle.worker_port.specs.declared.events.PortRecord.{PortRecord}
 use Rattle.worker_port.specs.declared.events.PortRecord.TheVariants as was
 use Rattle.worker_port.specs.Ports.{fed, given, is_in, is_open, opened_count}
-use Rattle.net.specs.Seen.{Seen, is_over, received_of, sent_of, socket_of}
+use Rattle.net.specs.Seen.{Seen, is_over, received_of, sent_of, open_socket}
 
 -- a session is open in the list exactly where its stream is
 abbrev pub OpenAgrees : (ℕ → Option Seen) → List PortRecord → Type 0
@@ -32,7 +32,7 @@ Ties streams last events ended =
 -- an open session has the socket with which it was opened, of those of all sessions from number 1 on
 abbrev pub SocketsAgree : (ℕ → Option Seen) → List ℤ → Type 0
 SocketsAgree streams sockets =
-    (s : ℕ) → is_some (streams s) ≡ true → slice_get sockets (s - 1) ≡ socket_of (streams s)
+    (s : ℕ) → is_some (streams s) ≡ true → slice_get sockets (s - 1) ≡ open_socket (streams s)
 
 -- the same, and `last` sessions were opened
 abbrev pub SocketTies : (ℕ → Option Seen) → ℕ → List ℤ → Type 0

@@ -9,8 +9,9 @@ use Rattle.worker_port.specs.declared.events.PortEvent.{PortEvent}
 use Rattle.worker_port.specs.declared.events.PortEvent.TheVariants as event
 use Rattle.worker_port.specs.declared.events.PortRecord.TheVariants as was
 use Rattle.exchange.specs.Beginnings.{StartsWith}
+use Rattle.exchange.specs.Ends.{ExchangeId}
 use Rattle.worker_port.specs.Giving.{by_system_clock}
-use Rattle.worker_port.specs.Ports.{PortTrace, event_records, then_told, MayCome, is_open, is_in, opened_count}
+use Rattle.worker_port.specs.Ports.{PortTrace, told_last, event_records, then_told, MayCome, is_open, is_in, opened_count}
 use Rattle.net.specs.declared.streams.Streams.{Streams}
 use Rattle.net.specs.Shown.{shown_stream}
 use Rattle.net.specs.Seen.{Seen, is_paused_stream}
@@ -20,6 +21,7 @@ pub record Whose : Type 0 where
   pub terms : Terms
   pub dialect : Dialect
   pub worker : ℕ
+  pub exchange : ExchangeId
   pub history : List Answered
 
 abbrev pub whose_of : Streams → Whose
@@ -28,7 +30,8 @@ whose_of streams =
       terms = by_system_clock streams.owner.geometry;
       dialect = streams.owner.dialect;
       worker = streams.owner.worker;
-      history = streams.history.items;
+      exchange = streams.exchange;
+      history = told_last streams.history;
     }
 
 -- the trace of these streams and this list
@@ -40,6 +43,7 @@ trace whose streams events =
       terms = whose.terms;
       dialect = whose.dialect;
       worker = whose.worker;
+      exchange = whose.exchange;
       history = whose.history;
     }
 
@@ -47,11 +51,12 @@ abbrev pub trace_of : Streams → PortTrace
 trace_of streams = trace (whose_of streams) (shown_stream streams.open.entries) streams.told.items
 
 -- the port of this worker, of which nothing was told
-pub record IsNew (sizes : Sizes) (d : Dialect) (worker : ℕ) (trace : PortTrace) : Type 0 where
+pub record IsNew (sizes : Sizes) (d : Dialect) (worker : ℕ) (exchange : ExchangeId) (trace : PortTrace) : Type 0 where
   pub none : trace.events ≡ []
   pub terms_are : trace.terms ≡ by_system_clock sizes
   pub dialect_is : trace.dialect ≡ d
   pub worker_is : trace.worker ≡ worker
+  pub exchange_is : trace.exchange ≡ exchange
   pub untold : trace.history ≡ []
 
 -- the paused sessions are the open ones whose stream is paused

@@ -18,6 +18,14 @@ impl Interval {
         }
     }
 
+    // The time to the next turn, none of it if one is due; `None` if the clock can't be read.
+    pub(crate) fn left<R: Clock>(&self, rt: &R) -> Option<Duration> {
+        let Some(last) = self.last else {
+            return Some(Duration::ZERO);
+        };
+        Some(self.least.saturating_sub(last.elapsed(rt).ok()?))
+    }
+
     // Whether a turn is due. It is taken to be made. None is due while the clock can't be read.
     pub(crate) fn take<R: Clock>(&mut self, rt: &R) -> bool {
         let Ok(now) = Instant::now(rt) else {

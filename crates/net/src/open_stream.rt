@@ -1,14 +1,18 @@
 //! One open session's stream: what its input and its output are doing.
 
-ghost use Rattle.std.specs.Prelude.{◌≡◌, ◌≤◌, ℤ, true, false, length, take, IfOk};
+ghost use Rattle.std.specs.Prelude.{◌≡◌, ◌≤◌, ◌++◌, ℕ, ℤ, List, true, false, length, take, IfOk};
+ghost use Rattle.proto.specs.declared.message.Message.{Message};
+ghost use Rattle.proto.specs.Reading.{Reads, asks};
+ghost use Rattle.exchange.specs.Beginnings.{StartsWith};
 ghost use Rattle.net.specs.Seen.{fresh, then_sent, then_paused};
 ghost use Rattle.net.specs.Sockets.{IsNewLog};
-ghost use Rattle.net.specs.Shown.{seen_of, Arrives};
-ghost use Rattle.worker_port.specs.Giving.{MayBeSent, by_system_clock};
+ghost use Rattle.net.specs.Shown.{seen_of, Arrives, listing, Lists};
+ghost use Rattle.worker_port.specs.Giving.{MayBeSent, by_system_clock, sent_for};
 
 use crate::owner::Owner;
 use crate::sockets::ServedStream;
 use bytes::Bytes;
+use exchange::{ExchangeName, WorkerBatch};
 use mio::event::Event;
 use std::alloc::Global;
 use std::collections::VecDeque;
@@ -36,14 +40,14 @@ pub(crate) enum Input {
 enum Output {
     /// The last write was whole.
     Free,
-    /// The last write was short, and no room was told since.
-    Blocked,
+    /// The last write was short, after this many looks for idle sessions, and no room was told since.
+    Blocked(u64),
     /// The last write was short, and room was told since.
     Freed,
 }
 
 /// What an event told of a session's stream.
-#[derive(Clone, Copy, Default)]
+#[derive(Clone, Copy)]
 pub(crate) struct Heard {
     pub(crate) session: u64,
     is_readable: bool,
@@ -98,45 +102,62 @@ impl OpenStream {
         }
     }
 
-    // Takes note of what was heard of the stream, which is to be read then if something may be there. True if it has room that
-    // it had not.
-    pub(crate) fn hear(&mut self, heard: Heard) -> bool
-        ensures { seen_of self.new ≡ seen_of self.old }
+    // Takes note of what was heard of the stream, after this many looks for idle sessions, and lists it if something may be
+    // there to read. True if it has room that it had not.
+    pub(crate) fn hear(&mut self, heard: Heard, looks: u64, ready: &mut VecDeque<u64>) -> bool
+        ensures seen { seen_of self.new ≡ seen_of self.old }
+        ensures listed { Lists heard.session self.old self.new ready.old.items ready.new.items }
     {
-        let has_input = heard.is_readable && !self.stream.has_ended;
-        match self.input {
-            Input::Waiting if has_input && heard.has_closed => self.input = Input::Draining,
-            Input::Waiting if has_input => self.input = Input::Listed,
-            Input::Listed if heard.has_closed => self.input = Input::Draining,
-            _ => {}
+        if heard.is_readable && !self.stream.has_ended {
+            match self.input {
+                Input::Waiting => self.list(heard.session, heard.has_closed, ready),
+                Input::Listed if heard.has_closed => self.input = Input::Draining,
+                _ => {}
+            }
         }
-        let is_freed = heard.has_room && matches!(self.output, Output::Blocked);
+        let is_freed = heard.has_room && matches!(self.output, Output::Blocked(_));
         if is_freed {
             self.output = Output::Freed;
+            self.active = looks;
         }
         is_freed
     }
 
-    // Puts the stream in the list of those to read, if it is to be read, though no event told of it. Without memory it waits
-    // for another event.
-    pub(crate) fn list(&mut self, session: u64, ready: &mut VecDeque<Heard>)
-        ensures { seen_of self.new ≡ seen_of self.old }
+    // Puts the stream behind those that are to be read, until nothing is there if it drains. Without memory it waits for another
+    // event.
+    fn list(&mut self, session: u64, drains: bool, ready: &mut VecDeque<u64>)
+        ensures seen { seen_of self.new ≡ then_paused false (seen_of self.old) }
+        ensures behind { ready.new.items ≡ ready.old.items ++ listing session self.new }
     {
-        let heard = Heard {
-            session,
-            ..Heard::default()
-        };
-        let is_wanted = matches!(self.input, Input::Listed | Input::Draining);
-        if is_wanted && ready.push_back(heard).is_err() {
+        if ready.push_back(session).is_err() {
             self.input = Input::Waiting;
+        } else if drains {
+            self.input = Input::Draining;
+        } else {
+            self.input = Input::Listed;
         }
     }
 
-    // Takes the stream off the list, and reads once if it is to be read, after this many looks for idle sessions. It is to be
-    // listed again if more may be there.
-    pub(crate) fn read(&mut self, alloc: Global, scratch: &mut [u8], looks: u64) -> Reading
-        requires { length scratch.old ≡ 16384 }
-        ensures { Arrives (seen_of self.old) result (seen_of self.new) }
+    // Reads once if the stream is to be read, after this many looks for idle sessions. It was taken off the list, and goes
+    // behind the others if more may be there.
+    pub(crate) fn read(
+        &mut self,
+        owner: Owner,
+        exchange: &ExchangeName,
+        session: u64,
+        sender: &WorkerBatch,
+        alloc: Global,
+        scratch: &mut [u8],
+        looks: u64,
+        ready: &mut VecDeque<u64>,
+    ) -> Reading
+        requires room { length scratch.old ≡ 16384 }
+        requires whose { (sender.now.end.worker ≡ owner.worker) × (sender.now.end.exchange ≡ exchange.now) }
+        requires asked { (messages : List Message) (rest : List ℕ)
+            → Reads owner.dialect (seen_of self.old).received messages rest
+            → StartsWith (asks messages) (sent_for sender.now.end.sent session) }
+        ensures arrives { Arrives (seen_of self.old) result (seen_of self.new) }
+        ensures behind { ready.new.items ≡ ready.old.items ++ listing session self.new }
     {
         let input = self.input;
         if let Input::Paused { .. } = input {
@@ -147,11 +168,12 @@ impl OpenStream {
         if matches!(input, Input::Waiting) || self.stream.has_ended {
             return Reading::Nothing;
         }
-        match self.stream.read(scratch) {
+        match self.stream.read(owner, exchange, session, sender, scratch) {
             Ok(0) => Reading::Ended,
             Ok(count) => {
-                if count == scratch.len() || matches!(input, Input::Draining) {
-                    self.input = input;
+                let drains = matches!(input, Input::Draining);
+                if drains || count == scratch.len() {
+                    self.list(session, drains, ready);
                 }
                 if matches!(self.output, Output::Free) {
                     self.active = looks;
@@ -166,30 +188,37 @@ impl OpenStream {
         }
     }
 
-    // Writes once, after this many looks for idle sessions, unless the stream is known to have no room.
+    // Writes once, after this many looks for idle sessions, unless the stream is known to have no room: a short write is tried
+    // again at each look, as the system tells of room only once there is much of it.
     pub(crate) fn write(
         &mut self,
         owner: Owner,
+        exchange: &ExchangeName,
         session: u64,
         bytes: &[u8],
         history: &ToldHistory,
         looks: u64,
     ) -> Result<usize, Gone>
-        requires { MayBeSent (by_system_clock owner.geometry) owner.dialect owner.worker history.now session
+        requires exchange { history.now.exchange ≡ exchange.now }
+        requires due { MayBeSent (by_system_clock owner.geometry) owner.dialect owner.worker history.now.items session
             (seen_of self.old).received (seen_of self.old).sent bytes.now }
         ensures within { IfOk result (λ n. n ≤ length bytes.now) }
         ensures sends { IfOk result (λ n. seen_of self.new ≡ then_sent (take n bytes.now) (seen_of self.old)) }
     {
-        if matches!(self.output, Output::Blocked) || bytes.is_empty() {
+        let is_blocked = match self.output {
+            Output::Blocked(since) => since == looks,
+            Output::Free | Output::Freed => false,
+        };
+        if is_blocked || bytes.is_empty() {
             return Ok(0);
         }
-        let count = match self.stream.write(owner, session, bytes, history) {
+        let count = match self.stream.write(owner, exchange, session, bytes, history) {
             Ok(count) => count,
             Err(error) if error.kind() == ErrorKind::WouldBlock => 0,
             Err(_) => return Err(Gone),
         };
         self.output = if count < bytes.len() {
-            Output::Blocked
+            Output::Blocked(looks)
         } else {
             Output::Free
         };
@@ -210,8 +239,9 @@ impl OpenStream {
     }
 
     // What came meanwhile may not be told again, so the stream is listed, and read until nothing is there.
-    pub(crate) fn resume(&mut self, session: u64, ready: &mut VecDeque<Heard>)
-        ensures { seen_of self.new ≡ then_paused false (seen_of self.old) }
+    pub(crate) fn resume(&mut self, session: u64, ready: &mut VecDeque<u64>)
+        ensures seen { seen_of self.new ≡ then_paused false (seen_of self.old) }
+        ensures listed { Lists session self.old self.new ready.old.items ready.new.items }
     {
         let Input::Paused { is_listed } = self.input else {
             return;
@@ -220,9 +250,10 @@ impl OpenStream {
             self.input = Input::Waiting;
             return;
         }
-        self.input = Input::Draining;
-        if !is_listed {
-            self.list(session, ready);
+        if is_listed {
+            self.input = Input::Draining;
+        } else {
+            self.list(session, true, ready);
         }
     }
 

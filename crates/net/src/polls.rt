@@ -1,6 +1,7 @@
 //! When a port polls its sockets, and how long each poll waits.
 
 use std::time::{Clock, Duration, Instant};
+use worker_port::MAX_PIECE;
 
 /// While the worker may not wait, the sockets are polled only at each fourth call in a row that finds nothing, so that a lone
 /// request may be answered before the first of these polls.
@@ -9,6 +10,10 @@ const CALLS_EACH_POLL: u32 = 4;
 /// This many such calls in a row are taken not to end: the worker has output for peers that take none. From then on each poll
 /// waits a little.
 const STALLED_CALLS: u32 = 8192;
+
+/// The sockets are polled at each so many calls at least, whatever is known, so that a client that sends or reads fast doesn't keep
+/// the others from being heard. Each whole piece of output that was accepted counts as a call.
+const MOST_UNPOLLED: usize = 32;
 
 /// How long a poll waits, in milliseconds: a new stream wakes it.
 const WAIT_MILLIS: u64 = 100;
@@ -23,6 +28,8 @@ const STALLED_WAIT_MILLIS: u64 = 1;
 #[derive(Clone, Copy, Default)]
 pub(crate) struct Polls {
     idle_calls: u32,
+    // The calls since the last poll.
+    unpolled: usize,
     // Zero at first: each poll waits then, if the worker may.
     spin: Duration,
     // The first poll since the last event that would wait; none if there was none.
@@ -41,8 +48,38 @@ impl Polls {
         self.since = None;
     }
 
-    // How long the poll of this call waits, which knows of no event; none if there is to be no poll.
+    // So many bytes of output were accepted.
+    pub(crate) fn gave(&mut self, bytes: usize) {
+        self.restart();
+        self.unpolled = self.unpolled.saturating_add(bytes / MAX_PIECE);
+    }
+
+    // How long the poll of this call waits; none if there is to be no poll.
     pub(crate) fn next<R: Clock>(
+        &mut self,
+        rt: &R,
+        knows_event: bool,
+        may_wait: bool,
+        is_draining: bool,
+    ) -> Option<Duration> {
+        let unpolled = self.unpolled.saturating_add(1);
+        self.unpolled = unpolled;
+        let limit = match knows_event {
+            true => None,
+            false => self.idle_wait(rt, may_wait, is_draining),
+        };
+        let limit = match limit {
+            None if unpolled >= MOST_UNPOLLED => Some(Duration::from_millis(0)),
+            limit => limit,
+        };
+        if limit.is_some() {
+            self.unpolled = 0;
+        }
+        limit
+    }
+
+    // How long the poll of a call waits that knows of no event; none if it needn't poll.
+    fn idle_wait<R: Clock>(
         &mut self,
         rt: &R,
         may_wait: bool,

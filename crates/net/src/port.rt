@@ -6,6 +6,7 @@ ghost use Rattle.std.specs.Option.{option_map};
 ghost use Rattle.worker_port.specs.declared.events.PortRecord.TheVariants.{Shut};
 ghost use Rattle.worker_port.specs.Ports.{PortTrace, then_told, with_pause, event_records, then_gave, is_open, MayCome};
 ghost use Rattle.net.specs.Traces.{trace_of, IsNew, GoesOn, Tells, MayTell, PausesAgree, TellsNothing, AddsSockets};
+ghost use Rattle.worker_port.specs.Giving.{HasAskedOnly};
 ghost use Rattle.net.specs.Shown.{shown_stream};
 ghost use Rattle.net.specs.Ties.{OpenAgrees, BytesAgree, SocketsAgree};
 
@@ -15,12 +16,13 @@ use crate::interval::Interval;
 use crate::owner::Owner;
 use crate::polls::Polls;
 use crate::streams::{OPEN_SESSIONS, Streams};
+use exchange::{ExchangeName, WorkerBatch};
 use mio::{Events, Poll};
 use std::alloc::Global;
 use std::mem;
 use std::net::Net;
 use std::sync::Wait;
-use std::time::Clock;
+use std::time::{Clock, Duration};
 use worker_port::{Gone, Port, PortEvent, ToldHistory};
 
 /// Events of one poll.
@@ -54,8 +56,14 @@ impl<R: Wait + Clock + Net + Drop> MioPort<R> {
     /// # Errors
     ///
     /// Poll, NoMemory.
-    pub fn new(rt: R, alloc: Global, mut hand: Hand, owner: Owner) -> Result<MioPort<R>, NetFault>
-        ensures { IfOk result (λ port. IsNew owner.geometry owner.dialect owner.worker (trace_of port.served)) }
+    pub fn new(
+        rt: R,
+        alloc: Global,
+        mut hand: Hand,
+        owner: Owner,
+        exchange: ExchangeName,
+    ) -> Result<MioPort<R>, NetFault>
+        ensures { IfOk result (λ port. IsNew owner.geometry owner.dialect owner.worker exchange (trace_of port.served)) }
     {
         let poll = Poll::new(&rt).map_err(|_| NetFault::Poll)?;
         hand.register(&poll).map_err(|_| NetFault::Poll)?;
@@ -64,7 +72,7 @@ impl<R: Wait + Clock + Net + Drop> MioPort<R> {
             hand,
             poll,
             events: Events::with_capacity(alloc, EVENTS)?,
-            served: Streams::new(alloc, owner)?,
+            served: Streams::new(alloc, owner, exchange)?,
             polls: Polls::default(),
             idle_looks: None,
             has_streams: true,
@@ -112,7 +120,8 @@ impl<R: Wait + Clock + Drop> MioPort<R> {
     /// The next event that is known without a poll: streams that wait in the hand come before what can be read, and that before
     /// a session that was idle for long enough, so that nobody is ended whose input was heard of. Sessions are numbered from 1,
     /// and no number is given twice.
-    pub fn next_event(&mut self) -> PortEvent
+    pub fn next_event(&mut self, sender: &WorkerBatch) -> PortEvent
+        requires { HasAskedOnly (trace_of self.old.served) sender.now.end }
         ensures told { Tells (trace_of self.old.served) result (trace_of self.new.served) }
         ensures sockets { AddsSockets self.old.served self.new.served }
     {
@@ -124,7 +133,7 @@ impl<R: Wait + Clock + Drop> MioPort<R> {
                 return event;
             }
         }
-        if let Some(event) = self.served.next_input() {
+        if let Some(event) = self.served.next_input(sender) {
             return event;
         }
         if self.has_idle {
@@ -140,21 +149,36 @@ impl<R: Wait + Clock + Drop> MioPort<R> {
         PortEvent::Idle
     }
 
-    // Polls the sockets, unless an event is known already, the end is to be told, or it is too early. False if there is no event.
+    // Polls the sockets, unless it is too early, or an event is known already, or the end is to be told; now and then all the
+    // same. False if there is no event.
     fn look(&mut self, may_wait: bool) -> bool
         ensures { TellsNothing self.old.served self.new.served }
     {
         let has_heard = !self.served.ready.is_empty() || self.has_idle;
         let may_open = self.has_streams && self.served.len() < OPEN_SESSIONS;
-        if has_heard || may_open || (self.served.is_empty() && self.hand.is_drained()) {
-            return true;
-        }
+        let knows_event = has_heard
+            || may_open
+            || (self.served.is_empty() && self.hand.is_drained());
         let is_draining = self.served.lingering.is_ready;
-        let Some(limit) = self.polls.next(&self.rt, may_wait, is_draining) else {
-            return false;
-        };
+        let limit = self
+            .polls
+            .next(&self.rt, knows_event, may_wait, is_draining);
+        if let Some(limit) = limit {
+            self.poll_for(limit);
+        }
+        knows_event || limit.is_some()
+    }
+
+    // Polls the sockets, for no longer than this, nor beyond the next look for idle sessions.
+    fn poll_for(&mut self, limit: Duration)
+        ensures { TellsNothing self.old.served self.new.served }
+    {
         self.served.drain(&self.rt);
         self.hand.report_closed(self.served.len());
+        let limit = match self.idle_looks {
+            Some(looks) if !limit.is_zero() => looks.left(&self.rt).unwrap_or(limit).min(limit),
+            _ => limit,
+        };
         if self.poll.poll(&mut self.events, Some(limit)).is_ok() {
             if self.served.hear_all(&self.events) {
                 self.hand.clear_wakes();
@@ -168,7 +192,6 @@ impl<R: Wait + Clock + Drop> MioPort<R> {
                 self.has_idle = true;
             }
         }
-        true
     }
 
     // Opens a session for the next stream that waits in the hand and can be served.
@@ -205,11 +228,11 @@ impl<R: Wait + Clock + Drop> Port for MioPort<R> {
 
     ghost leads_transitive = { λ _ _ _ _ _. tt };
 
-    fn next(&mut self, may_wait: bool) -> PortEvent {
+    fn next(&mut self, may_wait: bool, sender: &WorkerBatch) -> PortEvent {
         if !self.look(may_wait) {
             return PortEvent::Idle;
         }
-        let event = self.next_event();
+        let event = self.next_event(sender);
         if mem::take(&mut self.served.has_room) || !matches!(event, PortEvent::Idle) {
             self.polls.restart();
         }
@@ -219,7 +242,7 @@ impl<R: Wait + Clock + Drop> Port for MioPort<R> {
     fn give(&mut self, session: u64, bytes: &[u8], history: ToldHistory) -> Result<usize, Gone> {
         let accepted = self.served.write(session, bytes, history)?;
         if accepted > 0 {
-            self.polls.restart();
+            self.polls.gave(accepted);
         }
         Ok(accepted)
     }

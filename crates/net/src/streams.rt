@@ -4,7 +4,7 @@ ghost use Rattle.std.specs.Prelude.{◌≡◌, ◌≤◌, ℕ, true, false, [], 
 ghost use Rattle.worker_port.specs.declared.events.PortEvent.TheVariants.{Opened, Gone as Left, Ended};
 ghost use Rattle.worker_port.specs.declared.events.PortRecord.TheVariants.{Shut};
 ghost use Rattle.worker_port.specs.Ports.{then_told, then_gave, with_pause};
-ghost use Rattle.worker_port.specs.Giving.{MayBeGiven};
+ghost use Rattle.worker_port.specs.Giving.{MayBeGiven, HasAskedOnly};
 ghost use Rattle.net.specs.Shown.{shown_stream};
 ghost use Rattle.net.specs.Ties.{Ties, SocketTies};
 
@@ -13,8 +13,9 @@ use crate::lingering::LingeringStreams;
 use crate::open_stream::{Heard, OpenStream, Reading};
 use crate::owner::Owner;
 use crate::sockets::{EndedStream, NewStream, SocketNote};
+use exchange::{ExchangeName, WorkerBatch};
 use mio::{Events, Poll};
-use proto::{Answered, Noted, Trace};
+use proto::{Noted, Trace};
 use std::alloc::{AllocError, Global};
 use std::collections::{HashMap, VecDeque};
 use std::snapshot::Snapshot;
@@ -42,30 +43,13 @@ impl Noted<PortRecord> for PortNote<'_> {
     ghost noted = { told_by };
 }
 
-#[derive(Clone, Copy)]
-struct HistoryNote<'a> {
-    told: &'a ToldHistory,
-}
-
-impl Noted<Answered> for HistoryNote<'_> {
-    ghost noted = { λ note. note.told.now };
-}
-
-// The history by which bytes are given, for clauses alone.
-fn given_by(told: ToldHistory) -> Trace<Answered>
-    ensures { result.items ≡ told }
-{
-    let mut history = Trace::new();
-    history.note_as(&HistoryNote { told: &told });
-    history
-}
-
-/// The open streams, what was heard of those that may have something to read, and what was told.
+/// The open streams, which of them are to be read, in turn, and what was told.
 #[derive(Drop)]
 pub(crate) struct Streams {
     alloc: Global,
     pub(crate) open: HashMap<u64, OpenStream>,
-    pub(crate) ready: VecDeque<Heard>,
+    /// The sessions whose streams are to be read.
+    pub(crate) ready: VecDeque<u64>,
     /// A stream has room that had none.
     pub(crate) has_room: bool,
     pub(crate) lingering: LingeringStreams,
@@ -78,8 +62,10 @@ pub(crate) struct Streams {
     /// The end was told.
     pub(crate) has_ended: bool,
     pub(crate) owner: Owner,
-    /// By which bytes were given last.
-    pub(crate) history: Trace<Answered>,
+    /// The exchange of its worker's end, for clauses alone.
+    pub(crate) exchange: ExchangeName,
+    /// By which bytes were given last, for clauses alone. It is kept until the next give, so that it can be compared with others.
+    pub(crate) history: Option<ToldHistory>,
     /// The sockets with which the sessions were opened, in their order.
     pub(crate) sockets: Trace<i32>,
     ghost room: { vec_len scratch ≡ 16384 },
@@ -92,8 +78,12 @@ impl Streams {
     ghost use Rattle.net.specs.Traces.{Tells, MayTell, TellsNothing, KeepsSockets};
     ghost use Rattle.net.specs.Sockets.{socket_of};
 
-    pub(crate) fn new(alloc: Global, owner: Owner) -> Result<Streams, AllocError>
-        ensures { IfOk result (λ streams. IsNew owner.geometry owner.dialect owner.worker (trace_of streams)) }
+    pub(crate) fn new(
+        alloc: Global,
+        owner: Owner,
+        exchange: ExchangeName,
+    ) -> Result<Streams, AllocError>
+        ensures { IfOk result (λ streams. IsNew owner.geometry owner.dialect owner.worker exchange (trace_of streams)) }
     {
         Ok(Streams {
             alloc,
@@ -107,7 +97,8 @@ impl Streams {
             told: Trace::new(),
             has_ended: false,
             owner,
-            history: Trace::new(),
+            exchange,
+            history: None,
             sockets: Trace::new(),
         })
     }
@@ -144,7 +135,7 @@ impl Streams {
         Some(session)
     }
 
-    // Lists what a poll brought, and says whether the hand woke it. What finds no memory is lost.
+    // Takes note of what a poll brought, and says whether the hand woke it.
     pub(crate) fn hear_all(&mut self, events: &Events) -> bool
         ensures { TellsNothing self.old self.new }
     {
@@ -153,10 +144,22 @@ impl Streams {
             if event.token() == WAKER {
                 was_woken = true;
             } else {
-                let _ = self.ready.push_back(Heard::of(event));
+                self.hear(Heard::of(event));
             }
         }
         was_woken
+    }
+
+    // Takes note of an event. One that isn't of an open stream is of those that were shut.
+    fn hear(&mut self, heard: Heard)
+        ensures { TellsNothing self.old self.new }
+    {
+        let Some(open) = self.open.get_mut(&heard.session) else {
+            self.lingering.is_ready = true;
+            return;
+        };
+        let has_room = open.hear(heard, self.looks, &mut self.ready);
+        self.has_room = self.has_room || has_room;
     }
 
     // Reads those that were shut, and closes those that were read for long enough.
@@ -167,37 +170,41 @@ impl Streams {
     }
 
     /// Reads from the streams that may have something, until there is an event to tell.
-    pub(crate) fn next_input(&mut self) -> Option<PortEvent>
-        requires { GoesOn (trace_of self.old) }
+    pub(crate) fn next_input(&mut self, sender: &WorkerBatch) -> Option<PortEvent>
+        requires goes_on { GoesOn (trace_of self.old) }
+        requires asked { HasAskedOnly (trace_of self.old) sender.now.end }
         ensures told { MayTell (trace_of self.old) result (trace_of self.new) }
         ensures sockets { KeepsSockets self.old self.new }
     {
         for _ in 0..self.ready.len() {
-            let heard = self.ready.pop_front()?;
-            if let Some(event) = self.read(heard) {
+            let session = self.ready.pop_front()?;
+            if let Some(event) = self.read(session, sender) {
                 return Some(event);
             }
         }
         None
     }
 
-    // Reads once from a stream that was listed, if it is to be read, and tells what came. What was heard of one that isn't open
-    // is of those that were shut.
-    fn read(&mut self, heard: Heard) -> Option<PortEvent>
-        requires { GoesOn (trace_of self.old) }
+    // Reads once from a stream that was taken off the list, if it is open and to be read, and tells what came.
+    fn read(&mut self, session: u64, sender: &WorkerBatch) -> Option<PortEvent>
+        requires goes_on { GoesOn (trace_of self.old) }
+        requires asked { HasAskedOnly (trace_of self.old) sender.now.end }
         ensures told { MayTell (trace_of self.old) result (trace_of self.new) }
         ensures sockets { KeepsSockets self.old self.new }
     {
-        let session = heard.session;
         let Some(open) = self.open.get_mut(&session) else {
-            self.lingering.is_ready = true;
             return None;
         };
-        let has_room = open.hear(heard);
-        self.has_room = self.has_room || has_room;
-        let reading = open.read(self.alloc, self.scratch.as_mut_slice(), self.looks);
-        open.list(session, &mut self.ready);
-        match reading {
+        match open.read(
+            self.owner,
+            &self.exchange,
+            session,
+            sender,
+            self.alloc,
+            self.scratch.as_mut_slice(),
+            self.looks,
+            &mut self.ready,
+        ) {
             Reading::Bytes(piece) => {
                 self.told
                     .note_as(&PortNote::Data(session, piece.as_slice()));
@@ -251,14 +258,21 @@ impl Streams {
         requires open { HasOpen session (trace_of self.old) }
         requires said { MayBeGiven (trace_of self.old) history session bytes.now }
         ensures within { IfOk result (λ n. n ≤ length bytes.now) }
-        ensures told { trace_of self.new ≡ then_gave session bytes.now result history (trace_of self.old) }
+        ensures told { trace_of self.new ≡ then_gave session bytes.now result history.items (trace_of self.old) }
         ensures sockets { KeepsSockets self.old self.new }
     {
         let Some(open) = self.open.get_mut(&session) else {
             return Err(Gone);
         };
-        let answer = open.write(self.owner, session, bytes, &history, self.looks);
-        self.history = given_by(history);
+        let answer = open.write(
+            self.owner,
+            &self.exchange,
+            session,
+            bytes,
+            &history,
+            self.looks,
+        );
+        self.history = Some(history);
         match answer {
             Ok(count) if 0 < count => {
                 self.told

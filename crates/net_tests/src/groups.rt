@@ -3,7 +3,8 @@
 use crate::clients::{ANSWER_A, ANSWER_B, ROW_A, ROW_B, ask, connect, read_all, send};
 use command_line::ServeOptions;
 use net::Listener;
-use proto::{Dialect, Geometry};
+use proto::{Dialect, Eviction, Geometry};
+use serving::serve;
 use std::alloc::Global;
 use std::io::{self, Eprint, Read};
 use std::net::{Net, Shutdown, TcpStream};
@@ -11,7 +12,6 @@ use std::process::Abort;
 use std::sync::Wait;
 use std::thread::{self, Threads};
 use std::time::{Clock, Duration};
-use subcommands::serve;
 
 /// A port of this machine that is free.
 fn free_port<R: Net + Abort>(rt: &R, alloc: Global) -> u16 {
@@ -37,7 +37,8 @@ where
         workers: 2,
         sessions: Some(sessions),
         idle,
-        counters_in_place: false,
+        update_in_place: false,
+        eviction: Eviction::Oldest,
         spin: None,
         segment_size: 65_536,
         segments: 64,

@@ -1,15 +1,15 @@
 //! Hands that are full, or used up.
 
+use crate::asked_port::AskedPort;
 use crate::clients::{Unheard, connect_all, read_all};
-use net::{Hand, Listener, MioPort, Notices, Owner, StreamSender};
-use proto::{Dialect, Geometry};
+use net::{Hand, Listener, Notices, StreamSender};
 use std::alloc::Global;
 use std::net::{Net, TcpStream};
 use std::process::Abort;
 use std::sync::Wait;
 use std::thread::{self, Threads};
 use std::time::{Clock, Duration, Instant};
-use worker_port::{Port, PortEvent};
+use worker_port::PortEvent;
 
 /// How many times a port is asked until it has to have ended.
 const CALLS: usize = 100_000;
@@ -52,27 +52,13 @@ fn streams_that_no_hand_takes_are_closed_within_a_second_or_so(rt: HostRuntime) 
     drop((of_port, clients));
 }
 
-/// A port for the port's end of a hand.
-fn port_of<R: Wait + Clock + Net + Abort + Copy + Drop>(
-    rt: R,
-    alloc: Global,
-    hand: Hand,
-) -> MioPort<R> {
-    let owner = Owner {
-        geometry: Geometry::new(65_536, 64).expect(&rt, "a geometry"),
-        dialect: Dialect::Strict,
-        worker: 0,
-    };
-    MioPort::new(rt, alloc, hand, owner).expect(&rt, "a port")
-}
-
 /// How many sessions the port of a hand opens until it has ended, if it does.
 fn sessions_of<R: Wait + Clock + Net + Abort + Copy + Drop>(
     rt: R,
     alloc: Global,
     hand: Hand,
 ) -> Option<u64> {
-    let mut port = port_of(rt, alloc, hand);
+    let mut port = AskedPort::new(rt, alloc, hand);
     sessions_opened(&mut port)
 }
 
@@ -100,14 +86,14 @@ fn a_listener_ends_once_all_hands_are_used_up(rt: HostRuntime) {
 }
 
 /// Ends a session whose peer sends no more, as a worker does that owes it nothing.
-fn end_session<R: Wait + Clock + Drop>(port: &mut MioPort<R>, session: u64) {
+fn end_session<R: Wait + Clock + Drop>(port: &mut AskedPort<R>, session: u64) {
     if port.is_open(session) {
         port.shut(session);
     }
 }
 
 /// How many sessions a port opens until it has ended, if it does.
-fn sessions_opened<R: Wait + Clock + Drop>(port: &mut MioPort<R>) -> Option<u64> {
+fn sessions_opened<R: Wait + Clock + Drop>(port: &mut AskedPort<R>) -> Option<u64> {
     let mut opened = 0;
     for _ in 0..CALLS {
         match port.next(true) {
@@ -124,7 +110,7 @@ fn sessions_opened<R: Wait + Clock + Drop>(port: &mut MioPort<R>) -> Option<u64>
 const SESSIONS: u64 = 1024;
 
 /// Waits until `opened` sessions were opened and `ended` sessions ended.
-fn await_sessions<R>(rt: &R, port: &mut MioPort<R>, opened: u64, ended: u64)
+fn await_sessions<R>(rt: &R, port: &mut AskedPort<R>, opened: u64, ended: u64)
 where
     R: Wait + Clock + Abort + Drop,
 {
@@ -152,7 +138,7 @@ fn share_of_first<R>(
     alloc: Global,
     listener: &mut Listener,
     hands: &mut [StreamSender],
-    ports: (&mut MioPort<R>, &mut MioPort<R>),
+    ports: (&mut AskedPort<R>, &mut AskedPort<R>),
     count: u64,
 ) -> u64
 where
@@ -172,7 +158,7 @@ where
 const POLLING_CALLS: usize = 4096;
 
 /// How many sessions a port opens of the streams that have come.
-fn opened_now<R: Wait + Clock + Drop>(port: &mut MioPort<R>) -> u64 {
+fn opened_now<R: Wait + Clock + Drop>(port: &mut AskedPort<R>) -> u64 {
     let mut opened: u64 = 0;
     for _ in 0..POLLING_CALLS {
         if let PortEvent::Opened(_) = port.next(false) {
@@ -187,7 +173,7 @@ fn opened_now<R: Wait + Clock + Drop>(port: &mut MioPort<R>) -> u64 {
 struct FullWorker<R: Drop> {
     listener: Listener,
     hands: Vec<StreamSender>,
-    port: MioPort<R>,
+    port: AskedPort<R>,
     clients: Vec<TcpStream>,
 }
 
@@ -197,7 +183,7 @@ where
 {
     let mut listener = Listener::bind(&rt, alloc, "127.0.0.1:0").expect(&rt, "a listener");
     let (of_listener, of_port) = Hand::pair(&rt, alloc, 2 * SESSIONS).expect(&rt, "a hand");
-    let mut port = port_of(rt, alloc, of_port);
+    let mut port = AskedPort::new(rt, alloc, of_port);
     let clients = connect_all(&rt, alloc, listener.port(), SESSIONS);
     let listening = thread::spawn(&rt, move || {
         let mut hands = vec![in alloc; of_listener].expect(&rt, "memory");
@@ -226,7 +212,7 @@ fn streams_go_to_the_worker_that_has_room(rt: HostRuntime) {
         clients,
     } = full_worker(rt, alloc);
     let (of_listener, of_port) = Hand::pair(&rt, alloc, 2 * SESSIONS).expect(&rt, "a hand");
-    let mut empty = port_of(rt, alloc, of_port);
+    let mut empty = AskedPort::new(rt, alloc, of_port);
     hands.push(of_listener).expect(&rt, "memory");
     let ports = (&mut full, &mut empty);
     let share = share_of_first(&rt, alloc, &mut listener, hands.as_mut_slice(), ports, 20);

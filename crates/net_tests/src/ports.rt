@@ -1,21 +1,27 @@
 //! One port, asked by the tests in place of a worker.
 
+use crate::asked_port::AskedPort;
 use crate::clients::{Unheard, connect_all, read_all, send};
-use net::{Hand, Listener, MioPort, Owner};
-use proto::{Dialect, Geometry};
+use net::{Hand, Listener};
 use std::alloc::Global;
 use std::net::{Net, Shutdown, TcpStream};
 use std::process::Abort;
 use std::sync::Wait;
-use std::thread;
 use std::time::{Clock, Duration, Instant};
-use worker_port::{MAX_PIECE, Port, PortEvent};
+use std::{slice, thread};
+use worker_port::{MAX_PIECE, PortEvent};
 
 /// How many times a port is asked for an event that has to come.
 const CALLS: usize = 100_000_000;
 
 /// How many times it is asked where none may come. It waits a little from the 8,192nd on, so more would take long.
 const FEW_CALLS: usize = 10_000;
+
+/// How many whole pieces in a row come of each of some sessions that are read in turn.
+const PIECES_IN_TURN: usize = 40;
+
+/// In how many events another client is heard, while one sends all that the port takes.
+const EVENTS_UNTIL_HEARD: usize = 64;
 
 /// What came, without its bytes.
 #[derive(Clone, Copy, PartialEq)]
@@ -29,7 +35,7 @@ enum Came {
 }
 
 /// The next event that isn't Idle, if one comes.
-fn next<R: Wait + Clock + Drop>(port: &mut MioPort<R>, calls: usize) -> Came {
+fn next<R: Wait + Clock + Drop>(port: &mut AskedPort<R>, calls: usize) -> Came {
     for _ in 0..calls {
         match port.next(false) {
             PortEvent::Opened(session) => return Came::Opened(session),
@@ -44,7 +50,7 @@ fn next<R: Wait + Clock + Drop>(port: &mut MioPort<R>, calls: usize) -> Came {
 }
 
 /// A port to which a listener has handed `count` streams, and the clients' ends of them.
-fn port_with<R>(rt: R, alloc: Global, count: u64) -> (MioPort<R>, Vec<TcpStream>)
+fn port_with<R>(rt: R, alloc: Global, count: u64) -> (AskedPort<R>, Vec<TcpStream>)
 where
     R: Wait + Clock + Net<Stream = TcpStream> + Abort + Copy + Drop,
 {
@@ -53,17 +59,11 @@ where
     let (of_listener, of_port) = Hand::pair(&rt, alloc, count).expect(&rt, "a hand");
     let report = listener.run_heard(&rt, &mut [of_listener], Some(count), &mut Unheard);
     assert!(rt; report.accepted == count && report.closed == 0);
-    let owner = Owner {
-        geometry: Geometry::new(65_536, 64).expect(&rt, "a geometry"),
-        dialect: Dialect::Strict,
-        worker: 0,
-    };
-    let port = MioPort::new(rt, alloc, of_port, owner).expect(&rt, "a port");
-    (port, clients)
+    (AskedPort::new(rt, alloc, of_port), clients)
 }
 
 /// The same for one stream.
-fn port_with_one<R>(rt: R, alloc: Global) -> (MioPort<R>, TcpStream)
+fn port_with_one<R>(rt: R, alloc: Global) -> (AskedPort<R>, TcpStream)
 where
     R: Wait + Clock + Net<Stream = TcpStream> + Abort + Copy + Drop,
 {
@@ -74,7 +74,7 @@ where
 /// Checks that the next event is this one, and else names it by `what`.
 fn check_next<R: Wait + Clock + Abort + Drop>(
     rt: &R,
-    port: &mut MioPort<R>,
+    port: &mut AskedPort<R>,
     calls: usize,
     wanted: Came,
     what: &str,
@@ -83,7 +83,7 @@ fn check_next<R: Wait + Clock + Abort + Drop>(
 }
 
 /// `sessions` sessions are opened, and then the last one's bytes come.
-fn check_opened<R: Wait + Clock + Abort + Drop>(rt: &R, port: &mut MioPort<R>, sessions: u64) {
+fn check_opened<R: Wait + Clock + Abort + Drop>(rt: &R, port: &mut AskedPort<R>, sessions: u64) {
     for session in 1..=sessions {
         check_next(rt, port, CALLS, Came::Opened(session), "a session opens");
     }
@@ -100,7 +100,11 @@ fn all_streams_are_taken_before_bytes_are_read(rt: HostRuntime) {
     check_opened(&rt, &mut port, 3);
 }
 
-fn check_paused<R: Wait + Clock + Abort + Drop>(rt: &R, port: &mut MioPort<R>, client: &TcpStream) {
+fn check_paused<R: Wait + Clock + Abort + Drop>(
+    rt: &R,
+    port: &mut AskedPort<R>,
+    client: &TcpStream,
+) {
     check_next(rt, port, CALLS, Came::Opened(1), "the session opens");
     assert!(*rt; port.is_open(1));
     port.pause(1);
@@ -118,7 +122,7 @@ fn a_paused_session_has_no_data(rt: HostRuntime) {
 }
 
 /// The stream of a session that was shut is ended at once, and closed once its peer has closed it.
-fn check_shut<R>(rt: &R, alloc: Global, port: &mut MioPort<R>, client: TcpStream)
+fn check_shut<R>(rt: &R, alloc: Global, port: &mut AskedPort<R>, client: TcpStream)
 where
     R: Wait + Clock + Abort + Drop,
 {
@@ -143,7 +147,7 @@ fn a_session_that_was_shut_has_ended(rt: HostRuntime) {
 /// The time until the next event, which is this one.
 fn time_until<R: Wait + Clock + Abort + Drop>(
     rt: &R,
-    port: &mut MioPort<R>,
+    port: &mut AskedPort<R>,
     wanted: Came,
     what: &str,
 ) -> Duration {
@@ -153,7 +157,7 @@ fn time_until<R: Wait + Clock + Abort + Drop>(
 }
 
 /// The time until session 1 is gone, while session 2 goes on asking.
-fn time_of_first_end<R>(rt: &R, port: &mut MioPort<R>, second: &TcpStream) -> Duration
+fn time_of_first_end<R>(rt: &R, port: &mut AskedPort<R>, second: &TcpStream) -> Duration
 where
     R: Wait + Clock + Abort + Drop,
 {
@@ -190,7 +194,13 @@ fn a_silent_session_is_gone_after_its_time(rt: HostRuntime) {
 }
 
 /// `pieces` whole pieces of bytes come of session 1, and then nothing: the session goes on.
-fn check_pieces<R>(rt: &R, alloc: Global, port: &mut MioPort<R>, client: &TcpStream, pieces: usize)
+fn check_pieces<R>(
+    rt: &R,
+    alloc: Global,
+    port: &mut AskedPort<R>,
+    client: &TcpStream,
+    pieces: usize,
+)
 where
     R: Wait + Clock + Abort + Drop,
 {
@@ -215,6 +225,68 @@ fn a_pipeline_of_whole_pieces_goes_on(rt: HostRuntime) {
     check_pieces(&rt, alloc, &mut port, &client, 2);
     send(&rt, &client, b"get a\r\n");
     check_next(&rt, &mut port, CALLS, Came::Data(1, 7), "a request");
+}
+
+/// Whole pieces of the sessions from number 1 on come in turn, while each client has sent another one before its last was read.
+fn check_in_turn<R>(rt: &R, alloc: Global, port: &mut AskedPort<R>, fast: &[TcpStream])
+where
+    R: Wait + Clock + Abort + Drop,
+{
+    let piece = Vec::from_elem(alloc, b'x', MAX_PIECE).expect(rt, "memory");
+    for client in fast {
+        send(rt, client, piece.as_slice());
+        send(rt, client, piece.as_slice());
+    }
+    for _ in 0..PIECES_IN_TURN {
+        for (session, client) in (1..=fast.len() as u64).zip(fast) {
+            let whole = Came::Data(session, MAX_PIECE);
+            check_next(rt, port, CALLS, whole, "a whole piece of the next session");
+            send(rt, client, piece.as_slice());
+        }
+    }
+}
+
+/// Whether a request of this session comes in so few events, while the client of session 1 sends a piece whenever one was read.
+fn is_heard<R>(
+    rt: &R,
+    alloc: Global,
+    port: &mut AskedPort<R>,
+    fast: &TcpStream,
+    session: u64,
+) -> bool
+where
+    R: Wait + Clock + Abort + Drop,
+{
+    let piece = Vec::from_elem(alloc, b'x', MAX_PIECE).expect(rt, "memory");
+    for _ in 0..EVENTS_UNTIL_HEARD {
+        match next(port, CALLS) {
+            Came::Data(1, _) => send(rt, fast, piece.as_slice()),
+            came => return came == Came::Data(session, 7),
+        }
+    }
+    false
+}
+
+#[test]
+fn clients_that_send_fast_are_read_in_turn(rt: HostRuntime) {
+    let (mut port, clients) = port_with(rt, rt.alloc(), 3);
+    for session in 1..=3 {
+        check_next(&rt, &mut port, CALLS, Came::Opened(session), "it opens");
+    }
+    check_in_turn(&rt, rt.alloc(), &mut port, clients.as_slice());
+}
+
+#[test]
+fn a_client_that_sends_fast_keeps_no_other_from_being_heard(rt: HostRuntime) {
+    let (mut port, clients) = port_with(rt, rt.alloc(), 2);
+    check_next(&rt, &mut port, CALLS, Came::Opened(1), "the first opens");
+    check_next(&rt, &mut port, CALLS, Came::Opened(2), "the second opens");
+    let [fast, other] = clients.as_slice() else {
+        panic!(rt; "no clients")
+    };
+    check_in_turn(&rt, rt.alloc(), &mut port, slice::from_ref(fast));
+    send(&rt, other, b"get a\r\n");
+    assert!(rt; is_heard(&rt, rt.alloc(), &mut port, fast, 2));
 }
 
 #[test]
@@ -251,7 +323,7 @@ fn the_end_of_input_comes_once_and_after_all_input(rt: HostRuntime) {
 /// Whether nothing but bytes comes of a port's session for `millis` milliseconds.
 fn has_only_input<R: Wait + Clock + Abort + Drop>(
     rt: &R,
-    port: &mut MioPort<R>,
+    port: &mut AskedPort<R>,
     millis: u64,
 ) -> bool {
     let since = Instant::now(rt).expect(rt, "a clock");

@@ -2,14 +2,14 @@
 use Rattle.std.proofs.Common.{◌≡◌, ℕ, List, [], ◌∷◌, ◌++◌, refl, sym, ap, ◌∙◌, append_assoc}
 use Rattle.proto.specs.declared.message.Request.{Request}
 use Rattle.proto.specs.declared.message.Message.{Message}
-use Rattle.proto.specs.declared.message.Message.TheVariants.{Ask, Wrong, Quit, Fatal}
+use Rattle.proto.specs.declared.message.Message.TheVariants.{Ask, Local, Quit, Fatal}
 use Rattle.proto.specs.Reading.{asks}
 
 -- the requests of two lists of messages
 pub asks-append : (ms ns : List Message) → asks (ms ++ ns) ≡ asks ms ++ asks ns
 asks-append [] ns = refl
 asks-append (Ask q quiet ∷ ms) ns = ap (λ (qs : List Request). q ∷ qs) (asks-append ms ns)
-asks-append (Wrong kind ∷ ms) ns = asks-append ms ns
+asks-append (Local kind ∷ ms) ns = asks-append ms ns
 asks-append (Quit ∷ ms) ns = asks-append ms ns
 asks-append (Fatal kind ∷ ms) ns = asks-append ms ns
 

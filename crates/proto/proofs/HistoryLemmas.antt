@@ -1,22 +1,39 @@
 -- The history without an entry, numbers of entries, and what the clock answered.
-use Rattle.std.proofs.Common.{◌≡◌, ℕ, zero, suc, ◌+◌, List, [], ◌∷◌, ◌++◌, true, None, All, sym, ap, subst, ◌∙◌, append_assoc, arith}
+use Rattle.std.proofs.Common.{◌≡◌, ℕ, zero, suc, ◌+◌, List, [], ◌∷◌, ◌++◌, Bool, true, false, None, All, sym, ap, subst, ◌∙◌, append_assoc, arith}
 use mathlib.Core.Option.{some, some-injective, some-ne-none}
 use lib.ListN.{get_elem?}
 use Rattle.proto.specs.declared.history.Answered.{Answered}
 use Rattle.std.proofs.lemmas.List.{append-nil}
-use Rattle.std.proofs.lemmas.List.Elements.{All-nil, All-cons, All-head, All-tail}
+use Rattle.std.proofs.lemmas.List.Elements.{All-nil, All-cons, All-head, All-tail, All-append}
 use Rattle.proto.specs.declared.logged_clock.ClockStart.{ClockStart}
 use Rattle.proto.specs.declared.terms.Terms.{Terms}
+use Rattle.proto.specs.declared.message.Request.TheVariants.{Get}
+use Rattle.proto.specs.declared.message.Reply.TheVariants.{NoMemory}
 use Rattle.proto.specs.ClockAnswers.{GivenAnswer, IsRead}
-use Rattle.proto.specs.History.{LegalBy, MomentsFrom, NumbersFrom, answers_by}
+use Rattle.proto.specs.History.{LegalBy, RefusesBy, MomentsFrom, NumbersFrom, answers_by}
+
+-- an entry that was refused memory is a `get`
+abbrev pub IsRefusedGet : Answered → Type 0
+IsRefusedGet e = e.reply ≡ NoMemory → (keys : List (List ℕ)) × (with_cas : Bool) × (e.request ≡ Get keys with_cas)
 
 abbrev any_start : ClockStart
 any_start = record { unix = None; monotonic = None }
+
+-- nothing was refused
+pub refuses_none : (may_refuse : Bool) → RefusesBy may_refuse []
+refuses_none may_refuse _ = All-nil IsRefusedGet
+
+-- one more entry
+pub refuses_more : (may_refuse : Bool) (h : List Answered) (e : Answered) → RefusesBy may_refuse h
+    → (may_refuse ≡ false → IsRefusedGet e) → RefusesBy may_refuse (h ++ e ∷ [])
+refuses_more may_refuse h e before one none =
+    All-append IsRefusedGet h (e ∷ []) (before none) (All-cons IsRefusedGet e [] (one none) (All-nil IsRefusedGet))
 
 pub legal_none : (terms : Terms) → LegalBy terms []
 legal_none terms = record {
   legal = record { moments = tt; caches = []; chain = tt; numbers = λ w place e at. absurd (some-ne-none e (sym at)) };
   read = λ _. (any_start, All-nil (IsRead any_start));
+  refused = refuses_none terms.may_refuse;
 }
 
 -- the entry at a place has the number that is as far from the first

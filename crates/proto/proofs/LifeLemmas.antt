@@ -6,6 +6,7 @@ use Rattle.std.specs.FinMap as map
 use Rattle.std.proofs.lemmas.Bool.{lt-leb}
 use Rattle.proto.specs.declared.message.Put.{Put}
 use Rattle.proto.specs.declared.message.Request.TheVariants.{Set}
+use Rattle.proto.specs.declared.message.Reply.{Reply}
 use Rattle.proto.specs.declared.message.Reply.TheVariants.{Stored, TooLarge, NoCas}
 use Rattle.proto.specs.Sizes.{Sizes, item_limit}
 use Rattle.proto.specs.Cache.{Entry, Entries, Cache, empty_cache, has_arrived, live, found_at, deadline_of}
@@ -15,7 +16,7 @@ use Rattle.proto.specs.Buckets.{life_width, MayLive}
 use Rattle.proto.specs.Lives.{HasPut, LivesItsTime, LivesForGood}
 use Rattle.proto.proofs.Options.{some_is}
 use Rattle.proto.proofs.CacheLemmas.{contains_bytes, get-live, get-without, if_live, not_forgotten}
-use Rattle.proto.proofs.StepLemmas.{get-stored, insert-dated}
+use Rattle.proto.proofs.StepLemmas.{get-stored, dated_live, insert-dated}
 
 -- ---- what a set leaves
 
@@ -105,10 +106,12 @@ set_leaves sizes before after t p waits (inl x) =
     let found = found_at before t in
     let done = act (item_limit sizes) found t (Set p) in
     let s : Sets done t p = sets_fitting found t p (is_too_large (item_limit sizes) p) waits (sym x.reply_is) in
-    let d : IsDated t done.entries (Some p.key) x.dated =
-    subst (λ (o : Option (List ℕ)). IsDated t done.entries o x.dated) s.stored x.is_dated in
-    let left = insert-dated t s.old p.key s.entry x.dated
-    (subst (λ (m : Entries). IsDated t m (Some p.key) x.dated) s.entries d) in
+    let d : IsDated t done.reply done.entries (Some p.key) x.dated =
+    subst (λ (o : Option (List ℕ)). IsDated t done.reply done.entries o x.dated) s.stored x.is_dated in
+    let r : IsDated t Stored done.entries (Some p.key) x.dated =
+    subst (λ (r : Reply). IsDated t r done.entries (Some p.key) x.dated) (sym x.reply_is) d in
+    let left = insert-dated t Stored s.old p.key s.entry x.dated
+    (subst (λ (m : Entries). IsDated t Stored m (Some p.key) x.dated) s.entries r) in
     let e : Entry = record s.entry { deadline = left.0 } in
     let other = others_forgotten sizes x.dated done.stored p.key x.forgotten s.stored x.may_forget in
     let there : map.get (without_keys x.dated x.forgotten) p.key ≡ Some e =
@@ -119,7 +122,7 @@ set_leaves sizes before after t p waits (inl x) =
       there = ap (λ (m : Entries). map.get m p.key) x.entries ∙ there;
       value = s.value;
       flags = s.flags;
-      may = subst (λ (a : Option ℕ). MayLive t a left.0) s.deadline left.1;
+      may = subst (λ (a : Option ℕ). MayLive t a left.0) s.deadline (dated_live t s.entry.deadline left.0 left.1);
     }
 
 -- ---- what is found of it

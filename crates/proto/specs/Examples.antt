@@ -7,12 +7,12 @@ use Rattle.proto.specs.declared.dialect.Dialect.TheVariants.{Strict, Lenient}
 use Rattle.proto.specs.declared.message.Put.{Put}
 use Rattle.proto.specs.declared.hits.Hit.{Hit}
 use Rattle.proto.specs.declared.message.Request.{Request}
-use Rattle.proto.specs.declared.message.Request.TheVariants.{Get, Set, Add, Replace, Cas, Delete, Incr, Decr, FlushAll}
+use Rattle.proto.specs.declared.message.Request.TheVariants.{Get, Set, Add, Replace, Cas, Append, Prepend, Delete, Incr, Decr, Touch, FlushAll}
 use Rattle.proto.specs.declared.message.Reply.{Reply}
 use Rattle.proto.specs.declared.message.Reply.TheVariants as reply
 use Rattle.proto.specs.declared.message.Message.{Message}
-use Rattle.proto.specs.declared.message.Message.TheVariants.{Ask, Wrong, Quit, Fatal}
-use Rattle.proto.specs.declared.message.WrongKind.TheVariants as wrong
+use Rattle.proto.specs.declared.message.Message.TheVariants.{Ask, Local, Quit, Fatal}
+use Rattle.proto.specs.declared.message.LocalKind.TheVariants as local
 use Rattle.proto.specs.declared.message.FatalKind.TheVariants as fatal
 use Rattle.proto.specs.Sizes.{sizes_of}
 use Rattle.proto.specs.Grammar.{Spells}
@@ -25,6 +25,7 @@ use Rattle.proto.specs.declared.history.Answered.{Answered}
 use Rattle.proto.specs.ClockAnswers.{GivenAnswer}
 use Rattle.proto.specs.History.{Legal, session_share, had, asked}
 use Rattle.proto.specs.Buckets.{bucket_of, width_of, life_width, lower_end, shared_deadline, MayLive}
+use Rattle.proto.specs.Steps.{MayBeDated}
 
 abbrev pub put_with : List ℕ → ℕ → ℤ → List ℕ → Put
 put_with key flags exptime value = record { key = key; flags = flags; exptime = exptime; value = value }
@@ -55,6 +56,9 @@ IsSpelled e = Spells Strict e.0 e.1
 abbrev pub IsSpelledLeniently : Example → Type 0
 IsSpelledLeniently e = Spells Lenient e.0 e.1
 
+abbrev pub touch_of : List ℕ → ℤ → Request
+touch_of key exptime = Touch (record { key = key; exptime = exptime })
+
 abbrev pub requests : List Example
 requests =
     (codes "set a 0 0 1\r\nx\r\n", Ask (Set (put_with a 0 (pos 0) (codes "x"))) false)
@@ -83,22 +87,22 @@ requests =
 
 abbrev pub faults : List Example
 faults =
-    (codes "foo\r\n", Wrong wrong.Unknown)
-    ∷ (codes "\r\n", Wrong wrong.Unknown)
-    ∷ (codes " get a\r\n", Wrong wrong.Unknown)
-    ∷ (codes "GET a\r\n", Wrong wrong.Unknown)
-    ∷ (codes "get\r\n", Wrong wrong.BadLine)
-    ∷ (codes "get \r\n", Wrong wrong.BadLine)
-    ∷ (codes "get  a\r\n", Wrong wrong.BadLine)
-    ∷ (codes "get a\nget a\r\n", Wrong wrong.BadLine)
-    ∷ (codes "get " ++ long_key ++ line_break, Wrong wrong.BadLine)
-    ∷ (codes "get a \r\n", Wrong wrong.BadLine)
-    ∷ (codes "quit \r\n", Wrong wrong.BadLine)
-    ∷ (codes "flush_all 00\r\n", Wrong wrong.BadLine)
-    ∷ (codes "flush_all -1\r\n", Wrong wrong.BadLine)
-    ∷ (codes "flush_all 10000000000\r\n", Wrong wrong.BadLine)
-    ∷ (codes "flush_all 10 20\r\n", Wrong wrong.BadLine)
-    ∷ (codes "incr a 18446744073709551616\r\n", Wrong wrong.BadLine)
+    (codes "foo\r\n", Local local.Unknown)
+    ∷ (codes "\r\n", Local local.Unknown)
+    ∷ (codes " get a\r\n", Local local.Unknown)
+    ∷ (codes "GET a\r\n", Local local.Unknown)
+    ∷ (codes "get\r\n", Local local.BadLine)
+    ∷ (codes "get \r\n", Local local.BadLine)
+    ∷ (codes "get  a\r\n", Local local.BadLine)
+    ∷ (codes "get a\nget a\r\n", Local local.BadLine)
+    ∷ (codes "get " ++ long_key ++ line_break, Local local.BadLine)
+    ∷ (codes "get a \r\n", Local local.BadLine)
+    ∷ (codes "quit \r\n", Local local.BadLine)
+    ∷ (codes "flush_all 00\r\n", Local local.BadLine)
+    ∷ (codes "flush_all -1\r\n", Local local.BadLine)
+    ∷ (codes "flush_all 10000000000\r\n", Local local.BadLine)
+    ∷ (codes "flush_all 10 20\r\n", Local local.BadLine)
+    ∷ (codes "incr a 18446744073709551616\r\n", Local local.BadLine)
     ∷ (codes "set a 0 0 1 \r\n", Fatal fatal.BadLine)
     ∷ (codes "set a 00 0 1\r\n", Fatal fatal.BadLine)
     ∷ (codes "set " ++ long_key ++ codes " 0 0 1\r\n", Fatal fatal.BadLine)
@@ -110,16 +114,20 @@ faults =
     ∷ (codes "set a 0 0 9999999999\r\n", Fatal fatal.TooLarge)
     ∷ (codes "set a 0 0 2\r\nxyz\r", Fatal fatal.BadChunk)
     ∷ (codes "set a 0 0 1\r\nx\ry", Fatal fatal.BadChunk)
-    ∷ (codes "append a 0 0 1\r\n", Wrong wrong.Unknown)
-    ∷ (codes "prepend a 0 0 1 noreply\r\n", Wrong wrong.Unknown)
-    ∷ (codes "delete a 0\r\n", Wrong wrong.BadLine)
-    ∷ (128 ∷ line_break, Wrong wrong.Unknown)
+    ∷ (codes "append a 0 0 1\r\n", Local local.Unknown)
+    ∷ (codes "prepend a 0 0 1 noreply\r\n", Local local.Unknown)
+    ∷ (codes "delete a 0\r\n", Local local.BadLine)
+    ∷ (codes "touch a 60 noreply\r\n", Local local.Unknown)
+    ∷ (codes "version\r\n", Local local.Unknown)
+    ∷ (codes "verbosity 1 noreply\r\n", Local local.Unknown)
+    ∷ (codes "cache_memlimit 64 noreply\r\n", Local local.Unknown)
+    ∷ (128 ∷ line_break, Local local.Unknown)
     ∷ []
 
 -- lines at the limit: with its end one may have 2,048 bytes, and what is longer isn't read to its end
 abbrev pub long_lines : List Example
 long_lines =
-    (replicate 2046 97 ++ line_break, Wrong wrong.Unknown)
+    (replicate 2046 97 ++ line_break, Local local.Unknown)
     ∷ (replicate 2048 97, Fatal fatal.LongLine)
     ∷ (replicate 2047 97 ++ codes "\r", Fatal fatal.LongLine)
     ∷ []
@@ -138,45 +146,57 @@ lenient_lines =
     ∷ (codes "set a 0 0 1 \r\nx\r\n", Ask (Set (put_with a 0 (pos 0) (codes "x"))) false)
     ∷ (codes "set a 0 0 1 noreply \r\nx\r\n", Ask (Set (put_with a 0 (pos 0) (codes "x"))) true)
     ∷ (codes "set a 0 0 2\r\nx \r\n", Ask (Set (put_with a 0 (pos 0) (codes "x "))) false)
-    ∷ (codes "get \r\n", Wrong wrong.BadLine)
-    ∷ (codes "get  \r\n", Wrong wrong.BadLine)
-    ∷ (codes " \r\n", Wrong wrong.Unknown)
-    ∷ (codes "get  a\r\n", Wrong wrong.BadLine)
-    ∷ (codes " get a\r\n", Wrong wrong.Unknown)
-    ∷ (codes "get a\nget a\r\n", Wrong wrong.BadLine)
+    ∷ (codes "get \r\n", Local local.BadLine)
+    ∷ (codes "get  \r\n", Local local.BadLine)
+    ∷ (codes " \r\n", Local local.Unknown)
+    ∷ (codes "get  a\r\n", Local local.BadLine)
+    ∷ (codes " get a\r\n", Local local.Unknown)
+    ∷ (codes "get a\nget a\r\n", Local local.BadLine)
     ∷ (codes "set a 00 0 1 \r\n", Fatal fatal.BadLine)
     ∷ []
 
--- `append` and `prepend` are refused with their data, a `delete` may have a zero after its key, and the binary protocol is
--- refused by its first byte.
-abbrev pub lenient_refusals : List Example
-lenient_refusals =
-    (codes "append a 0 0 1\r\nx\r\n", Wrong wrong.Unknown)
-    ∷ (codes "prepend a 0 0 7\r\nget b\r\n\r\n", Wrong wrong.Unknown)
-    ∷ (codes "append a 0 0 0 \r\n\r\n", Wrong wrong.Unknown)
-    ∷ (codes "append a 0 0 1 noreply\r\nx\r\n", Wrong wrong.Silent)
+-- `append`, `prepend`, `touch`, `version` and `verbosity` are known, a `delete` may have a zero after its key, and the binary
+-- protocol is refused by its first byte.
+abbrev pub lenient_commands : List Example
+lenient_commands =
+    (codes "append a 0 0 1\r\nx\r\n", Ask (Append (put_with a 0 (pos 0) (codes "x"))) false)
+    ∷ (codes "prepend a 0 0 7\r\nget b\r\n\r\n", Ask (Prepend (put_with a 0 (pos 0) (codes "get b\r\n"))) false)
+    ∷ (codes "append a 0 0 0 \r\n\r\n", Ask (Append (put_with a 0 (pos 0) [])) false)
+    ∷ (codes "append a 0 0 1 noreply\r\nx\r\n", Ask (Append (put_with a 0 (pos 0) (codes "x"))) true)
+    ∷ (codes "touch a 60\r\n", Ask (touch_of a (pos 60)) false)
+    ∷ (codes "touch a -1 noreply\r\n", Ask (touch_of a (negsuc 0)) true)
+    ∷ (codes "touch a\r\n", Local local.BadLine)
+    ∷ (codes "touch a 060\r\n", Local local.BadLine)
+    ∷ (codes "version\r\n", Local local.Version)
+    ∷ (codes "verbosity 1\r\n", Local local.Verbosity)
+    ∷ (codes "verbosity\r\n", Local local.Unknown)
+    ∷ (codes "verbosity 1 2 3\r\n", Local local.Unknown)
+    ∷ (codes "verbosity noreply\r\n", Local local.Silent)
+    ∷ (codes "verbosity 1 noreply\r\n", Local local.Silent)
+    ∷ (codes "cache_memlimit 64\r\n", Local local.Unknown)
+    ∷ (codes "cache_memlimit 64 noreply\r\n", Local local.Silent)
     ∷ (codes "append\r\n", Fatal fatal.BadLine)
     ∷ (codes "append a 0 0\r\n", Fatal fatal.BadLine)
     ∷ (codes "prepend a 0 0 1 1\r\n", Fatal fatal.BadLine)
     ∷ (codes "append a 0 0 131073\r\n", Fatal fatal.TooLarge)
     ∷ (codes "append a 0 0 1\r\nxyz", Fatal fatal.BadChunk)
-    ∷ (codes "appendix a 0 0 1\r\n", Wrong wrong.Unknown)
+    ∷ (codes "appendix a 0 0 1\r\n", Local local.Unknown)
     ∷ (codes "delete a 0\r\n", Ask (Delete a) false)
     ∷ (codes "delete a 0 noreply\r\n", Ask (Delete a) true)
     ∷ (codes "delete 0\r\n", Ask (Delete (codes "0")) false)
     ∷ (codes "delete 0 0 \r\n", Ask (Delete (codes "0")) false)
-    ∷ (codes "delete a 0 0\r\n", Wrong wrong.BadLine)
-    ∷ (codes "delete a 00\r\n", Wrong wrong.BadLine)
-    ∷ (codes "delete a 1\r\n", Wrong wrong.BadLine)
-    ∷ (codes "delete a  0\r\n", Wrong wrong.BadLine)
-    ∷ (codes "delete a noreply 0\r\n", Wrong wrong.BadLine)
+    ∷ (codes "delete a 0 0\r\n", Local local.BadLine)
+    ∷ (codes "delete a 00\r\n", Local local.BadLine)
+    ∷ (codes "delete a 1\r\n", Local local.BadLine)
+    ∷ (codes "delete a  0\r\n", Local local.BadLine)
+    ∷ (codes "delete a noreply 0\r\n", Local local.BadLine)
     ∷ (128 ∷ [], Fatal fatal.Binary)
     ∷ []
 
 -- and with its end a line may have 32,768 bytes, its spaces counted
 abbrev pub lenient_long_lines : List Example
 lenient_long_lines =
-    (replicate 32766 97 ++ line_break, Wrong wrong.Unknown)
+    (replicate 32766 97 ++ line_break, Local local.Unknown)
     ∷ (replicate 32768 97, Fatal fatal.LongLine)
     ∷ (replicate 32767 97 ++ codes "\r", Fatal fatal.LongLine)
     ∷ (codes "get a" ++ replicate 32761 32 ++ line_break, Ask (Get (a ∷ []) false) false)
@@ -215,7 +235,11 @@ AnswersAre =
     × (answer (Ask (Incr a 1) false) (Some (reply.Number 0)) ≡ codes "0\r\n")
     × (answer (Ask (Incr a 1) false) (Some reply.NotNumber)
     ≡ codes "CLIENT_ERROR cannot increment or decrement non-numeric value\r\n")
-    × (answer (Wrong wrong.Unknown) None ≡ codes "ERROR\r\n")
+    × (answer (Ask (touch_of a (pos 60)) false) (Some reply.Touched) ≡ codes "TOUCHED\r\n")
+    × (answer (Ask (touch_of a (pos 60)) true) (Some reply.Touched) ≡ [])
+    × (answer (Local local.Unknown) None ≡ codes "ERROR\r\n")
+    × (answer (Local local.Verbosity) None ≡ codes "OK\r\n")
+    × (answer (Local local.Silent) None ≡ [])
     × (answer (Fatal fatal.LongLine) None ≡ codes "CLIENT_ERROR line too long\r\n")
     × (answer Quit None ≡ [])
 
@@ -223,12 +247,12 @@ AnswersAre =
 abbrev pub SaidAre : Type 0
 SaidAre =
     -- local answers stand in their places, before and after a request's
-    (said (Wrong wrong.Unknown ∷ Wrong wrong.Unknown ∷ Ask (Get (a ∷ []) false) false ∷ []) (reply.Values [] ∷ [])
+    (said (Local local.Unknown ∷ Local local.Unknown ∷ Ask (Get (a ∷ []) false) false ∷ []) (reply.Values [] ∷ [])
     ≡ codes "ERROR\r\nERROR\r\nEND\r\n")
-    × (said (Ask (Get (a ∷ []) false) false ∷ Wrong wrong.Unknown ∷ []) (reply.Values [] ∷ [])
+    × (said (Ask (Get (a ∷ []) false) false ∷ Local local.Unknown ∷ []) (reply.Values [] ∷ [])
     ≡ codes "END\r\nERROR\r\n")
     -- and none is given before an earlier request's
-    × (said (Ask (Get (a ∷ []) false) false ∷ Wrong wrong.Unknown ∷ []) [] ≡ [])
+    × (said (Ask (Get (a ∷ []) false) false ∷ Local local.Unknown ∷ []) [] ≡ [])
     × (said (Fatal fatal.BadChunk ∷ []) [] ≡ codes "CLIENT_ERROR bad data chunk\r\n")
 
 -- ---- commands, at the moment 1,000 with the limit 8,192
@@ -297,6 +321,22 @@ RepliesAre =
     × ((after_a (codes "3") (Decr a 5)).reply ≡ reply.Number 0)
     × ((after_a (codes "18446744073709551616") (Incr a 1)).reply ≡ reply.NotNumber)
     × ((after_a (codes "x") (Incr b 1)).reply ≡ reply.NotFound)
+    × ((after_a (codes "x") (Append (put_with b 0 (pos 0) []))).reply ≡ reply.NotStored)
+    × ((after_a (codes "x") (Append (put_with a 0 (pos 0) (replicate 8192 120)))).reply ≡ reply.TooLarge)
+    × ((after_a (codes "x") (touch_of a (negsuc 0))).reply ≡ reply.Touched)
+    × ((after_a (codes "x") (touch_of b (pos 60))).reply ≡ reply.NotFound)
+
+-- what `append`, `prepend` and `touch` leave of `a`: its flags, its deadline but for a touch, and its cas number after a touch
+abbrev pub RewritesDo : Type 0
+RewritesDo =
+    (after_a (codes "x") (Append (put_with a 7 (pos 9) (codes "y"))) ≡ outcome_with
+    (finite.insert (with_a (codes "x")) a (entry_with (codes "xy") None 2)) 2 reply.Stored (Some a))
+    × (after_a (codes "x") (Prepend (put_with a 7 (pos 9) (codes "y"))) ≡ outcome_with
+    (finite.insert (with_a (codes "x")) a (entry_with (codes "yx") None 2)) 2 reply.Stored (Some a))
+    × (after_a (codes "x") (touch_of a (pos 60)) ≡ outcome_with
+    (finite.insert (with_a (codes "x")) a (entry_with (codes "x") (Some 1060) 1)) 1 reply.Touched (Some a))
+    × (after_a (codes "x") (touch_of a (negsuc 0)) ≡ outcome_with
+    (finite.remove (with_a (codes "x")) a) 1 reply.Touched None)
 
 -- `flush_all`, at once and with a delay, where a flush is pending already, and at the greatest moment
 abbrev pub FlushesDo : Type 0
@@ -452,3 +492,17 @@ abbrev pub no_lives : List Life
 no_lives =
     (1000, None, Some 1005) ∷ (1000, Some 1005, None) ∷ (1000, Some 1005, Some 1000)
     ∷ (1000, Some 1005, Some 1006) ∷ (1000, Some 1040, Some 1024) ∷ (1000, Some 9000000000, Some 1001) ∷ []
+
+-- what a touch may leave, and what it may not: an eighth of 1,440 seconds is 180
+abbrev pub MayStay : Life → Type 0
+MayStay e = MayBeDated e.0 e.1 e.2 reply.Touched
+
+abbrev pub MayNotStay : Life → Type 0
+MayNotStay e = ¬ (MayBeDated e.0 e.1 e.2 reply.Touched)
+
+abbrev pub touched_lives : List Life
+touched_lives = (1000, Some 2440, Some 2440) ∷ (1000, Some 2440, Some 2260) ∷ (1000, Some 1005, Some 1005) ∷ []
+
+abbrev pub no_touched_lives : List Life
+no_touched_lives =
+    (1000, Some 2440, Some 2259) ∷ (1000, Some 2440, Some 2441) ∷ (1000, None, Some 2440) ∷ (1000, Some 2440, None) ∷ []

@@ -1,9 +1,11 @@
 -- Histories: lists of answered requests, and which are legal.
-use Rattle.std.specs.Prelude.{◌≡◌, ℕ, ◌+◌, ◌^◌, max, min, ⊤, ◌&&◌, List, [], ◌∷◌, ◌++◌, true, All, map, filter, ◌==◌}
+use Rattle.std.specs.Prelude.{◌≡◌, ℕ, ◌+◌, ◌^◌, max, min, ⊤, ◌&&◌, List, [], ◌∷◌, ◌++◌, Bool, true, false, All, map, filter, ◌==◌}
 use mathlib.Core.Option.{some}
 use lib.ListN.{get_elem?}
 use Rattle.proto.specs.declared.message.Request.{Request}
+use Rattle.proto.specs.declared.message.Request.TheVariants.{Get}
 use Rattle.proto.specs.declared.message.Reply.{Reply}
+use Rattle.proto.specs.declared.message.Reply.TheVariants.{NoMemory}
 use Rattle.proto.specs.declared.history.Posted.{Posted}
 use Rattle.proto.specs.declared.history.Answered.{Answered}
 use Rattle.proto.specs.declared.terms.Terms.{Terms}
@@ -63,8 +65,14 @@ pub record Legal (sizes : Sizes) (history : List Answered) : Type 0 where
   pub chain : Chain sizes (empty_cache 0) history caches
   pub numbers : (worker place : ℕ) (e : Answered) → get_elem? (worker_share history worker) place ≡ some e → e.number ≡ place + 1
 
--- A history that is legal for these sizes. Where the terms say so, the clock's answers in it are readings of the system's clock,
+-- Where no request that stores may be refused memory, each entry that was is a `get`.
+abbrev pub RefusesBy : Bool → List Answered → Type 0
+RefusesBy may_refuse history = may_refuse ≡ false
+    → All (λ (e : Answered). e.reply ≡ NoMemory → (keys : List (List ℕ)) × (with_cas : Bool) × (e.request ≡ Get keys with_cas)) history
+
+-- A history that is legal for these sizes, and refuses memory as the terms say. Where they say so, the clock's answers in it are readings of the system's clock,
 -- one for each entry, all counted from one start.
 pub record LegalBy (terms : Terms) (history : List Answered) : Type 0 where
   pub legal : Legal terms.geometry history
   pub read : terms.system_clock ≡ true → (start : ClockStart) × All (IsRead start) (answers_by [] history)
+  pub refused : RefusesBy terms.may_refuse history

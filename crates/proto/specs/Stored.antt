@@ -3,7 +3,7 @@ use Rattle.std.specs.Prelude.{◌≡◌, ℕ, ◌+◌, ⊤, Bool, true, false, L
 use Rattle.std.specs.List.{list_any}
 use Rattle.std.specs.FinMap as finite
 use Rattle.proto.specs.declared.message.Request.{Request}
-use Rattle.proto.specs.declared.message.Request.TheVariants.{Set, Add, Replace, Cas}
+use Rattle.proto.specs.declared.message.Request.TheVariants.{Set, Add, Replace, Cas, Touch}
 use Rattle.proto.specs.declared.message.Reply.{Reply}
 use Rattle.proto.specs.declared.message.Reply.TheVariants.{NoMemory}
 use Rattle.proto.specs.Sizes.{item_size}
@@ -49,4 +49,5 @@ SetsNoDeadline (Set p) = p.exptime ≡ pos 0
 SetsNoDeadline (Add p) = p.exptime ≡ pos 0
 SetsNoDeadline (Replace p) = p.exptime ≡ pos 0
 SetsNoDeadline (Cas p unique) = p.exptime ≡ pos 0
+SetsNoDeadline (Touch asked) = asked.exptime ≡ pos 0
 SetsNoDeadline _ = ⊤

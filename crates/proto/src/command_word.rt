@@ -1,6 +1,6 @@
 //! The words that begin lines.
 
-ghost use Rattle.std.specs.Prelude.{◌≡◌, ◌≢◌, length, slice_index, option_map, Some, IfSome, MatchOption};
+ghost use Rattle.std.specs.Prelude.{◌≡◌, ◌≢◌, true, length, slice_index, option_map, Some, IfSome, MatchOption};
 ghost use Rattle.proto.specs.Heads.{word_of_command, is_known};
 ghost use Rattle.proto.specs.declared.command_word.CommandWord.{CommandWord};
 
@@ -17,18 +17,6 @@ pub enum StorageWord {
     Prepend,
 }
 
-impl StorageWord {
-    /// Whether a dialect has lines that begin with the word.
-    pub(crate) fn is_known(self, dialect: Dialect) -> bool
-        ensures { result ≡ is_known dialect self }
-    {
-        !matches!(
-            (dialect, self),
-            (Dialect::Strict, StorageWord::Append | StorageWord::Prepend)
-        )
-    }
-}
-
 /// The command words that begin no storage line.
 #[derive(Clone, Copy)]
 pub enum OtherWord {
@@ -39,6 +27,10 @@ pub enum OtherWord {
     Decr,
     FlushAll,
     Quit,
+    Touch,
+    Version,
+    Verbosity,
+    CacheMemlimit,
 }
 
 /// A command word.
@@ -46,6 +38,27 @@ pub enum OtherWord {
 pub enum CommandWord {
     Storage(StorageWord),
     Other(OtherWord),
+}
+
+impl CommandWord {
+    /// Whether a dialect has lines that begin with the word.
+    fn is_known(self, dialect: Dialect) -> bool
+        ensures { result ≡ is_known dialect self }
+    {
+        match dialect {
+            Dialect::Lenient => true,
+            Dialect::Strict => !matches!(
+                self,
+                CommandWord::Storage(StorageWord::Append | StorageWord::Prepend)
+                    | CommandWord::Other(
+                        OtherWord::Touch
+                            | OtherWord::Version
+                            | OtherWord::Verbosity
+                            | OtherWord::CacheMemlimit
+                    )
+            ),
+        }
+    }
 }
 
 /// The one command that a word of this length and first byte may name, with its word.
@@ -69,16 +82,28 @@ fn candidate(size: usize, first: u8) -> Option<(CommandWord, &'static [u8])>
         (6, b'd') => Some((CommandWord::Other(OtherWord::Delete), b"delete")),
         (7, b'r') => Some((CommandWord::Storage(StorageWord::Replace), b"replace")),
         (9, b'f') => Some((CommandWord::Other(OtherWord::FlushAll), b"flush_all")),
+        (5, b't') => Some((CommandWord::Other(OtherWord::Touch), b"touch")),
+        (7, b'v') => Some((CommandWord::Other(OtherWord::Version), b"version")),
+        (9, b'v') => Some((CommandWord::Other(OtherWord::Verbosity), b"verbosity")),
+        (14, b'c') => Some((
+            CommandWord::Other(OtherWord::CacheMemlimit),
+            b"cache_memlimit",
+        )),
         _ => None,
     }
 }
 
-/// The command that the word names: its length and its first byte leave one to be compared with.
-pub(crate) fn command_of(word: &[u8]) -> Option<CommandWord>
-    ensures { MatchOption result ((command : CommandWord)
-        → word.now ≢ word_of_command command) (λ command. word.now ≡ word_of_command command) }
+/// The command of the dialect that the word names: its length and its first byte leave one to be compared with.
+pub(crate) fn command_of(dialect: Dialect, word: &[u8]) -> Option<CommandWord>
+    ensures { MatchOption result ((command : CommandWord) → is_known dialect command ≡ true
+        → word.now ≢ word_of_command command)
+        (λ command. (is_known dialect command ≡ true) × (word.now ≡ word_of_command command)) }
 {
     let (first, _) = word.split_first()?;
     let (command, bytes) = candidate(word.len(), *first)?;
-    if word == bytes { Some(command) } else { None }
+    if word == bytes && command.is_known(dialect) {
+        Some(command)
+    } else {
+        None
+    }
 }

@@ -6,6 +6,7 @@ mod byte_string;
 mod clock;
 mod command_word;
 mod dialect;
+mod eviction;
 mod examples;
 mod geometry;
 mod history;
@@ -23,12 +24,14 @@ mod storage_line;
 mod system_clock;
 mod terms;
 mod trace;
+mod version;
 mod view;
 mod words;
 
 pub use byte_string::ByteString;
 pub use clock::{AskedClock, Clock, ClockAnswers};
 pub use dialect::Dialect;
+pub use eviction::Eviction;
 pub use geometry::{
     BadSize, Geometry, ITEM_HEADER, MAX_SEGMENT_SIZE, MAX_SEGMENTS, MIN_SEGMENT_SIZE, MIN_SEGMENTS,
     item_size,
@@ -40,7 +43,7 @@ pub use limits::{
     MAX_ANSWER, MAX_BLOCK, MAX_KEY, MAX_LENIENT_LINE, MAX_LINE, MAX_POSTS, MAX_SESSIONS,
     MAX_WORKERS, MIN_ITEM_SIZE, WINDOW,
 };
-pub use message::{FatalKind, Message, Next, Put, Reply, Request, WrongKind};
+pub use message::{FatalKind, LocalKind, Message, Next, Put, Reply, Request, Touch};
 pub use next::{next_message, next_message_in, to_message};
 pub use no_memory::NoMemory;
 pub use pending_answer::{PendingAnswer, show, show_reply};
@@ -48,5 +51,6 @@ pub use storage_line::{StorageLineView, StoreMode};
 pub use system_clock::{ClockAnswer, SystemClock};
 pub use terms::Terms;
 pub use trace::{Noted, Trace};
+pub use version::VERSION;
 pub use view::{MessageView, NextView, RequestView, next_view, next_view_behind, next_view_in};
 pub use words::{Words, number};

@@ -15,8 +15,9 @@ pub const MAX_LENIENT_LINE: usize = 32_768;
 /// The longest data block in bytes: an item takes an eighth of a segment at most, and a segment has 1,048,576 at most.
 pub const MAX_BLOCK: u64 = 131_072;
 
-/// The most bytes that the hits of one answer may take. A `get` or `gets` whose hits would take more is answered out of memory.
-pub const MAX_ANSWER: usize = 33_554_432;
+/// The most bytes that the hits of one answer of the lenient dialect may take. A `get` or `gets` whose hits would take more is
+/// answered out of memory. A strict line has too few keys to need a limit.
+pub const MAX_ANSWER: usize = 8_388_608;
 
 /// The size in bytes of the smallest item: 24 bytes before a key of one byte and no value, rounded up to a multiple of 8.
 pub const MIN_ITEM_SIZE: u32 = 32;

@@ -1,13 +1,14 @@
 //! The bytes that answer a message, whether its reply is there already or is still to come. The room of a whole answer is
 //! reserved before its first byte is written.
 
-ghost use Rattle.std.specs.Prelude.{◌≡◌, ◌++◌, is_some, option_copied, None, IsOk, IsTrue, OnOk, OnErr};
+ghost use Rattle.std.specs.Prelude.{◌≡◌, ◌+◌, ◌≤◌, ◌++◌, length, is_some, option_copied, None, IsOk, IsTrue, OnOk, OnErr};
 ghost use Rattle.std.specs.Option.{option_copied_mut};
 ghost use Rattle.proto.specs.Answers.{answer, is_ask, is_silent, reply_bytes};
 ghost use Rattle.proto.specs.Lines.{line_end};
 
-use crate::message::{FatalKind, Message, Reply, WrongKind};
+use crate::message::{FatalKind, LocalKind, Message, Reply};
 use crate::no_memory::NoMemory;
+use crate::version::VERSION;
 use itoa::Buffer;
 use std::marker::Model;
 use std::snapshot::Snapshot;
@@ -19,6 +20,19 @@ fn show_line(out: &mut Vec<u8>, text: &[u8]) -> Result<(), NoMemory>
 {
     out.reserve(text.len() + 2)?;
     out.extend_from_slice(text).unwrap();
+    out.extend_from_slice(b"\r\n").unwrap();
+    Ok(())
+}
+
+/// Appends a line that has two short parts, or changes nothing.
+fn show_parts(out: &mut Vec<u8>, front: &[u8], behind: &[u8]) -> Result<(), NoMemory>
+    requires { length front.now + length behind.now ≤ 100 }
+    ensures ok { OnOk result (out.new.items ≡ out.old.items ++ front.now ++ behind.now ++ line_end) }
+    ensures err { OnErr result (out.new.items ≡ out.old.items) }
+{
+    out.reserve(front.len() + behind.len() + 2)?;
+    out.extend_from_slice(front).unwrap();
+    out.extend_from_slice(behind).unwrap();
     out.extend_from_slice(b"\r\n").unwrap();
     Ok(())
 }
@@ -39,6 +53,7 @@ fn show_copied(out: &mut Vec<u8>, reply: &Reply) -> Result<(), NoMemory>
             let mut buffer = Buffer::new();
             show_line(out, buffer.format(*n).as_bytes())
         }
+        Reply::Touched => show_line(out, b"TOUCHED"),
         Reply::Flushed => show_line(out, b"OK"),
         Reply::TooLarge => show_line(out, b"SERVER_ERROR object too large for cache"),
         Reply::NoMemory => show_line(out, b"SERVER_ERROR out of memory"),
@@ -69,7 +84,7 @@ pub fn show_reply(reply: &mut Reply, out: &mut Vec<u8>) -> Result<(), NoMemory>
 pub(crate) enum AnswerKind {
     Ask,
     QuietAsk,
-    Wrong(WrongKind),
+    Local(LocalKind),
     Quit,
     Fatal(FatalKind),
 }
@@ -101,7 +116,7 @@ impl PendingAnswer {
         let kind = match message {
             Message::Ask(_, true) => AnswerKind::QuietAsk,
             Message::Ask(_, false) => AnswerKind::Ask,
-            Message::Wrong(kind) => AnswerKind::Wrong(*kind),
+            Message::Local(kind) => AnswerKind::Local(*kind),
             Message::Quit => AnswerKind::Quit,
             Message::Fatal(kind) => AnswerKind::Fatal(*kind),
         };
@@ -138,11 +153,15 @@ impl PendingAnswer {
         match self.kind {
             AnswerKind::Ask
             | AnswerKind::QuietAsk
+            | AnswerKind::Local(LocalKind::Silent)
             | AnswerKind::Quit
-            | AnswerKind::Wrong(WrongKind::Silent)
             | AnswerKind::Fatal(FatalKind::Binary) => Ok(()),
-            AnswerKind::Wrong(WrongKind::Unknown) => show_line(out, b"ERROR"),
-            AnswerKind::Wrong(WrongKind::BadLine) | AnswerKind::Fatal(FatalKind::BadLine) => {
+            AnswerKind::Local(LocalKind::Unknown) => show_line(out, b"ERROR"),
+            AnswerKind::Local(LocalKind::Version) => {
+                show_parts(out, b"VERSION 1.6.0-segcached-", VERSION.as_bytes())
+            }
+            AnswerKind::Local(LocalKind::Verbosity) => show_line(out, b"OK"),
+            AnswerKind::Local(LocalKind::BadLine) | AnswerKind::Fatal(FatalKind::BadLine) => {
                 show_line(out, b"CLIENT_ERROR bad command line format")
             }
             AnswerKind::Fatal(FatalKind::LongLine) => show_line(out, b"CLIENT_ERROR line too long"),

@@ -7,14 +7,15 @@ ghost use Rattle.proto.specs.Heads.{storage_line_of, tail_of};
 use crate::command_word::StorageWord;
 use crate::words::{MAX_TEN_DIGITS, Words};
 
-/// How a storage command stores; `Cas` has the cas number that the entry is to have. `append` and `prepend` are refused.
+/// How a storage command stores; `Cas` has the cas number that the entry is to have.
 #[derive(Clone, Copy)]
 pub enum StoreMode {
     Set,
     Add,
     Replace,
     Cas(u64),
-    Refused,
+    Append,
+    Prepend,
 }
 
 /// What a storage line says; the key is lent from the line.
@@ -49,7 +50,8 @@ fn tail(word: StorageWord, mut words: Words) -> Option<(StoreMode, bool)>
         StorageWord::Set => StoreMode::Set,
         StorageWord::Add => StoreMode::Add,
         StorageWord::Replace => StoreMode::Replace,
-        StorageWord::Append | StorageWord::Prepend => StoreMode::Refused,
+        StorageWord::Append => StoreMode::Append,
+        StorageWord::Prepend => StoreMode::Prepend,
         StorageWord::Cas => StoreMode::Cas(words.next_number(u64::MAX)?),
     };
     let noreply = noreply(words)?;

@@ -3,6 +3,7 @@
 use crate::counters::{Counters, SteadyClock};
 use crate::quiet_port::QuietPort;
 use crate::served::{Outcome, Session, outcome_of};
+use exchange::{Exchange, MakeFault};
 use group::{Config, GroupFault, GroupReport, run_group};
 use proto::{Dialect, Geometry, Terms};
 use segcache::Store;
@@ -65,7 +66,40 @@ fn judged(report: &GroupReport<QuietPort<'_>, SteadyClock<'_>>) -> Outcome {
     }
 }
 
-/// A fault is allowed before anything was taken or executed.
+/// Runs a group over these ports. A fault is allowed before anything was taken or executed.
+fn run_over<'a, R: Threads + Wait + time::Clock + Sync>(
+    rt: &R,
+    alloc: Global,
+    geometry: Geometry,
+    counters: &'a Counters,
+    ports: Vec<QuietPort<'a>>,
+) -> Outcome {
+    let clock = SteadyClock { counters };
+    let Ok(store) = Store::new(alloc, geometry) else {
+        return Outcome::Allowed;
+    };
+    let config = Config {
+        terms: Terms {
+            geometry,
+            system_clock: false,
+            may_refuse: true,
+        },
+        dialect: Dialect::Strict,
+        spin: None,
+    };
+    let exchange = match Exchange::new(alloc, ports.len(), config.terms) {
+        Ok(exchange) => exchange,
+        Err(MakeFault::NoMemory) => return Outcome::Allowed,
+        Err(MakeFault::BadCount) => return Outcome::Wrong,
+    };
+    match run_group(rt, alloc, ports, exchange, config, store, clock, &OpenGate) {
+        Ok(report) => judged(&report),
+        Err(GroupFault::NoMemory | GroupFault::NoThread) if counters.are_zero() => Outcome::Allowed,
+        Err(_) => Outcome::Wrong,
+    }
+}
+
+/// Two workers serve their sessions over a new store of 64 segments.
 fn run<R: Threads + Wait + time::Clock + Sync>(rt: &R, alloc: Global) -> Outcome {
     let Ok(geometry) = Geometry::new(65_536, 64) else {
         return Outcome::Wrong;
@@ -74,32 +108,7 @@ fn run<R: Threads + Wait + time::Clock + Sync>(rt: &R, alloc: Global) -> Outcome
     let Some(ports) = ports(alloc, &counters) else {
         return Outcome::Wrong;
     };
-    let clock = SteadyClock {
-        counters: &counters,
-    };
-    let Ok(store) = Store::new(alloc, geometry) else {
-        return Outcome::Allowed;
-    };
-    match run_group(
-        rt,
-        alloc,
-        ports,
-        Config {
-            terms: Terms {
-                geometry,
-                system_clock: false,
-            },
-            dialect: Dialect::Strict,
-            spin: None,
-        },
-        store,
-        clock,
-        &OpenGate,
-    ) {
-        Ok(report) => judged(&report),
-        Err(GroupFault::NoMemory | GroupFault::NoThread) if counters.are_zero() => Outcome::Allowed,
-        Err(_) => Outcome::Wrong,
-    }
+    run_over(rt, alloc, geometry, &counters, ports)
 }
 
 /// Whether each of two runs comes to what a refusal allows, and one of them, as no more than one of them meets the

@@ -13,6 +13,7 @@ pub fn is_repeatable(alloc: Global) -> bool {
         let terms = Terms {
             geometry,
             system_clock: false,
+            may_refuse: true,
         };
         if let Ok((ends, storage)) = make(alloc, 2, terms) {
             return ends.len() == 2 && storage.workers() == 2;

@@ -3,22 +3,24 @@
 ghost use Rattle.std.specs.Prelude.{◌≡◌, true};
 ghost use Rattle.proto.specs.Answers.{is_ask};
 
-use proto::{Message, Next, Reply, Request, next_message, show};
+use proto::{Dialect, Message, Next, Reply, Request, next_message_in, show};
 use std::alloc::Global;
 
 /// A request of each form that is copied, and what the reply Stored makes of it.
-const INPUTS: [&[u8]; 5] = [
+const INPUTS: [&[u8]; 7] = [
     b"set key 7 0 5\r\nvalue\r\n",
     b"cas key 7 0 5 1\r\nvalue\r\n",
+    b"append key 7 0 5\r\nvalue\r\n",
     b"get key other third\r\n",
     b"delete key\r\n",
     b"incr key 1\r\n",
+    b"touch key 60\r\n",
 ];
 
 /// The message, where it is read at the first or the second try.
 fn read(alloc: Global, input: &[u8]) -> Option<Message> {
     for _ in 0..2 {
-        if let Ok(Next::Found(message, _)) = next_message(alloc, input) {
+        if let Ok(Next::Found(message, _)) = next_message_in(alloc, Dialect::Lenient, input) {
             return Some(message);
         }
     }

@@ -2,6 +2,7 @@
 
 use crate::counters::Counters;
 use bytes::Bytes;
+use exchange::WorkerBatch;
 use worker_port::{Gone, Port, PortEvent, ToldHistory};
 
 /// The most bytes that are kept of a session's output.
@@ -83,7 +84,7 @@ impl Port for QuietPort<'_> {
 
     ghost leads_to = { λ _ _. Unit {0} };
 
-    fn next(&mut self, _may_wait: bool) -> PortEvent {
+    fn next(&mut self, _may_wait: bool, _sender: &WorkerBatch) -> PortEvent {
         self.counters.count_event();
         self.step = self.step.saturating_add(1);
         match self.step {

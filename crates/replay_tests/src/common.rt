@@ -1,6 +1,7 @@
 //! What the tests share.
 
 use command_line::{Job, Options, geometry_of, parse_words};
+use replaying::{Fault, replay};
 use std::alloc::{AllocError, Global};
 use std::fmt::Debug;
 use std::process::Abort;
@@ -8,7 +9,6 @@ use std::sync::Wait;
 use std::test::Fail;
 use std::thread::Threads;
 use std::time;
-use subcommands::{Fault, replay};
 
 /// Checks that the values are the same, and else names the place at which they aren't.
 pub fn check_same<T: Copy + PartialEq + Debug, P: Copy + Debug>(

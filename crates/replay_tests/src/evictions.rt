@@ -12,37 +12,80 @@ use std::time;
 /// `writes` keys are written, the first one is read `reads` times before the 65th write, and then all are read.
 #[derive(Clone, Copy)]
 struct Run {
+    words: &'static str,
     writes: u32,
     reads: u32,
     /// The first and the last key that are forgotten.
     forgotten: (u32, u32),
+    /// So of others, with a rule that merges other segments next; (0, 0) if there are none.
+    also: (u32, u32),
 }
 
-const RUNS: [Run; 5] = [
+/// The first merge takes the first four segments, of 32 keys. With `least-read` the second one takes those behind what
+/// the first one left, with the keys 33 to 64; with `oldest` what it left, and three segments behind it.
+const RUNS: [Run; 9] = [
     Run {
+        words: "",
         writes: 64,
         reads: 0,
         forgotten: (0, 0),
+        also: (0, 0),
     },
     Run {
+        words: "",
         writes: 65,
         reads: 0,
         forgotten: (1, 24),
+        also: (0, 0),
     },
     Run {
+        words: "",
         writes: 65,
         reads: 1,
         forgotten: (2, 25),
+        also: (0, 0),
     },
     Run {
+        words: "",
         writes: 89,
         reads: 0,
         forgotten: (1, 48),
+        also: (0, 0),
     },
     Run {
+        words: "",
         writes: 89,
         reads: 2,
         forgotten: (2, 49),
+        also: (0, 0),
+    },
+    Run {
+        words: "--evict oldest",
+        writes: 89,
+        reads: 0,
+        forgotten: (1, 48),
+        also: (0, 0),
+    },
+    Run {
+        words: "--evict least-read",
+        writes: 65,
+        reads: 0,
+        forgotten: (1, 24),
+        also: (0, 0),
+    },
+    Run {
+        words: "--evict least-read",
+        writes: 89,
+        reads: 0,
+        forgotten: (1, 24),
+        also: (33, 56),
+    },
+    Run {
+        words: "--evict least-read",
+        writes: 89,
+        reads: 1,
+        forgotten: (2, 25),
+        also: (33, 56),
     },
 ];
 
@@ -92,6 +135,12 @@ fn push_hit(alloc: Global, text: &mut String, key: u32, value: &str) -> Result<(
     push_value(text, value)
 }
 
+/// Whether a key is one of those from the first to the last.
+fn is_within(keys: (u32, u32), key: u32) -> bool {
+    let (first, last) = keys;
+    first <= key && key <= last
+}
+
 fn push_output(alloc: Global, text: &mut String, run: Run, value: &str) -> Result<(), AllocError> {
     for key in 1..=run.writes {
         if key == 65 {
@@ -102,9 +151,8 @@ fn push_output(alloc: Global, text: &mut String, run: Run, value: &str) -> Resul
         }
         text.push_str("STORED\r\n")?;
     }
-    let (from, to) = run.forgotten;
     for key in 1..=run.writes {
-        if key < from || key > to {
+        if !is_within(run.forgotten, key) && !is_within(run.also, key) {
             push_hit(alloc, text, key, value)?;
         }
         text.push_str("END\r\n")?;
@@ -112,15 +160,17 @@ fn push_output(alloc: Global, text: &mut String, run: Run, value: &str) -> Resul
     Ok(())
 }
 
-/// One session sends this text and is given that one, over eight segments.
+/// One session sends this text and is given that one, over eight segments and with these options.
 fn check_texts<H: Abort + Threads + Wait + time::Clock + Sync, P: Copy + Debug>(
     rt: &H,
     alloc: Global,
+    options: &str,
     input: &str,
     output: &str,
     place: P,
 ) -> Result<(), Fail> {
-    let words = "--segment-size 4096 --segments 8";
+    let words = format!(in alloc; "--segment-size 4096 --segments 8 {options}")?;
+    let words = words.as_str().trim_end();
     check_session(rt, alloc, words, input.as_bytes(), output.as_bytes(), place)
 }
 
@@ -137,9 +187,10 @@ fn check_run<H: Abort + Threads + Wait + time::Clock + Sync>(
     check_texts(
         rt,
         alloc,
+        run.words,
         input.as_str(),
         output.as_str(),
-        (run.writes, run.reads),
+        (run.words, run.writes, run.reads),
     )
 }
 
@@ -163,29 +214,144 @@ fn merges_keep_what_was_read(rt: HostRuntime) -> Result<(), Fail> {
     check_runs(&rt, alloc, &RUNS, value.as_str())
 }
 
-/// Eight times its number of seconds is a key's life.
-fn push_lives(alloc: Global, input: &mut String, output: &mut String) -> Result<(), AllocError> {
+/// Nine keys are written, each with a life of its own: eight times its number of seconds. The first one is read before
+/// and after the eighth write.
+#[derive(Clone, Copy)]
+struct Lives {
+    words: &'static str,
+    before: u32,
+    after: u32,
+    /// The key that is forgotten.
+    forgotten: u32,
+}
+
+/// Of the first quarter, the segments of the first two keys, the first one has fewest hits, unless the first key was
+/// read. The eighth segment that is opened halves all hits.
+const LIVES: [Lives; 7] = [
+    Lives {
+        words: "",
+        before: 0,
+        after: 0,
+        forgotten: 1,
+    },
+    Lives {
+        words: "--evict oldest",
+        before: 3,
+        after: 3,
+        forgotten: 1,
+    },
+    Lives {
+        words: "--evict least-read",
+        before: 0,
+        after: 0,
+        forgotten: 1,
+    },
+    Lives {
+        words: "--evict least-read",
+        before: 0,
+        after: 1,
+        forgotten: 2,
+    },
+    Lives {
+        words: "--evict least-read",
+        before: 1,
+        after: 0,
+        forgotten: 1,
+    },
+    Lives {
+        words: "--evict least-read",
+        before: 2,
+        after: 0,
+        forgotten: 2,
+    },
+    Lives {
+        words: "--evict least-read",
+        before: 3,
+        after: 1,
+        forgotten: 2,
+    },
+];
+
+/// The first key is read so many times.
+fn push_reads(input: &mut String, output: &mut String, times: u32) -> Result<(), AllocError> {
+    push_times(input, "get k1\r\n", times)?;
+    push_times(output, "VALUE k1 0 1\r\nx\r\nEND\r\n", times)
+}
+
+/// A key with its life is written.
+fn push_life(
+    alloc: Global,
+    input: &mut String,
+    output: &mut String,
+    key: u32,
+) -> Result<(), AllocError> {
+    let life = key.wrapping_mul(8);
+    let line = format!(in alloc; "set k{key} 0 {life} 1\r\nx\r\n")?;
+    input.push_str(line.as_str())?;
+    output.push_str("STORED\r\n")
+}
+
+fn push_lives(
+    alloc: Global,
+    input: &mut String,
+    output: &mut String,
+    lives: Lives,
+) -> Result<(), AllocError> {
     for key in 1..=9u32 {
-        let life = key * 8;
-        let line = format!(in alloc; "set k{key} 0 {life} 1\r\nx\r\n")?;
-        input.push_str(line.as_str())?;
-        output.push_str("STORED\r\n")?;
+        if key == 8 {
+            push_reads(input, output, lives.before)?;
+        }
+        if key == 9 {
+            push_reads(input, output, lives.after)?;
+        }
+        push_life(alloc, input, output, key)?;
     }
-    input.push_str("get k1 k2 k3 k4 k5 k6 k7 k8 k9\r\n")?;
-    for key in 2..=9u32 {
-        let line = format!(in alloc; "VALUE k{key} 0 1\r\nx\r\n")?;
-        output.push_str(line.as_str())?;
-    }
-    output.push_str("END\r\n")?;
     Ok(())
+}
+
+/// All nine keys are read.
+fn push_all(
+    alloc: Global,
+    input: &mut String,
+    output: &mut String,
+    forgotten: u32,
+) -> Result<(), AllocError> {
+    input.push_str("get k1 k2 k3 k4 k5 k6 k7 k8 k9\r\n")?;
+    for key in 1..=9u32 {
+        if key != forgotten {
+            let line = format!(in alloc; "VALUE k{key} 0 1\r\nx\r\n")?;
+            output.push_str(line.as_str())?;
+        }
+    }
+    output.push_str("END\r\n")
+}
+
+fn check_lives<H: Abort + Threads + Wait + time::Clock + Sync>(
+    rt: &H,
+    alloc: Global,
+    lives: Lives,
+) -> Result<(), Fail> {
+    let mut input = String::new(alloc);
+    let mut output = String::new(alloc);
+    push_lives(alloc, &mut input, &mut output, lives)?;
+    push_all(alloc, &mut input, &mut output, lives.forgotten)?;
+    let place = (lives.words, lives.before, lives.after);
+    check_texts(
+        rt,
+        alloc,
+        lives.words,
+        input.as_str(),
+        output.as_str(),
+        place,
+    )
 }
 
 /// Nine keys of nine lives stand in nine buckets, of which eight have a segment.
 #[test]
-fn the_segment_opened_first_is_cleared(rt: HostRuntime) -> Result<(), Fail> {
+fn the_oldest_or_the_least_read_is_cleared(rt: HostRuntime) -> Result<(), Fail> {
     let alloc = rt.alloc();
-    let mut input = String::new(alloc);
-    let mut output = String::new(alloc);
-    push_lives(alloc, &mut input, &mut output)?;
-    check_texts(&rt, alloc, input.as_str(), output.as_str(), "nine lives")
+    for lives in &LIVES {
+        check_lives(&rt, alloc, *lives)?;
+    }
+    Ok(())
 }

@@ -2,6 +2,7 @@
 
 use crate::common::{check_same, options};
 use command_line::{Options, geometry_of};
+use replaying::{Fault, cannot_read, replay};
 use std::alloc::Global;
 use std::io::{self, ErrorKind, Read, Write};
 use std::process::Abort;
@@ -9,7 +10,6 @@ use std::sync::Wait;
 use std::test::Fail;
 use std::thread::Threads;
 use std::time;
-use subcommands::{Fault, cannot_read, replay};
 
 /// Gives some bytes, and then fails.
 #[derive(Drop)]

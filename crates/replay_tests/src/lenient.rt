@@ -59,6 +59,62 @@ fn behind_set(alloc: Global, first: &str, text: &str) -> Result<String, AllocErr
     Ok(all)
 }
 
+/// The same of the commands that the strict dialect hasn't.
+const COMMANDS: [(&str, &str, &str); 12] = [
+    (
+        "touch a 60\r\nget a\r\n",
+        "TOUCHED\r\nVALUE a 0 1\r\nx\r\nEND\r\n",
+        "ERROR\r\nVALUE a 0 1\r\nx\r\nEND\r\n",
+    ),
+    (
+        "touch a -1\r\nget a\r\n",
+        "TOUCHED\r\nEND\r\n",
+        "ERROR\r\nVALUE a 0 1\r\nx\r\nEND\r\n",
+    ),
+    (
+        "touch a 60 noreply\r\ntouch b 60\r\n",
+        "NOT_FOUND\r\n",
+        "ERROR\r\nERROR\r\n",
+    ),
+    (
+        "append a 7 -1 1\r\ny\r\ngets a\r\n",
+        "STORED\r\nVALUE a 0 2 2\r\nxy\r\nEND\r\n",
+        "ERROR\r\nERROR\r\nVALUE a 0 1 1\r\nx\r\nEND\r\n",
+    ),
+    (
+        "prepend a 0 0 5\r\nget b\r\nget a\r\n",
+        "STORED\r\nVALUE a 0 6\r\nget bx\r\nEND\r\n",
+        "ERROR\r\nEND\r\nVALUE a 0 1\r\nx\r\nEND\r\n",
+    ),
+    (
+        "append b 0 0 0\r\n\r\n",
+        "NOT_STORED\r\n",
+        "ERROR\r\nERROR\r\n",
+    ),
+    (
+        "append a 0 0 1 noreply\r\ny\r\nget a\r\n",
+        "VALUE a 0 2\r\nxy\r\nEND\r\n",
+        "ERROR\r\nERROR\r\nVALUE a 0 1\r\nx\r\nEND\r\n",
+    ),
+    (
+        "version\r\n",
+        "VERSION 1.6.0-segcached-0.6.0\r\n",
+        "ERROR\r\n",
+    ),
+    ("verbosity 1\r\n", "OK\r\n", "ERROR\r\n"),
+    (
+        "verbosity 1 noreply\r\nget a\r\n",
+        ONE_HIT,
+        "ERROR\r\nVALUE a 0 1\r\nx\r\nEND\r\n",
+    ),
+    (
+        "cache_memlimit 64 noreply\r\nget a\r\n",
+        ONE_HIT,
+        "ERROR\r\nVALUE a 0 1\r\nx\r\nEND\r\n",
+    ),
+    ("cache_memlimit 64\r\n", "ERROR\r\n", "ERROR\r\n"),
+];
+
 fn check_line<H: Abort + Threads + Wait + time::Clock + Sync>(
     rt: &H,
     alloc: Global,
@@ -81,6 +137,11 @@ fn check_lines<H: Abort + Threads + Wait + time::Clock + Sync>(
         check_line(rt, alloc, "", input, strictly)?;
     }
     Ok(())
+}
+
+#[test]
+fn commands_of_the_lenient_dialect(rt: HostRuntime) -> Result<(), Fail> {
+    check_lines(&rt, rt.alloc(), &COMMANDS)
 }
 
 #[test]

@@ -55,7 +55,7 @@ const SHOWN: [&str; 6] = [
     "--version",
 ];
 
-const BAD: [&str; 27] = [
+const BAD: [&str; 29] = [
     "",
     "replay",
     "replay a b",
@@ -75,8 +75,10 @@ const BAD: [&str; 27] = [
     "replay a --fail-give 0",
     "replay a --fail-give x",
     "replay a --lenient yes",
+    "replay a --evict newest",
+    "serve --listen 127.0.0.1:0 --evict",
     "serve --listen 127.0.0.1:0 --lenient=yes",
-    "serve --listen 127.0.0.1:0 --counters-in-place=yes",
+    "serve --listen 127.0.0.1:0 --update-in-place=yes",
     "serve --listen 127.0.0.1:0 --spin -1",
     "serve --listen 127.0.0.1:0 --spin 1000001",
     "serve --listen 127.0.0.1:0 --idle 0",
@@ -102,14 +104,22 @@ const OUT_OF_RANGE: [(&str, &str); 3] = [
 ];
 
 /// Words after `serve`, and all options that are then in force.
-const IN_FORCE: [(&str, &str); 3] = [
+const IN_FORCE: [(&str, &str); 5] = [
     (
         "--listen 127.0.0.1:0",
         "--listen 127.0.0.1:0 --workers 2 --segment-size 65536 --segments 64",
     ),
     (
         "--spin 0 --counters-in-place --listen [::1]:11211 --sessions 3",
-        "--listen [::1]:11211 --workers 2 --segment-size 65536 --segments 64 --sessions 3 --spin 0 --counters-in-place",
+        "--listen [::1]:11211 --workers 2 --segment-size 65536 --segments 64 --sessions 3 --spin 0 --update-in-place",
+    ),
+    (
+        "--lenient --evict least-read --listen 127.0.0.1:0",
+        "--listen 127.0.0.1:0 --workers 2 --segment-size 65536 --segments 64 --evict least-read --lenient",
+    ),
+    (
+        "--evict oldest --listen 127.0.0.1:0",
+        "--listen 127.0.0.1:0 --workers 2 --segment-size 65536 --segments 64",
     ),
     (
         "--idle 4294967295 --spin 1000000 --lenient --workers 8 --segments 65536 --segment-size 4096 --listen 0.0.0.0:1",

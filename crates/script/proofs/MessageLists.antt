@@ -6,7 +6,7 @@ use Rattle.proto.specs.declared.dialect.Dialect.TheVariants.{Strict}
 use Rattle.proto.specs.declared.message.Request.{Request}
 use Rattle.proto.specs.declared.message.Reply.{Reply}
 use Rattle.proto.specs.declared.message.Message.{Message}
-use Rattle.proto.specs.declared.message.Message.TheVariants.{Ask, Wrong, Quit, Fatal}
+use Rattle.proto.specs.declared.message.Message.TheVariants.{Ask, Local, Quit, Fatal}
 use Rattle.proto.specs.Grammar.{Spells}
 use Rattle.proto.specs.Reading.{ends_session, Reads, asks}
 use Rattle.proto.specs.Answers.{answer, is_ask, said}
@@ -37,8 +37,8 @@ said_ask [] (x ∷ rs) q quiet r e = absurd (omega arith)
 said_ask (Ask p b ∷ ms) [] q quiet r e = absurd (omega arith)
 said_ask (Ask p b ∷ ms) (x ∷ rs) q quiet r e =
     onto (answer (Ask p b) (Some x)) _ (said ms rs) _ (said_ask ms rs q quiet r (omega arith))
-said_ask (Wrong kind ∷ ms) rs q quiet r e =
-    onto (answer (Wrong kind) None) _ (said ms rs) _ (said_ask ms rs q quiet r e)
+said_ask (Local kind ∷ ms) rs q quiet r e =
+    onto (answer (Local kind) None) _ (said ms rs) _ (said_ask ms rs q quiet r e)
 said_ask (Quit ∷ ms) rs q quiet r e = onto (answer Quit None) _ (said ms rs) _ (said_ask ms rs q quiet r e)
 said_ask (Fatal kind ∷ ms) rs q quiet r e =
     onto (answer (Fatal kind) None) _ (said ms rs) _ (said_ask ms rs q quiet r e)
@@ -46,7 +46,7 @@ said_ask (Fatal kind ∷ ms) rs q quiet r e =
 -- what is said to a message that is no request
 said_one : (m : Message) → is_ask m ≡ false → said (m ∷ []) [] ≡ answer m None
 said_one (Ask q quiet) e = absurd cc
-said_one (Wrong kind) e = append-nil (answer (Wrong kind) None)
+said_one (Local kind) e = append-nil (answer (Local kind) None)
 said_one Quit e = refl
 said_one (Fatal kind) e = append-nil (answer (Fatal kind) None)
 
@@ -58,8 +58,8 @@ said_other [] (x ∷ rs) m other e = absurd (omega arith)
 said_other (Ask p b ∷ ms) [] m other e = absurd (omega arith)
 said_other (Ask p b ∷ ms) (x ∷ rs) m other e =
     onto (answer (Ask p b) (Some x)) _ (said ms rs) _ (said_other ms rs m other (omega arith))
-said_other (Wrong kind ∷ ms) rs m other e =
-    onto (answer (Wrong kind) None) _ (said ms rs) _ (said_other ms rs m other e)
+said_other (Local kind ∷ ms) rs m other e =
+    onto (answer (Local kind) None) _ (said ms rs) _ (said_other ms rs m other e)
 said_other (Quit ∷ ms) rs m other e = onto (answer Quit None) _ (said ms rs) _ (said_other ms rs m other e)
 said_other (Fatal kind ∷ ms) rs m other e =
     onto (answer (Fatal kind) None) _ (said ms rs) _ (said_other ms rs m other e)
@@ -67,6 +67,6 @@ said_other (Fatal kind ∷ ms) rs m other e =
 -- a message that is no request adds none
 pub asks_other : (ms : List Message) (m : Message) → is_ask m ≡ false → asks (ms ++ m ∷ []) ≡ asks ms
 asks_other ms (Ask q quiet) other = absurd cc
-asks_other ms (Wrong kind) other = asks-append ms (Wrong kind ∷ []) ∙ append-nil (asks ms)
+asks_other ms (Local kind) other = asks-append ms (Local kind ∷ []) ∙ append-nil (asks ms)
 asks_other ms Quit other = asks-append ms (Quit ∷ []) ∙ append-nil (asks ms)
 asks_other ms (Fatal kind) other = asks-append ms (Fatal kind ∷ []) ∙ append-nil (asks ms)

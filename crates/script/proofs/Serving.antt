@@ -9,7 +9,7 @@ use Rattle.proto.specs.declared.dialect.Dialect.TheVariants.{Strict}
 use Rattle.proto.specs.declared.message.Request.{Request}
 use Rattle.proto.specs.declared.message.Reply.{Reply}
 use Rattle.proto.specs.declared.message.Message.{Message}
-use Rattle.proto.specs.declared.message.Message.TheVariants.{Ask, Wrong, Quit, Fatal}
+use Rattle.proto.specs.declared.message.Message.TheVariants.{Ask, Local, Quit, Fatal}
 use Rattle.proto.specs.declared.history.Answered.{Answered}
 use Rattle.proto.specs.Grammar.{Spells, SpellsNone}
 use Rattle.proto.specs.Reading.{ends_session, asks}
@@ -97,9 +97,9 @@ led_message setup session h read output piece after old new (Ask q quiet) led a 
           (subst (λ (out : List ℕ). AreBytesAnswered (read ++ piece) (session_share h 0 session ++ e ∷ []) out false)
           (sym is) shown);
     }
-led_message setup session h read output piece after old new (Wrong kind) led a is spells =
+led_message setup session h read output piece after old new (Local kind) led a is spells =
     led_other setup session h read output piece after old new
-    (Wrong kind) refl led a is spells
+    (Local kind) refl led a is spells
 led_message setup session h read output piece after old new Quit led a is spells =
     led_other setup session h read output piece
     after old new Quit refl led a is spells

@@ -239,7 +239,7 @@ open_told p q s k f o running tells =
     ∙ filter-append (is_left ss) p.events.aside f.after in
     record {
       records_are = o.records_are;
-      may = λ sizes dialect worker history. (
+      may = λ sizes dialect worker exchange history. (
         omega (arith, o.newer),
         (λ t e. let le = old_sessions p k t e in omega (arith, le, o.newer)),
         k.at_end ∙ running,
@@ -388,7 +388,7 @@ send_told p q s bytes k f o running tells =
     let ss = p.sessions in
     let r = around p (Send s bytes) k f in record {
       records_are = o.records_are;
-      may = λ sizes dialect worker history. (
+      may = λ sizes dialect worker exchange history. (
         (open_in_list p s k ((r.taken tells).may), r.free, (k.follows tells).never_over s, k.at_end ∙ running),
         short_take 16384 bytes,
       );
@@ -490,7 +490,7 @@ gone_told p m q s k f c g running tells =
     let none : L1 ++ [] ++ L2 ≡ L1 ++ L2 = ap (λ (l : List ScriptEvent). l ++ L2) (append-nil L1) in
     subst (λ (z : Player). TellsNext (player_state p) (event.Gone s) (player_state z)) (sym g.q_is) (record {
       records_are = c.records_are;
-      may = λ sizes dialect worker history. (open_in_list p s k ((r.taken tells).may), k.at_end ∙ running);
+      may = λ sizes dialect worker exchange history. (open_in_list p s k ((r.taken tells).may), k.at_end ∙ running);
       plays = (
         L1 ++ [] ++ L2,
         record { before = L1; after = L2; old_is = r.left_is; held = r.held; free = r.free; left_is = refl },

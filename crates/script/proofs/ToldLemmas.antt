@@ -102,6 +102,7 @@ pub record IsSameBeside (old new : PortState) : Type 0 where
   pub sizes : new.sizes ≡ old.sizes
   pub dialect : new.dialect ≡ old.dialect
   pub worker : new.worker ≡ old.worker
+  pub exchange : new.exchange ≡ old.exchange
   pub history : new.history ≡ old.history
 
 -- the trace of a port, by its list and by who is paused, where the rest is as it was
@@ -114,6 +115,7 @@ trace_is old new events paused same events_are held i = record {
   terms = by_any_clock (same.sizes i);
   dialect = same.dialect i;
   worker = same.worker i;
+  exchange = same.exchange i;
   history = same.history i;
 }
 

@@ -4,7 +4,7 @@ use Rattle.std.specs.Coded.{Coded, code_by, coded×, coded_ℕ}
 use Rattle.proto.specs.declared.message.Request.{Request}
 use Rattle.proto.specs.declared.message.Reply.{Reply}
 use Rattle.proto.specs.declared.message.Message.{Message}
-use Rattle.proto.specs.declared.message.Message.TheVariants.{Ask, Wrong, Quit, Fatal}
+use Rattle.proto.specs.declared.message.Message.TheVariants.{Ask, Local, Quit, Fatal}
 use Rattle.proto.specs.Sizes.{Sizes}
 use Rattle.proto.specs.Cache.{Cache, cache_code}
 use Rattle.proto.specs.Answers.{answer}
@@ -44,6 +44,6 @@ pub record Executes (old : Execution) (t : ℕ) (q : Request) (reply : Reply) (n
 abbrev pub AnswersBehind : Execution → Message → Execution → List ℕ → List ℕ → Type 0
 AnswersBehind old (Ask q quiet) new output after =
     (t : ℕ) × (reply : Reply) × Executes old t q reply new × (after ≡ output ++ answer (Ask q quiet) (Some reply))
-AnswersBehind old (Wrong kind) new output after = (new ≡ old) × (after ≡ output ++ answer (Wrong kind) None)
+AnswersBehind old (Local kind) new output after = (new ≡ old) × (after ≡ output ++ answer (Local kind) None)
 AnswersBehind old Quit new output after = (new ≡ old) × (after ≡ output ++ answer Quit None)
 AnswersBehind old (Fatal kind) new output after = (new ≡ old) × (after ≡ output ++ answer (Fatal kind) None)

@@ -10,6 +10,7 @@ use Rattle.script.specs.declared.event.ScriptEvent.TheVariants as script
 use Rattle.proto.specs.declared.dialect.Dialect.{Dialect}
 use Rattle.proto.specs.Sizes.{Sizes}
 use Rattle.proto.specs.declared.history.Answered.{Answered}
+use Rattle.exchange.specs.Ends.{ExchangeId}
 use Rattle.worker_port.specs.declared.events.PortEvent.{PortEvent}
 use Rattle.worker_port.specs.declared.events.PortEvent.TheVariants as event
 use Rattle.worker_port.specs.declared.events.PortRecord.{PortRecord}
@@ -129,12 +130,13 @@ new_player events = record {
 -- ---- the port
 
 -- What it plays, the sizes by which histories are judged, the dialect of what its sessions send, its worker's number,
--- and the history by which bytes were given last.
+-- the exchange of that worker's end, and the history by which bytes were given last.
 pub record PortState : Type 0 where
   pub player : PlayerState
   pub sizes : Sizes
   pub dialect : Dialect
   pub worker : ℕ
+  pub exchange : ExchangeId
   pub history : List Answered
 
 -- its list and which sessions are paused, and whose port it is
@@ -145,6 +147,7 @@ script_trace port = record {
   terms = by_any_clock port.sizes;
   dialect = port.dialect;
   worker = port.worker;
+  exchange = port.exchange;
   history = port.history;
 }
 
@@ -169,6 +172,13 @@ pub plays_later : (first second third : PortState) → PlaysOn first second → 
 plays_later first second third before after = (after.0 ∙ before.0, after.1 ∙ before.1, after.2 ∙ before.2)
 
 -- a worker's port of which nothing was asked yet
-abbrev pub IsNewPort : Sizes → Dialect → ℕ → List ScriptEvent → PortState → Type 0
-IsNewPort sizes d worker events port =
-    port ≡ record { player = new_player events; sizes = sizes; dialect = d; worker = worker; history = [] }
+abbrev pub IsNewPort : Sizes → Dialect → ℕ → ExchangeId → List ScriptEvent → PortState → Type 0
+IsNewPort sizes d worker exchange events port =
+    port ≡ record {
+      player = new_player events;
+      sizes = sizes;
+      dialect = d;
+      worker = worker;
+      exchange = exchange;
+      history = [];
+    }

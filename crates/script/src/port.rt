@@ -15,10 +15,10 @@ ghost use Rattle.script.specs.States.{DropsSession, IsNewPort, IsOpenWhereTold, 
 use crate::ScriptEvent;
 use crate::player::Player;
 use crate::sessions::{ScriptSession, Stage};
+use exchange::{ExchangeName, WorkerBatch};
 use proto::{Dialect, Geometry};
 use std::alloc::Global;
 use std::marker::Model;
-use std::snapshot::Snapshot;
 use worker_port::{Gone, Port, PortEvent, PortRecord, ToldHistory};
 
 /// Plays the events of a script in order, and keeps what each session is given.
@@ -31,13 +31,14 @@ pub struct ScriptPort {
     geometry: Geometry,
     dialect: Dialect,
     worker: usize,
-    /// The history by which bytes were given last, for clauses alone.
-    history: Snapshot<Option<ToldHistory>>,
+    /// The exchange of its worker's end, for clauses alone.
+    exchange: ExchangeName,
+    /// By which bytes were given last, for clauses alone. It is kept until the next give, so that it can be compared.
+    history: Option<ToldHistory>,
 }
 
 impl Model for ScriptPort {
-    ghost use Rattle.std.specs.Prelude.{[]};
-    ghost use Rattle.std.specs.Option.{unwrap_or};
+    ghost use Rattle.worker_port.specs.Ports.{told_last};
     ghost use Rattle.script.specs.States.{PortState};
     ghost use Rattle.script.specs.Players.{player_state, IsPlayerConsistent};
 
@@ -48,23 +49,25 @@ impl Model for ScriptPort {
       sizes = p.geometry;
       dialect = p.dialect;
       worker = p.worker;
-      history = unwrap_or p.history.value [];
+      exchange = p.exchange;
+      history = told_last p.history;
     } };
 
     ghost invariant = { λ p. IsPlayerConsistent p.player };
 }
 
 impl ScriptPort {
-    /// The port of a worker, over a store of these sizes, whose sessions write in this dialect. All events are left,
-    /// and none was played.
+    /// The port of a worker of an exchange, over a store of these sizes, whose sessions write in this dialect. All
+    /// events are left, and none was played.
     pub fn new(
         alloc: Global,
         geometry: Geometry,
         dialect: Dialect,
         worker: usize,
+        exchange: ExchangeName,
         events: Vec<ScriptEvent>,
     ) -> ScriptPort
-        ensures fresh { IsNewPort geometry dialect worker events.items result }
+        ensures fresh { IsNewPort geometry dialect worker exchange events.items result }
         ensures tells { (is_playable result.player.script ≡ true) ↔ IsPlayable events.items }
     {
         ScriptPort {
@@ -72,7 +75,8 @@ impl ScriptPort {
             geometry,
             dialect,
             worker,
-            history: Snapshot::of(&None),
+            exchange,
+            history: None,
         }
     }
 
@@ -118,7 +122,7 @@ impl Port for ScriptPort {
     ghost leads_transitive = { plays_later };
 
     /// It never waits.
-    fn next(&mut self, _may_wait: bool) -> PortEvent
+    fn next(&mut self, _may_wait: bool, _sender: &WorkerBatch) -> PortEvent
         ensures leads { PlaysOn self.old self.new }
         ensures told { trace_told self.new ≡ option_map (then_told (event_records result)) (trace_told self.old) }
         ensures may { (trace : PortTrace) → trace_told self.old ≡ Some trace → MayCome trace result }
@@ -134,13 +138,13 @@ impl Port for ScriptPort {
             → MayBeGiven trace history session bytes.now }
         ensures within { IfOk result (λ n. n ≤ length bytes.now) }
         ensures leads { PlaysOn self.old self.new }
-        ensures told { trace_told self.new ≡ option_map (then_gave session bytes.now result history)
+        ensures told { trace_told self.new ≡ option_map (then_gave session bytes.now result history.items)
             (trace_told self.old) }
         ensures gives { is_playable self.old.player.script ≡ true
             → Gives self.old.player session bytes.now result self.new.player }
         ensures counts { CountsGive self.old.player bytes.now self.new.player }
     {
-        self.history = Snapshot::of(&Some(history));
+        self.history = Some(history);
         self.player.give(session, bytes)
     }
 

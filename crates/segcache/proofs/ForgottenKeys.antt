@@ -12,10 +12,13 @@ use Rattle.proto.specs.Cache.{Entry, Entries, has_arrived}
 use Rattle.proto.specs.Steps.{without_keys}
 use Rattle.proto.proofs.CacheLemmas.{contains_bytes, without-nil, same_entries, get-insert, get-remove, get-without}
 use Rattle.segments.specs.declared.place.Place.{Place}
+use Rattle.segments.specs.declared.merge.Choice.{Choice}
 use Rattle.segments.specs.Items.{Item}
 use Rattle.segments.specs.Pools.{PoolState, IsPool, Plan, Used, Liveness, segment_at, item_in, place_deadline, has_live}
 use Rattle.segments.specs.Changes.{HasNoRoom, IsGivenBack, IsAddedToTail, IsAddedToFree, dead_segments}
-use Rattle.segments.specs.Merges.{Evicts, NoneQualifies, merged_into, merged_segments, front}
+use Rattle.proto.specs.declared.eviction.Eviction.{Eviction}
+use Rattle.proto.specs.declared.eviction.Eviction.TheVariants.{Oldest, LeastRead}
+use Rattle.segments.specs.Merges.{IsVictimBy, Evicts, NoneQualifies, merged_into, merged_segments, front}
 use Rattle.segments.specs.Places.{AgreeIn}
 use Rattle.segments.proofs.AgreeingTests.{same_live_items, same_live_standing, same_dead, same_given}
 use Rattle.segments.specs.Marks.{Marks, is_marked, lives_by}
@@ -42,15 +45,21 @@ pub record EvictsKeys (lives : Liveness) (p after : PoolState) (keys : List (Lis
 -- ---- whatever the plan is
 
 -- what a merge of one or more segments makes of a pool doesn't depend on the pool's plan
-pub merged_replanned : (p : PoolState) (o : Option Plan) (b : ℕ) (numbers : List ℕ) (items : List Item)
+pub merged_replanned : (p : PoolState) (o : Option Plan) (b : Choice) (numbers : List ℕ) (items : List Item)
     → 1 ≤ length numbers
     → merged_into (with_plan p o) b numbers items ≡ merged_into p b numbers items
 merged_replanned p o b [] items some = absurd (omega (arith, some))
 merged_replanned p o b (n ∷ numbers) items some = refl
 
--- which buckets can be merged doesn't depend on the plan
+-- what can be merged doesn't depend on the plan
 pub none_replanned : (p mid : PoolState) (o : Option Plan) → mid ≡ with_plan p o → NoneQualifies p → NoneQualifies mid
-none_replanned p mid o is h = subst NoneQualifies (sym is) (λ b lt. h b lt)
+none_replanned p mid o is h = subst NoneQualifies (sym is) h
+
+-- nor does the segment that is evicted
+victim_replanned : (e : Eviction) (p : PoolState) (o : Option Plan) (n : ℕ) → IsVictimBy e (with_plan p o) n
+    → IsVictimBy e p n
+victim_replanned Oldest p o n v = v
+victim_replanned LeastRead p o n v = v
 
 -- what is evicted of a pool is evicted of it with another plan
 pub keys_replanned : (lives : Liveness) (p : PoolState) (o : Option Plan) (after : PoolState) (keys : List (List ℕ))
@@ -60,15 +69,15 @@ keys_replanned lives p o after keys h = by h.evicted h.keys_are
     by : (e : Evicts lives (with_plan p o) after) → keys ≡ keys_evicted lives (with_plan p o) after e
         → EvictsKeys lives p after keys
     by (inl m) are =
-        let long = leb-true 2 (length (front p m.bucket)) m.next.qualifying in
-        let four = length-take 4 (front p m.bucket) in
+        let long = leb-true 2 (length (front p m.choice)) m.next.qualifying in
+        let four = length-take 4 (front p m.choice) in
         record {
           evicted = inl (record {
-            bucket = m.bucket;
-            next = record { in_range = m.next.in_range; qualifying = m.next.qualifying; first = m.next.first };
+            choice = m.choice;
+            next = record { in_range = m.next.in_range; qualifying = m.next.qualifying; next = m.next.next };
             judged = m.judged;
             is_judged = record { all_live = m.is_judged.all_live; each = m.is_judged.each };
-            after_is = m.after_is ∙ merged_replanned p o m.bucket (merged_segments p m.bucket) _
+            after_is = m.after_is ∙ merged_replanned p o m.choice (merged_segments p m.choice) _
                 (omega (arith, long, four));
           });
           keys_are = are;
@@ -79,7 +88,7 @@ keys_replanned lives p o after keys h = by h.evicted h.keys_are
               (record {
                 none_qualifies = c.none_qualifies;
                 segment = c.segment;
-                is_oldest = c.is_oldest;
+                is_victim = victim_replanned p.eviction p o c.segment c.is_victim;
                 after_is = c.after_is;
               });
           keys_are = are;
@@ -96,7 +105,7 @@ keys_agree one other p after keys a h = by h.evicted h.keys_are
     by (inl m) are =
         record {
           evicted = inl (record {
-            bucket = m.bucket;
+            choice = m.choice;
             next = m.next;
             judged = m.judged;
             is_judged = record {
@@ -166,7 +175,16 @@ none_given lives p after pool g none =
     (λ n lt. g.segments n ∙ same_segment (has_live lives p n) (segment_at p n)
     (λ some. all_alive lives p n pool none some)) in
     let order : after.order ≡ p.order = g.order ∙ all_kept (has_live lives p) p.order none in
-    λ i. record { sizes = g.sizes i; segments = segments i; order = order i; cursor = g.cursor i; plan = g.plan i }
+    λ i. record {
+      sizes = g.sizes i;
+      segments = segments i;
+      order = order i;
+      cursor = g.cursor i;
+      hand = g.hand i;
+      plan = g.plan i;
+      eviction = g.eviction i;
+      hits = g.hits i;
+    }
 
 -- ---- the items that are live at a moment
 

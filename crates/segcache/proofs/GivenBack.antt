@@ -6,18 +6,12 @@ use Rattle.std.proofs.lemmas.Bool.{cases_Bool, cases_eq, ne_eqb}
 use Rattle.std.proofs.lemmas.Option.{none-some}
 use Rattle.std.proofs.lemmas.List.Sums.{sum_by-cons}
 use Rattle.proto.specs.Counts.{times}
-use Rattle.segments.specs.Pools.{PoolState, IsPool, segment_at, has_live, oldest, Liveness}
+use Rattle.segments.specs.Pools.{PoolState, IsPool, segment_at, has_live, Liveness}
 use Rattle.segments.specs.Changes.{IsPoolFull, IsGivenBack, dead_segments}
 
--- an order of segments that has no first one is empty
-none_first : (order : List ℕ) → oldest order ≡ None → order ≡ []
-none_first [] e = refl
-none_first (n ∷ order) e = absurd (none-some n (sym e))
-
--- where no segment is free, one was opened first
-pub some_oldest : (p : PoolState) → IsPool p → IsPoolFull p → oldest p.order ≡ None → ⊥
-some_oldest p pool full none =
-    let empty = none_first p.order none in
+-- where no segment is free, the order has one
+pub some_order : (p : PoolState) → IsPool p → IsPoolFull p → p.order ≡ [] → ⊥
+some_order p pool full empty =
     let fewest = pool.geometry.fewest in
     let some : is_some (segment_at p 0) ≡ true = full 0 (omega (arith, fewest)) in
     let named : times 0 p.order ≡ (if is_some (segment_at p 0) then 1 else 0) = pool.named 0 in

@@ -1,10 +1,9 @@
 -- What an engine's request leaves, read as what it does to the segments.
-use Rattle.std.proofs.Common.{◌≡◌, ℕ, Bool, true, false, List, Option, Some, None, refl, sym, ap, subst, ◌∙◌, inl, inr}
+use Rattle.std.proofs.Common.{◌≡◌, ℕ, Bool, false, List, Option, Some, None, refl, sym, ap, subst, ◌∙◌, inl, inr}
 use Rattle.proto.specs.declared.message.Request.{Request}
 use Rattle.proto.specs.declared.message.Reply.{Reply}
 use Rattle.proto.specs.declared.message.Reply.TheVariants.{Values}
 use Rattle.proto.specs.Cache.{Entry, Cache}
-use Rattle.std.specs.Prelude.{◌&&◌}
 use Rattle.std.specs.FinMap as finite
 use Rattle.proto.specs.Commands.{Outcome}
 use Rattle.proto.specs.Steps.{has_hits}
@@ -13,15 +12,15 @@ use Rattle.engine.specs.declared.commands.Engine.{Engine}
 use Rattle.engine.specs.declared.live_map.LiveMap.{Ghosts as MapOf}
 use Rattle.engine.specs.Outcomes.{outcome_at}
 use Rattle.engine.specs.Counting.{CountsShown, StaysAlike}
-use Rattle.engine.specs.Engines.{Changes, Stores, IsHandled, tells_number}
+use Rattle.engine.specs.Engines.{Way, as_written, as_changed, as_touched, way_of, Changes, Stores, IsHandled}
 use Rattle.segcache.specs.declared.segment_map.SegmentMap.{SegmentMap}
 use Rattle.segcache.specs.Shown.{shown_entries}
 use Rattle.segcache.specs.State.{MapState, IsSegmentedMap}
 use Rattle.segcache.specs.StoreState.{sizes_in, segmented_cache}
-use Rattle.segcache.specs.Writes.{StandsAt, WritesToSegments, ChangesSegments, IsReadAgain, HasSamePool}
+use Rattle.segcache.specs.Writes.{StandsAt, WritesToSegments, ChangesSegments, stays_as, IsReadAgain, HasSamePool}
 use Rattle.segcache.specs.Keeping.{KeepsStored}
 use Rattle.segcache.specs.Handling.{LeavesSegments, HandlesSegments}
-use Rattle.segcache.specs.Handling.LeavesSegments.{writes, changes, reads, stays, refuses}
+use Rattle.segcache.specs.Handling.LeavesSegments.{writes, changes, dates, reads, stays, refuses}
 
 -- the members of a segmented map
 abbrev pub members : MapOf SegmentMap Place
@@ -35,37 +34,43 @@ members =
       writes = WritesToSegments;
       changes = ChangesSegments;
       reads = IsReadAgain;
+      stays = stays_as;
       alike = HasSamePool;
       keeps = KeepsStored;
     }
 
 -- a reply without hits leaves the pool
-stays_by : (in_place : Bool) (found : MapState) (done : Outcome) (after : MapState) → IsSegmentedMap found → done.stored ≡ None
-    → has_hits done.reply ≡ false → StaysAlike HasSamePool found after → LeavesSegments in_place found done after done.reply
-stays_by in_place found done after kept none e alike = stays none e (alike found (record { pool = refl; kept = kept })).pool
+stays_by : (way : Way) (found : MapState) (done : Outcome) (after : MapState) → IsSegmentedMap found → done.stored ≡ None
+    → has_hits done.reply ≡ false → StaysAlike HasSamePool found after → LeavesSegments way found done after done.reply
+stays_by way found done after kept none e alike = stays none e (alike found (record { pool = refl; kept = kept })).pool
 
 -- and one with hits counts their reads
-shown_by : (in_place : Bool) (found : MapState) (done : Outcome) (after : MapState) (r : Reply) → IsSegmentedMap found
+shown_by : (way : Way) (found : MapState) (done : Outcome) (after : MapState) (r : Reply) → IsSegmentedMap found
     → done.stored ≡ None → done.reply ≡ r
-    → CountsShown IsReadAgain HasSamePool found r after → LeavesSegments in_place found done after done.reply
-shown_by in_place found done after (Values hits) kept none e counts = reads hits none e counts
-shown_by in_place found done after _ kept none e alike = stays_by in_place found done after kept none (ap has_hits e) alike
+    → CountsShown IsReadAgain HasSamePool found r after → LeavesSegments way found done after done.reply
+shown_by way found done after (Values hits) kept none e counts = reads hits none e counts
+shown_by way found done after _ kept none e alike = stays_by way found done after kept none (ap has_hits e) alike
 
 -- an item is changed or written
-stored_by : (in_place change : Bool) (found : MapState) (done : Outcome) (after : MapState) (key : List ℕ) (e : Entry)
-    → (tells_number done.reply && in_place) ≡ change → done.stored ≡ Some key
+stored_by : (way : Way) (found : MapState) (done : Outcome) (after : MapState) (key : List ℕ) (e : Entry)
+    → done.stored ≡ Some key
     → done.entries ≡ finite.insert (shown_entries found.pool found.index found.moment) key e
-    → Stores members change found key e after → LeavesSegments in_place found done after done.reply
-stored_by in_place true found done after key e is stored asked s = changes key e stored is asked s
-stored_by in_place false found done after key e is stored asked s = writes key e stored is asked s
+    → Stores members way found key e done.reply after → LeavesSegments way found done after done.reply
+stored_by as_written found done after key e stored asked s = writes key e stored refl asked s
+stored_by as_changed found done after key e stored asked s = changes key e stored refl asked s
+stored_by as_touched found done after key e stored asked (inl s) =
+    dates key e stored refl asked
+    (inl (record { deadline = s.deadline; there = s.there; stays = s.stays; may_stay = s.may_stay; same = s.same }))
+stored_by as_touched found done after key e stored asked (inr s) =
+    dates key e stored refl asked (inr (record { deadline = s.deadline; there = s.there; stays_not = s.stays_not; writes = s.writes }))
 
 -- what was asked for is written, or nothing is
-changed_by : (in_place : Bool) (found : MapState) (done : Outcome) (after : MapState) (stored : Option (List ℕ)) → IsSegmentedMap found
+changed_by : (way : Way) (found : MapState) (done : Outcome) (after : MapState) (stored : Option (List ℕ)) → IsSegmentedMap found
     → done.stored ≡ stored
-    → Changes members in_place found done stored after → LeavesSegments in_place found done after done.reply
-changed_by in_place found done after None kept e is = shown_by in_place found done after done.reply kept e refl is.shown
-changed_by in_place found done after (Some key) kept e s =
-    stored_by in_place _ found done after key s.entry refl e s.asked_is s.exactly
+    → Changes members way found done stored after → LeavesSegments way found done after done.reply
+changed_by way found done after None kept e is = shown_by way found done after done.reply kept e refl is.shown
+changed_by way found done after (Some key) kept e s =
+    stored_by way found done after key s.entry e s.asked_is s.exactly
 
 -- what an engine over segments handles
 pub handles_segments : (before : Engine SegmentMap) (t : ℕ) (q : Request) (reply : Reply) (after : Engine SegmentMap)
@@ -86,10 +91,10 @@ handles_segments before t q reply after h =
       };
       in_place = h.leaves.in_place_same ∙ h.in_place_same;
       leaves = elim h.leaves.gives [
-        | inl d ↦ subst (LeavesSegments before.in_place found done after.map) (sym d.reply_is)
-            (changed_by before.in_place found done after.map done.stored kept refl
-            (subst (λ (b : Bool). Changes members b found done done.stored after.map) h.in_place_same d.changes))
-        | inr d ↦ subst (LeavesSegments before.in_place found done after.map) (sym d.reply_is)
+        | inl d ↦ subst (LeavesSegments (way_of q before.in_place) found done after.map) (sym d.reply_is)
+            (changed_by (way_of q before.in_place) found done after.map done.stored kept refl
+            (subst (λ (b : Bool). Changes members (way_of q b) found done done.stored after.map) h.in_place_same d.changes))
+        | inr d ↦ subst (LeavesSegments (way_of q before.in_place) found done after.map) (sym d.reply_is)
             (refuses (d.alike found (record { pool = refl; kept = kept })).pool)
       ];
     }

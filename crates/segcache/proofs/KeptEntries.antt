@@ -17,7 +17,8 @@ use Rattle.engine.specs.Keeping.{StaysKept, AddsNoDeadline, KeepsEntry}
 use Rattle.segments.specs.declared.place.Place.{Place}
 use Rattle.segments.specs.Items.{Item, IsStorable}
 use Rattle.segments.specs.Pools.{PoolState, IsPool, Used, Liveness, item_in, place_deadline, deadline_in, segment_at, lasting}
-use Rattle.segments.specs.Changes.{with_change, new_pool}
+use Rattle.proto.specs.declared.eviction.Eviction.{Eviction}
+use Rattle.segments.specs.Changes.{with_change, with_eviction, new_pool}
 use Rattle.segments.specs.Filling.{IsFilled, held_size}
 use Rattle.segments.proofs.ItemChanges.{KeepsSize, some_kept}
 use Rattle.segments.proofs.Places.{appended, changed_segment}
@@ -199,9 +200,10 @@ keeps_same old new is items keeps =
     }
 
 -- an empty pool keeps nothing
-pub keeps_none : (m : MapState) (sizes : Sizes) → m.pool ≡ new_pool sizes → KeepsStored m []
+pub keeps_none : (m : MapState) (sizes : Sizes) (eviction : Eviction)
+    → m.pool ≡ with_eviction (new_pool sizes) eviction → KeepsStored m []
 unfolding new_pool
-keeps_none m sizes is =
+keeps_none m sizes eviction is =
     subst (λ (q : PoolState). KeepsStored (record m { pool = q }) []) (sym is)
     (record {
       filled = tt;

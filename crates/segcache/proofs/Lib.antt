@@ -12,7 +12,7 @@ pub mod NewMaps
 pub mod PlaceCounts
 -- the contract of `append`, and what `Index::insert` requires there
 pub mod AppendNeeds
--- the contract of `clear_oldest`: which keys are forgotten, and how many
+-- the contract of `clear_victim`: which keys are forgotten, and how many
 pub mod EvictedKeys
 -- the contract of `free_segment` where something is given back
 pub mod GivenBack
@@ -30,7 +30,7 @@ pub mod MergedRoom
 pub mod MergePlans
 -- the contracts of `evict`, `free_segment` and `write_item`: `evicted`, `room`, `placed`
 pub mod ForgottenKeys
--- the contracts of `merge` and `clear_oldest`: `evicted`
+-- the contracts of `merge` and `clear_victim`: `evicted`
 pub mod MergedKeys
 -- for `write`: `kept`, where little is held
 pub mod WritesWithRoom
@@ -38,6 +38,8 @@ pub mod WritesWithRoom
 pub mod KeptEntries
 -- the contract of `rewrite`: an item put over the one of its key
 pub mod ChangedItems
+-- the contract of `may_stay`: an entry that is left as it is
+pub mod LeftEntries
 -- the promise `HandlesSegments` of `Store::handle`
 pub mod HandledRequests
 -- the promise `StaysFilled` of `Store::handle`

@@ -9,10 +9,10 @@ use Rattle.proto.specs.Steps.{without_keys}
 use Rattle.segments.specs.declared.place.Place.{Place}
 use Rattle.segments.specs.declared.place.Move.{Move}
 use Rattle.segments.specs.Items.{size_of_item}
-use Rattle.segments.specs.Pools.{PoolState, IsPool, Plan, Standing, segment_at, standing, oldest}
+use Rattle.segments.specs.Pools.{PoolState, IsPool, Plan, Standing, segment_at, standing}
 use Rattle.segments.specs.Changes.{without_segment}
 use Rattle.segments.specs.Places.{moved_by}
-use Rattle.segments.specs.Merges.{Judged, NoneQualifies, moves_into, front, merged_segments, first_of_list, live_items, carried_items}
+use Rattle.segments.specs.Merges.{IsVictim, Judged, NoneQualifies, moves_into, front, merged_segments, first_of_list, live_items, carried_items}
 use Rattle.segments.proofs.PlanLemmas.{standing_in, plan_after}
 use Rattle.segments.specs.Marks.{Marks, is_marked, lives_by}
 use Rattle.index.specs.Table.{Table}
@@ -92,7 +92,7 @@ pub merged_evicted : (p : PoolState) (plan : Plan) (after : PoolState) (index fo
     → IsEvicted (lives_by marks) p index after found
 merged_evicted p plan after index found marks w =
     let h = w.is_plan in
-    let numbers = merged_segments p plan.bucket in
+    let numbers = merged_segments p plan.choice in
     let all = live_items (lives_by marks) p numbers in
     let ss = lost plan.moves all in
     let turn = plan_in_turn (lives_by marks) p plan w.tied.known.pool h in
@@ -100,15 +100,15 @@ merged_evicted p plan after index found marks w =
     (ap (map going) h.moves_are ∙ judged_going (first_of_list numbers) 0 h.judged) in
     let keys : map key_in ss ≡ map (λ j. j.item.key) (filter (λ j. not j.is_kept) h.judged) =
     ap (λ xs. map key_in (lost plan.moves xs)) (sym h.is_judged.all_live) ∙ lost_keys plan.moves h.judged kept in
-    let long = leb-true 2 (length (front p plan.bucket)) h.next.qualifying in
-    let four = length-take 4 (front p plan.bucket) in
+    let long = leb-true 2 (length (front p plan.choice)) h.next.qualifying in
+    let four = length-take 4 (front p plan.choice) in
     record {
       evicted = inl (record {
-        bucket = plan.bucket;
+        choice = plan.choice;
         next = h.next;
         judged = h.judged;
         is_judged = h.is_judged;
-        after_is = w.after_is ∙ sym (merged_replanned p (Some plan) plan.bucket numbers (carried_items p plan.moves)
+        after_is = w.after_is ∙ sym (merged_replanned p (Some plan) plan.choice numbers (carried_items p plan.moves)
             (omega (arith, long, four)))
             ∙ plan_after (lives_by marks) p plan h;
       });
@@ -119,15 +119,15 @@ merged_evicted p plan after index found marks w =
           ∙ ap (without_keys (shown_entries p index t)) keys;
     }
 
--- where nothing can be merged, the segment that was opened first is cleared, and exactly its keys are forgotten
+-- where nothing can be merged, the segment that is evicted is cleared, and exactly its keys are forgotten
 pub cleared_evicted : (p after : PoolState) (n : ℕ) (index found : Table) (marks others : Marks) → IsTied p index marks
     → IsTied p found others → IsPool after → after ≡ without_segment p n
-    → IsSome (segment_at p n) → HasLeft n (current p index) (current p found) → oldest p.order ≡ Some n
+    → IsSome (segment_at p n) → HasLeft n (current p index) (current p found) → IsVictim p n
     → NoneQualifies p
     → IsEvicted (lives_by marks) p index after found
-cleared_evicted p after n index found marks others tied left pool is some h first none =
+cleared_evicted p after n index found marks others tied left pool is some h victim none =
     record {
-      evicted = inr (record { none_qualifies = none; segment = n; is_oldest = first; after_is = is });
+      evicted = inr (record { none_qualifies = none; segment = n; is_victim = victim; after_is = is });
       entries = λ t. left_entries p index after found t
           (filter (λ (s : Standing). is_marked marks s.place) (standing p n))
           (current_among p index marks (standing p n) tied (λ k d lt. (standing_all p n k d lt).1))

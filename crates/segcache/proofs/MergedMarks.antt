@@ -40,7 +40,7 @@ pub planned_again : (lives : Liveness) (p : PoolState) (plan : Plan) → IsPlan 
     → IsPlan lives (with_merge_planned p plan) plan
 planned_again lives p plan h =
     record {
-      next = record { in_range = h.next.in_range; qualifying = h.next.qualifying; first = h.next.first };
+      next = record { in_range = h.next.in_range; qualifying = h.next.qualifying; next = h.next.next };
       judged = h.judged;
       is_judged = record { all_live = h.is_judged.all_live; each = h.is_judged.each };
       moves_are = h.moves_are;
@@ -242,7 +242,7 @@ other_current p plan after index found marks w r i e free h =
     let apart : list_any (λ (m : Move). is_mark_of m.source x.place.segment (x.place.offset / 32)) moves ≡ false =
     ap (λ (n : ℕ). list_any (λ (m : Move). is_mark_of m.source n (x.place.offset / 32)) moves) x.segment
     ∙ ap (λ (n : ℕ). list_any (λ (m : Move). is_mark_of m.source r.segment n) moves) x.offset ∙ free in
-    elim (cases_Bool (contains_number (merged_segments p plan.bucket) x.place.segment)) [
+    elim (cases_Bool (contains_number (merged_segments p plan.choice) x.place.segment)) [
       | inl y ↦ absurd (false≢true (sym apart
           ∙ start_marks moves x.place (live_source (lives_by marks) p plan x.place j.0 w.is_plan j.1 is y)))
       | inr n ↦

@@ -54,31 +54,31 @@ opened_by false true items f o t u h a b = let r = filled_opened items f u h in
 opened_by false false items f o t u h a b = b u h
 
 -- no segment gets another moment
-past_merged : (p : PoolState) (plan : Plan) (after : PoolState) (t : ℕ) → IsTrue (qualifies p plan.bucket)
+past_merged : (p : PoolState) (plan : Plan) (after : PoolState) (t : ℕ) → IsTrue (qualifies p plan.choice)
     → after ≡ carried_out p plan → IsPast p t
     → IsPast after t
 past_merged p plan after t qualifying is past =
-    let f = merged_front p plan.bucket qualifying in
+    let f = merged_front p plan.choice qualifying in
     let first = f.0 in
     let others : List ℕ = f.1.0 ∷ f.1.1.0 in
-    let whole : merged_segments p plan.bucket ≡ first ∷ others = f.1.1.1.whole in
+    let whole : merged_segments p plan.choice ≡ first ∷ others = f.1.1.1.whole in
     let items = carried_items p plan.moves in
     let z = eq-eqb first first refl in
-    let some : 1 ≤ times first (merged_segments p plan.bucket) =
-    (let e : times first (merged_segments p plan.bucket) ≡ 1 + times first others = ap (times first) whole
+    let some : 1 ≤ times first (merged_segments p plan.choice) =
+    (let e : times first (merged_segments p plan.choice) ≡ 1 + times first others = ap (times first) whole
     ∙ rw z refl in omega (arith, e)) in
-    let used = merged_in_chain p plan.bucket first some in
-    let now : after ≡ merged_into p plan.bucket (first ∷ others) items =
-    is ∙ ap (λ (xs : List ℕ). merged_into p plan.bucket xs items) whole in
+    let used = merged_in_chain p plan.choice first some in
+    let now : after ≡ merged_into p plan.choice (first ∷ others) items =
+    is ∙ ap (λ (xs : List ℕ). merged_into p plan.choice xs items) whole in
     record {
       within = past.within;
       opened = λ n u e.
           opened_by (contains_number others n) (n == first) items (segment_at p first) (segment_at p n) t u
           (sym (ap (λ (r : PoolState). segment_at r n) now
-          ∙ merged_segment p plan.bucket first others items n used.within) ∙ e) (past.opened first)
+          ∙ merged_segment p plan.choice first others items n used.within) ∙ e) (past.opened first)
           (past.opened n);
       in_order = subst IsInTimeOrder (sym is)
-          (order_part p (carried_out p plan) (part_merged p plan.bucket items qualifying) past.in_order);
+          (order_part p (carried_out p plan) (part_merged p plan.choice items qualifying) past.in_order);
     }
 
 -- ---- the items that are forgotten
@@ -137,10 +137,10 @@ any_at f r (x ∷ xs) = ap (λ (b : Bool). same_place (f x) r || b) (any_at f r 
 merged_left : (p : PoolState) (plan : Plan) (after : PoolState) (index found : Table) (marks : Marks)
     → IsMergeRelocated p plan after index found marks
     → (r : Place) (i : Item)
-    → item_in p r ≡ Some i → is_marked marks r ≡ true → contains_number (merged_segments p plan.bucket) r.segment ≡ true
-    → is_left (live_items (lives_by marks) p (merged_segments p plan.bucket)) r ≡ true
+    → item_in p r ≡ Some i → is_marked marks r ≡ true → contains_number (merged_segments p plan.choice) r.segment ≡ true
+    → is_left (live_items (lives_by marks) p (merged_segments p plan.choice)) r ≡ true
 merged_left p plan after index found marks w r i e h n =
-    sym (any_at (λ (s : Standing). s.place) r (live_items (lives_by marks) p (merged_segments p plan.bucket)))
+    sym (any_at (λ (s : Standing). s.place) r (live_items (lives_by marks) p (merged_segments p plan.choice)))
     ∙ ap (list_any (λ (x : Place). same_place x r)) (sym (sources_live (lives_by marks) p plan w.is_plan))
     ∙ any_at (λ (m : Move). m.source) r plan.moves ∙ live_source (lives_by marks) p plan r i w.is_plan e h n
 
@@ -184,7 +184,7 @@ moved_entry : (p : PoolState) (plan : Plan) (after : PoolState) (index found : T
     → finite.get (current p index) q ≡ Some r → moved_by plan.moves r ≡ Some s → entry_at after s ≡ entry_at p r
 moved_entry p plan after index found marks w q r s e m =
     let x = current_item p index q r e in
-    elim (cases_Bool (contains_number (merged_segments p plan.bucket) r.segment)) [
+    elim (cases_Bool (contains_number (merged_segments p plan.choice) r.segment)) [
       | inl y ↦
           let there : (item_in after s ≡ Some (with_reads_halved x.0)) × (place_deadline after s ≡ place_deadline p r) =
           subst (λ (o : Option Place). IfSome o
@@ -205,9 +205,9 @@ moved_entry p plan after index found marks w q r s e m =
 pub merged_stayed : (p : PoolState) (plan : Plan) (after : PoolState) (index found : Table) (marks : Marks)
     → IsMergeRelocated p plan after index found marks
     → HaveStayed p (current p index) after (current after found)
-    (lost plan.moves (live_items (lives_by marks) p (merged_segments p plan.bucket)))
+    (lost plan.moves (live_items (lives_by marks) p (merged_segments p plan.choice)))
 merged_stayed p plan after index found marks w =
-    let all = live_items (lives_by marks) p (merged_segments p plan.bucket) in
+    let all = live_items (lives_by marks) p (merged_segments p plan.choice) in
     record {
       none = λ q none. w.relocated.places q ∙ ap (option_and_then (moved_by plan.moves)) none;
       gone = λ q r e yes. w.relocated.places q ∙ ap (option_and_then (moved_by plan.moves)) e
@@ -216,7 +216,7 @@ merged_stayed p plan after index found marks w =
     }
   where
     by : (q : List ℕ) (r : Place) → finite.get (current p index) q ≡ Some r
-        → is_left (lost plan.moves (live_items (lives_by marks) p (merged_segments p plan.bucket))) r ≡ false
+        → is_left (lost plan.moves (live_items (lives_by marks) p (merged_segments p plan.choice))) r ≡ false
         → (o : Option Place) → moved_by plan.moves r ≡ o
         → (s : Place) × (finite.get (current after found) q ≡ Some s) × (entry_at after s ≡ entry_at p r)
     by q r e apart (Some s) m = (
@@ -227,10 +227,10 @@ merged_stayed p plan after index found marks w =
     )
     by q r e apart None m =
         let x = current_item p index q r e in
-        elim (cases_Bool (contains_number (merged_segments p plan.bucket) r.segment)) [
+        elim (cases_Bool (contains_number (merged_segments p plan.choice) r.segment)) [
           | inl y ↦
               absurd (false≢true (sym apart
-              ∙ is_lost plan.moves (live_items (lives_by marks) p (merged_segments p plan.bucket)) r
+              ∙ is_lost plan.moves (live_items (lives_by marks) p (merged_segments p plan.choice)) r
               (merged_left p plan after index found marks w r x.0 x.1 (w.tied.held q r e) y) m))
           | inr n ↦ absurd (none-some r (sym m ∙ (moved_other p plan after r w.out n).0))
         ]
@@ -240,7 +240,7 @@ pub merged_made : (p : PoolState) (plan : Plan) (after : PoolState) (index found
     → IsMergeRelocated p plan after index found marks
     → IsCrowded p index t → IsRoomMade p index t after found
 merged_made p plan after index found marks t w crowded =
-    let all = live_items (lives_by marks) p (merged_segments p plan.bucket) in
+    let all = live_items (lives_by marks) p (merged_segments p plan.choice) in
     let ss = lost plan.moves all in
     record {
       sizes = w.out.sizes;
@@ -249,12 +249,12 @@ merged_made p plan after index found marks t w crowded =
       absent = λ q none. w.relocated.places q ∙ ap (option_and_then (moved_by plan.moves)) none;
       kept = evicted_kept p index after found t ss crowded
           (All-filter (λ (s : Standing). not (is_some (moved_by plan.moves s.place))) (IsCurrent p index) all
-          (live_current p index marks (merged_segments p plan.bucket) w.tied))
+          (live_current p index marks (merged_segments p plan.choice) w.tied))
           (merged_stayed p plan after index found marks w)
           (let part = part_sizes (λ (s : Standing). not (is_some (moved_by plan.moves s.place))) all in
-          let whole = live_sizes p marks (merged_segments p plan.bucket) w.tied.known.pool in
-          let four : length (merged_segments p plan.bucket) ≤ 4 =
-          (let l = length-take 4 (front p plan.bucket) in omega (arith, l)) in
+          let whole = live_sizes p marks (merged_segments p plan.choice) w.tied.known.pool in
+          let four : length (merged_segments p plan.choice) ≤ 4 =
+          (let l = length-take 4 (front p plan.choice) in omega (arith, l)) in
           let most = mul-le-mul_left p.sizes.segment_size four in
           omega (arith, part, whole, most));
     }

@@ -8,7 +8,8 @@ use Rattle.std.proofs.lemmas.Bool.{false≢true}
 use Rattle.std.proofs.lemmas.Option.{none-some}
 use Rattle.proto.specs.Sizes.{Sizes}
 use Rattle.segments.specs.Pools.{PoolState, IsPool, segment_at}
-use Rattle.segments.specs.Changes.{new_pool}
+use Rattle.proto.specs.declared.eviction.Eviction.{Eviction}
+use Rattle.segments.specs.Changes.{new_pool, with_eviction}
 use Rattle.segments.specs.Filling.{IsInTimeOrder}
 use Rattle.segments.specs.Marks.{Marks, KnowsPool, no_marks, mark_at}
 use Rattle.segments.proofs.MarkedPlaces.{knows_none, nothing_at}
@@ -45,9 +46,10 @@ tied_start p index t pool is m roomy layout =
     }
 
 -- no segment is open
-pub past_start : (p : PoolState) (sizes : Sizes) → p ≡ new_pool sizes → IsPast p 0
+pub past_start : (p : PoolState) (sizes : Sizes) (eviction : Eviction) → p ≡ with_eviction (new_pool sizes) eviction
+    → IsPast p 0
 unfolding new_pool
-past_start p sizes is =
+past_start p sizes eviction is =
     record {
       within = omega arith;
       opened = λ n u e. absurd (none-some u

@@ -1,5 +1,5 @@
 -- Requests for which nothing is forgotten, by what they do to the segments.
-use Rattle.std.proofs.Common.{◌≡◌, ℕ, ◌+◌, ◌≤◌, Bool, List, [], ◌∷◌, Option, Some, None, refl, sym, ap, subst, ◌∙◌, inl, inr}
+use Rattle.std.proofs.Common.{◌≡◌, ℕ, ◌+◌, ◌≤◌, List, [], ◌∷◌, Option, Some, None, refl, sym, ap, subst, ◌∙◌, inl, inr}
 use Rattle.std.proofs.Common.{arith}
 use Rattle.std.specs.Prelude.{◌⊎◌, if◌then◌else◌}
 use Rattle.std.specs.List.{AllByRecursion}
@@ -15,17 +15,17 @@ use Rattle.proto.specs.Steps.{Step, IsDated, without_keys}
 use Rattle.proto.specs.Stored.{StoredItem, stored_item_of, item_stored, is_no_memory, written}
 use Rattle.proto.proofs.Options.{none_is_some}
 use Rattle.proto.proofs.CacheLemmas.{entry_size, without-nil}
-use Rattle.proto.proofs.StepLemmas.{get-stored, dated-insert}
+use Rattle.proto.proofs.StepLemmas.{get-stored, dated-insert, dated-exactly, live_dated, insert-same}
 use Rattle.engine.specs.declared.commands.Engine.{Engine}
 use Rattle.engine.specs.Counting.{CountsEach, keys_of}
 use Rattle.engine.specs.Keeping.{ForgetsNone}
 use Rattle.engine.specs.Outcomes.{outcome_at}
+use Rattle.engine.specs.Engines.{Way, way_of}
 use Rattle.engine.proofs.KeepingLemmas.{answered_item}
 use Rattle.engine.proofs.Refusals.{answers_act}
 use Rattle.segments.specs.Pools.{PoolState, item_in}
 use Rattle.segments.specs.Changes.{with_read, with_item_at}
 use Rattle.segments.specs.Items.{read_again}
-use Rattle.proto.proofs.DeadlineLemmas.{may_be_exact}
 use Rattle.segments.specs.Filling.{IsFilled, HoldsLittle, held_size}
 use Rattle.segments.proofs.ItemChanges.{keeps_read}
 use Rattle.segments.proofs.FilledLemmas.{filled_changed}
@@ -34,9 +34,9 @@ use Rattle.segcache.specs.Shown.{shown_entries}
 use Rattle.segcache.specs.State.{MapState, IsSegmentedMap}
 use Rattle.segcache.specs.StoreState.{sizes_in, segmented_cache}
 use Rattle.segcache.specs.Living.{live_others}
-use Rattle.segcache.specs.Writes.{WritesToSegments, ChangesInPlace, IsReadAgain, unread, with_value}
+use Rattle.segcache.specs.Writes.{WritesToSegments, ChangesInPlace, StaysDated, IsReadAgain, unread, with_value}
 use Rattle.segcache.specs.Handling.{LeavesSegments, HandlesSegments}
-use Rattle.segcache.specs.Handling.LeavesSegments.{writes, changes, reads, stays, refuses}
+use Rattle.segcache.specs.Handling.LeavesSegments.{writes, changes, dates, reads, stays, refuses}
 use Rattle.segcache.specs.StayingFilled.{StaysFilled}
 use Rattle.segcache.proofs.TiedParts.{current_some}
 use Rattle.segcache.proofs.ChangedItems.{sized_over}
@@ -61,7 +61,7 @@ counted_filled (key ∷ keys) old new h filled =
 record IsLeftFilled (t : ℕ) (found : MapState) (done : Outcome) (reply : Reply) (after : MapState)
     (items : List StoredItem) : Type 0 where
   dated : (done.stored ≡ None) ⊎ ((reply ≡ NoMemory)
-      ⊎ IsDated t done.entries done.stored (shown_entries after.pool after.index t))
+      ⊎ IsDated t done.reply done.entries done.stored (shown_entries after.pool after.index t))
   filled : IsFilled after.pool
   held : held_size after.pool ≤ held_size found.pool + written items
 
@@ -97,16 +97,17 @@ written_filled found after done key e kept other stored asked w filled little =
     let now : shown_entries after.pool after.index t
     ≡ finite.insert (shown_entries p found.index t) key (record e { deadline = w.deadline }) =
     k.entries ∙ ap (finite.insert (shown_entries p found.index t) key) w.stands in
-    let exact : IsDated t (finite.insert (shown_entries p found.index t) key e) (Some key)
+    let exact : IsDated t done.reply (finite.insert (shown_entries p found.index t) key e) (Some key)
     (finite.insert (shown_entries p found.index t) key (record e { deadline = w.deadline })) =
-    dated-insert t (shown_entries p found.index t) key e w.deadline w.may_live in
+    dated-insert t done.reply (shown_entries p found.index t) key e w.deadline
+    (live_dated t e.deadline w.deadline done.reply w.may_live) in
     let held = k.held in
     let size : written (items_by t done done.reply) ≡ entry_size key e + 0 = ap written items ∙ omega arith in
     record {
-      dated = inr (inr (subst (λ (o : Option (List ℕ)). IsDated t done.entries o
+      dated = inr (inr (subst (λ (o : Option (List ℕ)). IsDated t done.reply done.entries o
           (shown_entries after.pool after.index t)) (sym stored)
-          (subst (λ (m : Entries). IsDated t m (Some key) (shown_entries after.pool after.index t)) (sym asked)
-          (subst (λ (m : Entries). IsDated t (finite.insert (shown_entries p found.index t) key e) (Some key) m)
+          (subst (λ (m : Entries). IsDated t done.reply m (Some key) (shown_entries after.pool after.index t)) (sym asked)
+          (subst (λ (m : Entries). IsDated t done.reply (finite.insert (shown_entries p found.index t) key e) (Some key) m)
           (sym now) exact))));
       filled = k.filled;
       held = omega arith;
@@ -123,17 +124,42 @@ changed_filled found after done key e stored asked w items filled =
     let t = found.moment in
     let same : after.pool ≡ with_item_at p w.place (with_value e w.item) = ap (λ (m : MapState). m.pool) w.new_is in
     let f = filled_changed (λ _. with_value e w.item) p w.place (sized_over found after key e w) filled in
-    let exact : IsDated t (finite.insert (shown_entries p found.index t) key e) (Some key)
-    (finite.insert (shown_entries p found.index t) key (record e { deadline = e.deadline })) =
-    dated-insert t (shown_entries p found.index t) key e e.deadline (may_be_exact t e.deadline w.waits) in
+    let exact : IsDated t done.reply (finite.insert (shown_entries p found.index t) key e) (Some key)
+    (finite.insert (shown_entries p found.index t) key e) =
+    dated-exactly t done.reply (shown_entries p found.index t) key e w.waits in
     let held : held_size after.pool ≡ held_size p = ap held_size same ∙ f.1 in
     record {
-      dated = inr (inr (subst (λ (o : Option (List ℕ)). IsDated t done.entries o
+      dated = inr (inr (subst (λ (o : Option (List ℕ)). IsDated t done.reply done.entries o
           (shown_entries after.pool after.index t)) (sym stored)
-          (subst (λ (m : Entries). IsDated t m (Some key) (shown_entries after.pool after.index t)) (sym asked)
-          (subst (λ (m : Entries). IsDated t (finite.insert (shown_entries p found.index t) key e) (Some key) m)
+          (subst (λ (m : Entries). IsDated t done.reply m (Some key) (shown_entries after.pool after.index t)) (sym asked)
+          (subst (λ (m : Entries). IsDated t done.reply (finite.insert (shown_entries p found.index t) key e) (Some key) m)
           (sym w.entries) exact))));
       filled = subst IsFilled (sym same) f.0;
+      held = omega arith;
+    }
+
+-- an entry that was left where only its deadline was to change
+dated_filled : (found after : MapState) (done : Outcome) (key : List ℕ) (e : Entry)
+    → done.stored ≡ Some key
+    → done.entries ≡ finite.insert (shown_entries found.pool found.index found.moment) key e
+    → StaysDated found key e done.reply after → (items : List StoredItem) → IsFilled found.pool
+    → IsLeftFilled found.moment found done done.reply after items
+dated_filled found after done key e stored asked w items filled =
+    let p = found.pool in
+    let t = found.moment in
+    let shown = shown_entries p found.index t in
+    let left : Entry = record e { deadline = w.deadline } in
+    let exact : IsDated t done.reply (finite.insert shown key e) (Some key) (finite.insert shown key left) =
+    dated-insert t done.reply shown key e w.deadline w.may_stay in
+    let now : shown_entries after.pool after.index t ≡ finite.insert shown key left =
+    ap (λ (m : MapState). shown_entries m.pool m.index t) w.same ∙ sym (insert-same shown key left w.there) in
+    let held : held_size after.pool ≡ held_size p = ap (λ (m : MapState). held_size m.pool) w.same in
+    record {
+      dated = inr (inr (subst (λ (o : Option (List ℕ)). IsDated t done.reply done.entries o
+          (shown_entries after.pool after.index t)) (sym stored)
+          (subst (λ (m : Entries). IsDated t done.reply m (Some key) (shown_entries after.pool after.index t)) (sym asked)
+          (subst (λ (m : Entries). IsDated t done.reply (finite.insert shown key e) (Some key) m) (sym now) exact))));
+      filled = subst (λ (m : MapState). IsFilled m.pool) (sym w.same) filled;
       held = omega arith;
     }
 
@@ -148,25 +174,29 @@ same_filled t found after done reply items (inr refused) filled held =
 
 -- each outcome leaves segments filled where little is held, be it that an item is written, reads are counted, the pool stays,
 -- or memory is refused
-leaves_filled : (in_place : Bool) (found after : MapState) (done : Outcome) (reply : Reply) → IsSegmentedMap found
+leaves_filled : (way : Way) (found after : MapState) (done : Outcome) (reply : Reply) → IsSegmentedMap found
     → (done.reply ≡ NoMemory → ⊥)
-    → LeavesSegments in_place found done after reply
+    → LeavesSegments way found done after reply
     → LeavesFilled found.moment found done reply after
-leaves_filled in_place found after done _ kept other (writes key e stored is asked w) =
+leaves_filled way found after done _ kept other (writes key e stored is asked w) =
     written_filled found after done key e kept other stored asked w
-leaves_filled in_place found after done _ kept other (changes key e stored is asked (inl w)) =
+leaves_filled way found after done _ kept other (changes key e stored is asked (inl w)) =
     λ filled little. changed_filled found after done key e stored asked w (items_by found.moment done done.reply) filled
-leaves_filled in_place found after done _ kept other (changes key e stored is asked (inr w)) =
+leaves_filled way found after done _ kept other (changes key e stored is asked (inr w)) =
     written_filled found after done key e kept other stored asked w.1
-leaves_filled in_place found after done _ kept other (reads hits none is counts) =
+leaves_filled way found after done _ kept other (dates key e stored is asked (inl w)) =
+    λ filled little. dated_filled found after done key e stored asked w (items_by found.moment done done.reply) filled
+leaves_filled way found after done _ kept other (dates key e stored is asked (inr w)) =
+    written_filled found after done key e kept other stored asked w.writes
+leaves_filled way found after done _ kept other (reads hits none is counts) =
     λ filled little.
     (let c = counted_filled (keys_of hits) found after counts filled in
     same_filled found.moment found after done done.reply (items_by found.moment done done.reply) (inl none) c.0 c.1)
-leaves_filled in_place found after done _ kept other (stays none hitless same) =
+leaves_filled way found after done _ kept other (stays none hitless same) =
     λ filled little.
     same_filled found.moment found after done done.reply (items_by found.moment done done.reply) (inl none)
     (subst IsFilled (sym same) filled) (ap held_size same)
-leaves_filled in_place found after done _ kept other (refuses same) =
+leaves_filled way found after done _ kept other (refuses same) =
     λ filled little.
     same_filled found.moment found after done NoMemory (items_by found.moment done NoMemory) (inr refl)
     (subst IsFilled (sym same) filled) (ap held_size same)
@@ -180,14 +210,14 @@ unstored before after t q reply (inr r) none = inl r.reply_is
 unstored before after t q reply (inl x) none =
     let done = outcome_at (sizes_in before) (segmented_cache before) t q in
     let dated : x.dated ≡ done.entries =
-    subst (λ (o : Option (List ℕ)). IsDated t done.entries o x.dated) none x.is_dated in
+    subst (λ (o : Option (List ℕ)). IsDated t done.reply done.entries o x.dated) none x.is_dated in
     let nothing : x.forgotten ≡ [] = elim x.may_forget [
       | inl is ↦ is
       | inr h ↦ absurd (none_is_some h.0 (sym none ∙ h.1))
     ] in
     let same : (segmented_cache after).entries ≡ done.entries =
     x.entries ∙ ap (without_keys x.dated) nothing ∙ without-nil x.dated ∙ dated in
-    inr (subst (λ (o : Option (List ℕ)). IsDated t done.entries o (segmented_cache after).entries) (sym none) same)
+    inr (subst (λ (o : Option (List ℕ)). IsDated t done.reply done.entries o (segmented_cache after).entries) (sym none) same)
 
 -- by what a request does to the segments it forgets nothing where they hold little
 pub stays_filled : (before : Engine SegmentMap) (t : ℕ) (q : Request) (reply : Reply) (after : Engine SegmentMap)
@@ -201,7 +231,7 @@ stays_filled before t q reply after step moment h filled little =
     let other = answers_act (item_limit (sizes_in before)) (found_at (segmented_cache before) t) t q in
     let leaves : LeavesFilled t found done reply after.map =
     subst (λ (u : ℕ). LeavesFilled u found done reply after.map) h.is_found.moment
-    (leaves_filled before.in_place found after.map done reply h.is_found.kept other h.leaves) in
+    (leaves_filled (way_of q before.in_place) found after.map done reply h.is_found.kept other h.leaves) in
     let left = leaves (subst IsFilled (sym pool) filled)
     (subst (λ (p : PoolState). AllByRecursion (λ (i : StoredItem). HoldsLittle p i.bucket t) (items_by t done reply))
     (sym pool) little) in
@@ -211,7 +241,7 @@ stays_filled before t q reply after step moment h filled little =
         | inl none ↦ unstored before after t q reply step none
         | inr dated ↦ elim dated [
           | inl refused ↦ inl refused
-          | inr is ↦ inr (subst (λ (u : ℕ). IsDated t done.entries done.stored
+          | inr is ↦ inr (subst (λ (u : ℕ). IsDated t done.reply done.entries done.stored
               (shown_entries after.map.pool after.map.index u)) (sym moment) is)
         ]
       ],

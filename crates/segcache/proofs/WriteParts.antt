@@ -1,17 +1,18 @@
 -- A write by what the parts of it leave.
 use Rattle.std.proofs.Common.{◌≡◌, ℕ, ◌+◌, ◌*◌, ◌/◌, ◌<◌, ◌≤◌, ◌^◌, Bool, true, false, cond, List, length, Option, Some, None}
-use Rattle.std.proofs.Common.{refl, sym, ap, ◌∙◌, inl, inr, arith}
-use Rattle.std.specs.Prelude.{bytes_eq, is_some, option_map}
+use Rattle.std.proofs.Common.{refl, sym, ap, subst, ◌∙◌, inl, inr, arith}
+use Rattle.std.specs.Prelude.{bytes_eq, is_some, option_map, IsSome}
 use Rattle.std.specs.FinMap as finite
 use Rattle.std.proofs.lemmas.Bool.{cases_Bool, false≢true}
 use Rattle.std.proofs.lemmas.Slice.Eq.{bytes_eq-Decides}
-use Rattle.proto.specs.Sizes.{Sizes, item_limit}
+use Rattle.proto.specs.Sizes.{Sizes, item_limit, item_size}
 use Rattle.proto.specs.Cache.{Entry, Entries}
 use Rattle.proto.specs.Buckets.{MayLive}
 use Rattle.proto.specs.Steps.{without_keys}
 use Rattle.proto.proofs.CacheLemmas.{contains_bytes, same_entries, get-insert, get-remove, get-without, not_forgotten}
 use Rattle.segments.specs.declared.place.Place.{Place}
 use Rattle.segments.specs.Items.{Item, IsStorable}
+use Rattle.segments.specs.Limits.{longest_key}
 use Rattle.segments.specs.Pools.{PoolState}
 use Rattle.segments.proofs.Places.{item_storable}
 use Rattle.index.specs.Table.{Table}
@@ -21,7 +22,7 @@ use Rattle.segcache.specs.Kept.{IsTied}
 use Rattle.segcache.specs.Room.{AreKept}
 use Rattle.segments.specs.Marks.{Marks}
 use Rattle.proto.proofs.CacheLemmas.{if_live}
-use Rattle.segcache.proofs.ShownItems.{get-live_in}
+use Rattle.segcache.proofs.ShownItems.{get-live_in, shown_at, entry_is}
 use Rattle.segcache.proofs.TiedParts.{current_item}
 
 -- a key put into what was kept of the other entries
@@ -87,7 +88,26 @@ may_store p index marks t i tied (inl f) cas flags reads =
       reads = omega (arith, reads);
       small = f.small;
     }
-may_store p index marks t i tied (inr f) cas flags reads =
+may_store p index marks t i tied (inr (inr f)) cas flags reads =
+    let r = some_of (finite.get (current p index) i.key) p t
+    (ap is_some (sym (get-live_in p (current p index) t i.key) ∙ f.1)) in
+    let x = current_item p index i.key r.0 r.1 in
+    let s = item_storable p r.0 x.0 tied.known.pool x.1 in
+    let shown : Some (entry_at p r.0) ≡ Some f.0 =
+    shown_at p (current p index) t i.key r.0 r.1 (subst IsSome (sym f.1) refl) ∙ f.1 in
+    let is : entry_at p r.0 ≡ f.0 = cc in
+    let value : x.0.value ≡ i.value =
+    ap (λ (e : Entry). e.value) (sym (entry_is p r.0 x.0 x.1) ∙ is) ∙ f.2 in
+    record {
+      cas = cas;
+      flags = flags;
+      some_key = subst (λ (k : List ℕ). 1 ≤ length k) x.2 s.some_key;
+      short_key = subst (λ (k : List ℕ). length k ≤ longest_key) x.2 s.short_key;
+      reads = omega (arith, reads);
+      small = subst (λ (k : List ℕ). item_size (length k) (length i.value) ≤ item_limit p.sizes) x.2
+          (subst (λ (v : List ℕ). item_size (length x.0.key) (length v) ≤ item_limit p.sizes) value s.small);
+    }
+may_store p index marks t i tied (inr (inl f)) cas flags reads =
     let r = some_of (finite.get (current p index) i.key) p t
     (ap is_some (sym (get-live_in p (current p index) t i.key)) ∙ f.0) in
     let x = current_item p index i.key r.0 r.1 in

@@ -4,7 +4,8 @@ use Rattle.std.specs.Int.{IsNextPowerOfTwo}
 use Rattle.index.specs.Keys.{seeded_hasher}
 use Rattle.index.specs.Sizing.{most_items}
 use Rattle.proto.specs.Sizes.{Sizes}
-use Rattle.segments.specs.Changes.{new_pool}
+use Rattle.proto.specs.declared.eviction.Eviction.{Eviction}
+use Rattle.segments.specs.Changes.{new_pool, with_eviction}
 use Rattle.proto.specs.declared.message.Request.{Request}
 use Rattle.proto.specs.declared.message.Reply.{Reply}
 use Rattle.engine.specs.declared.commands.Engine.{Engine}
@@ -13,10 +14,10 @@ use Rattle.segcache.specs.State.{MapState}
 use Rattle.segcache.specs.Handling.{HandlesSegments}
 use Rattle.segcache.specs.StayingFilled.{StaysFilled}
 
--- The pool of a new map is new; its index has memory for two slots for each item that segments of these sizes can hold,
+-- The pool of a new map is new, and evicts by this rule; its index has memory for two slots for each item that segments of these sizes can hold,
 -- and hashes the seed before each key.
-pub record IsMadeFor (sizes : Sizes) (seed : ℕ) (new : MapState) : Type 0 where
-  pub pool_is : new.pool ≡ new_pool sizes
+pub record IsMadeFor (sizes : Sizes) (seed : ℕ) (eviction : Eviction) (new : MapState) : Type 0 where
+  pub pool_is : new.pool ≡ with_eviction (new_pool sizes) eviction
   pub slots : IsNextPowerOfTwo (2 * most_items sizes) new.index.room
   pub seed_is : new.index.hasher ≡ seeded_hasher seed
 

@@ -1,9 +1,11 @@
 -- Where the entries of a segmented map stand, how it writes, how it counts reads, and what stays.
-use Rattle.std.specs.Prelude.{◌≡◌, ℕ, ◌⊎◌, IsTrue, false, List, Option, Some}
+use Rattle.std.specs.Prelude.{◌≡◌, ℕ, ◌+◌, ◌-◌, ◌*◌, ◌/◌, ◌⊎◌, min, nat_le, nat_lt, Bool, ◌&&◌, ◌||◌, IsTrue, true, false, List, Option, Some, None}
 use Rattle.std.specs.FinMap as finite
+use Rattle.proto.specs.declared.message.Reply.{Reply}
 use Rattle.proto.specs.Cache.{Entry, has_arrived}
+use Rattle.proto.specs.Steps.{MayBeDated}
 use Rattle.proto.specs.Sizes.{item_limit}
-use Rattle.proto.specs.Buckets.{bucket_of, time_to_live, MayLive}
+use Rattle.proto.specs.Buckets.{bucket_of, time_to_live, life_width, MayLive}
 use Rattle.segments.specs.declared.place.Place.{Place}
 use Rattle.segments.specs.Items.{Item, IsStorable, fits_over}
 use Rattle.segments.specs.Pools.{item_in, place_deadline}
@@ -61,6 +63,32 @@ pub record FitsNot (old : MapState) (key : List ℕ) (entry : Entry) : Type 0 wh
 abbrev pub ChangesSegments : MapState → List ℕ → Entry → MapState → Type 0
 ChangesSegments old key entry new =
     ChangesInPlace old key entry new ⊎ (FitsNot old key entry × WritesToSegments old key entry new)
+
+-- whether a touch at the moment t that asks for the first deadline leaves an entry that has the second one, which it may
+abbrev pub stays_as : ℕ → Option ℕ → Option ℕ → Bool
+stays_as t None None = true
+stays_as t (Some asked) (Some given) =
+    nat_lt t given && nat_le given asked
+    && (nat_lt (min asked (t + 8388608)) (given + 2 * life_width (asked - t)) || nat_le (asked - given) ((asked - t) / 8))
+stays_as t _ _ = false
+
+-- the key's entry was left as it is, whose deadline may stand for the one asked for
+pub record StaysDated (old : MapState) (key : List ℕ) (entry : Entry) (reply : Reply) (new : MapState) : Type 0 where
+  pub deadline : Option ℕ
+  pub there : finite.get (shown_entries old.pool old.index old.moment) key ≡ Some (record entry { deadline = deadline })
+  pub stays : IsTrue (stays_as old.moment entry.deadline deadline)
+  pub may_stay : MayBeDated old.moment entry.deadline deadline reply
+  pub same : new ≡ old
+
+-- it was written anew, since it may not
+pub record IsDatedAnew (old : MapState) (key : List ℕ) (entry : Entry) (new : MapState) : Type 0 where
+  pub deadline : Option ℕ
+  pub there : finite.get (shown_entries old.pool old.index old.moment) key ≡ Some (record entry { deadline = deadline })
+  pub stays_not : stays_as old.moment entry.deadline deadline ≡ false
+  pub writes : WritesToSegments old key entry new
+
+abbrev pub DatesSegments : MapState → List ℕ → Entry → Reply → MapState → Type 0
+DatesSegments old key entry reply new = StaysDated old key entry reply new ⊎ IsDatedAnew old key entry new
 
 -- the key's item was read once more, and nothing else changed
 pub record IsReadAgain (old : MapState) (key : List ℕ) (new : MapState) : Type 0 where

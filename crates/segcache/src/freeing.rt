@@ -1,5 +1,5 @@
 //! How a segment becomes free if none is: segments without a live item are given back, or else a merge makes room, or
-//! the segment that was opened first is cleared.
+//! a segment is cleared: the one that was opened first, or of those looked at the one with the fewest hits.
 
 ghost use Rattle.std.specs.Prelude.{◌≡◌, ℕ};
 ghost use Rattle.segments.specs.Items.{Item};
@@ -29,8 +29,8 @@ impl SegmentMap {
         self.pool.merge_next();
     }
 
-    /// Forgets the items of the segment that was opened first.
-    fn clear_oldest(&mut self)
+    /// Forgets the items of the segment that is evicted.
+    fn clear_victim(&mut self)
         requires full { IsPoolFull self.old.pool }
         requires crowded { IsCrowded self.old.pool self.old.index self.old.moment }
         ensures made { IsRoomMade self.old.pool self.old.index self.old.moment self.new.pool self.new.index }
@@ -38,14 +38,14 @@ impl SegmentMap {
             → IsEvicted (lives_by self.old.marks) self.old.pool self.old.index self.new.pool self.new.index }
         ensures moment { self.new.moment ≡ self.old.moment }
     {
-        if let Some(segment) = self.pool.oldest() {
+        if let Some(segment) = self.pool.victim() {
             self.unindex_segment(segment);
             self.pool.clear(segment);
         }
     }
 
     /// Forgets what has to be forgotten if each segment has a live item: what a merge doesn't keep, or, if nothing
-    /// can be merged, the segment that was opened first.
+    /// can be merged, a segment's items.
     fn evict(&mut self)
         requires full { IsPoolFull self.old.pool }
         requires crowded { IsCrowded self.old.pool self.old.index self.old.moment }
@@ -57,7 +57,7 @@ impl SegmentMap {
         if self.pool.plan_merge(&self.marks) {
             self.merge();
         } else {
-            self.clear_oldest();
+            self.clear_victim();
         }
     }
 

@@ -2,14 +2,15 @@
 
 ghost use Rattle.std.specs.Prelude.{◌≡◌, false, IsSome};
 ghost use Rattle.std.specs.FinMap as map;
-ghost use Rattle.proto.specs.Buckets.{time_to_live};
+ghost use Rattle.proto.specs.Buckets.{time_to_live, life_width};
 ghost use Rattle.segments.specs.Pools.{item_in, place_deadline};
 ghost use Rattle.engine.specs.Shown.{entry_of};
 ghost use Rattle.segcache.specs.Shown.{entry_at, shown_entries};
+ghost use Rattle.segcache.specs.Writes.{stays_as};
 
 use engine::{EntryRef, LiveMap, StoreMap, has_arrived};
 use index::{Index, layout_for, slots_for};
-use proto::{Geometry, NoMemory};
+use proto::{Eviction, Geometry, NoMemory};
 use segments::{ItemRef, LiveMarks, Place, Pool, bucket_of};
 use std::alloc::Global;
 use std::hash::FoldHasher;
@@ -47,6 +48,41 @@ fn time_to_live(deadline: Option<u64>, now: u64) -> Option<u64>
     Some(deadline.saturating_sub(now).max(1))
 }
 
+/// How wide the bucket of a life is in seconds.
+fn life_width(life: u64) -> u64
+    ensures { result ≡ life_width life }
+{
+    if life < 2048 {
+        8
+    } else if life < 32_768 {
+        128
+    } else if life < 524_288 {
+        2048
+    } else {
+        32_768
+    }
+}
+
+/// Whether an entry with this deadline may stay where another one is asked for at the moment: it may be one that a write gives, or at
+/// most an eighth of the life asked for is missing.
+fn stays_as(now: u64, asked: Option<u64>, given: Option<u64>) -> bool
+    ensures { result ≡ stays_as now asked given }
+{
+    match (asked, given) {
+        (None, None) => true,
+        (Some(asked), Some(given)) => {
+            now < given
+                && given <= asked
+                && (asked
+                    .min(now.saturating_add(8_388_608))
+                    .saturating_sub(given)
+                    < 2 * life_width(asked - now)
+                    || asked - given <= (asked - now) / 8)
+        }
+        _ => false,
+    }
+}
+
 /// The entry of the item at a place, lent.
 fn entry_at<'a>(pool: &'a Pool, place: Place) -> EntryRef<'a>
     requires { IsSome (item_in pool.now place) }
@@ -65,7 +101,7 @@ fn entry_at<'a>(pool: &'a Pool, place: Place) -> EntryRef<'a>
 impl LiveMap for SegmentMap {
     ghost use Rattle.std.specs.Prelude.{false};
     ghost use Rattle.segcache.specs.Shown.{shown_entries};
-    ghost use Rattle.segcache.specs.Writes.{StandsAt, WritesToSegments, ChangesSegments, IsReadAgain, HasSamePool};
+    ghost use Rattle.segcache.specs.Writes.{StandsAt, WritesToSegments, ChangesSegments, stays_as, IsReadAgain, HasSamePool};
     ghost use Rattle.segcache.specs.Keeping.{KeepsStored};
 
     type Place = Place;
@@ -85,6 +121,8 @@ impl LiveMap for SegmentMap {
     ghost changes = { ChangesSegments };
 
     ghost reads = { IsReadAgain };
+
+    ghost stays = { stays_as };
 
     ghost alike = { HasSamePool };
 
@@ -158,6 +196,10 @@ impl LiveMap for SegmentMap {
         Ok(())
     }
 
+    fn may_stay(&self, _key: &[u8], place: Place, deadline: Option<u64>) -> bool {
+        stays_as(self.moment, deadline, self.pool.item(place).deadline)
+    }
+
     fn remove(&mut self, key: &[u8]) {
         self.remove_key(key);
     }
@@ -174,9 +216,16 @@ impl StoreMap for SegmentMap {
 
     ghost promises = { PromisesSegments };
 
-    fn seeded(alloc: Global, geometry: Geometry, seed: u64) -> Result<Self, NoMemory> {
+    fn seeded(
+        alloc: Global,
+        geometry: Geometry,
+        seed: u64,
+        eviction: Eviction,
+    ) -> Result<Self, NoMemory> {
+        let mut pool = Pool::new(alloc, geometry)?;
+        pool.evict_by(eviction);
         Ok(SegmentMap {
-            pool: Pool::new(alloc, geometry)?,
+            pool,
             index: Index::new(alloc, slots_for(geometry), layout_for(geometry), seed)?,
             marks: LiveMarks::new(alloc, geometry)?,
             moment: 0,

@@ -4,6 +4,9 @@
 use command_line::{
     Job, Options, ServeOptions, WordsFault, geometry_of, parse_words, unreadable_words,
 };
+use replaying::{cannot_read, replay};
+use serving::{seed_of, serve_to_end};
+use std::fmt::Display;
 use std::fs::File;
 use std::io::{self, BufWriter, Eprint};
 use std::net::Net;
@@ -11,20 +14,21 @@ use std::process::ExitCode;
 use std::sync::Wait;
 use std::thread::Threads;
 use std::{env, fs, time};
-use subcommands::{Fault, cannot_read, replay, seed_of, serve};
 
 /// Replays the script in the file that the options name, with these threads.
 fn replay_file<H: Threads + Wait + time::Clock + Sync>(
     rt: &HostRuntime,
     threads: &H,
     options: &Options,
-) -> Result<(), Fault> {
+) -> Result<(), replaying::Fault> {
     let alloc = rt.alloc();
-    let geometry = geometry_of(options.segment_size, options.segments).ok_or(Fault::BadGeometry)?;
+    let geometry = geometry_of(options.segment_size, options.segments).ok_or(
+        replaying::Fault::BadGeometry,
+    )?;
     let script: File = fs::open(rt, options.file.as_str()).map_err(|error| cannot_read(
         alloc, options, &error,
     ))?;
-    let mut out = BufWriter::new(alloc, io::writer(rt)).map_err(|_| Fault::NoMemory)?;
+    let mut out = BufWriter::new(alloc, io::writer(rt)).map_err(|_| replaying::Fault::NoMemory)?;
     replay(threads, alloc, options, geometry, script, &mut out)?;
     Ok(())
 }
@@ -34,12 +38,13 @@ fn serve_at<H: Threads + Wait + Net + time::Clock + Eprint + Copy + Drop + Send 
     rt: &HostRuntime,
     threads: &H,
     options: &ServeOptions,
-) -> Result<(), Fault> {
+) -> Result<(), serving::Fault> {
     let alloc = rt.alloc();
-    let geometry = geometry_of(options.segment_size, options.segments).ok_or(Fault::BadGeometry)?;
-    let mut out = BufWriter::new(alloc, io::writer(rt)).map_err(|_| Fault::NoMemory)?;
-    serve(*threads, alloc, options, geometry, seed_of(rt), &mut out)?;
-    Ok(())
+    let geometry = geometry_of(options.segment_size, options.segments).ok_or(
+        serving::Fault::BadGeometry,
+    )?;
+    let mut out = BufWriter::new(alloc, io::writer(rt)).map_err(|_| serving::Fault::NoMemory)?;
+    serve_to_end(*threads, alloc, options, geometry, seed_of(rt), &mut out)
 }
 
 /// What the words after the program's name ask for.
@@ -50,36 +55,41 @@ fn job(rt: &HostRuntime) -> Result<Job, WordsFault> {
     parse_words(alloc, words.as_slice())
 }
 
-/// Does the job.
-fn run<H: Threads + Wait + Net + time::Clock + Eprint + Copy + Drop + Send + Sync + 'static>(
-    rt: &HostRuntime,
-    threads: &H,
-    job: Job,
-) -> Result<(), Fault> {
-    match job {
-        Job::Help(text) => rt.print(text).map_err(|_| Fault::CannotWrite),
-        Job::Replay(options) => replay_file(rt, threads, &options),
-        Job::Serve(options) => serve_at(rt, threads, &options),
-    }
-}
-
 /// Prints the fault, where standard error takes it, and answers the exit status.
-fn fail(rt: &HostRuntime, fault: Fault) -> u8 {
+fn fail<F: Display + Drop>(rt: &HostRuntime, fault: F) -> u8 {
     let _ = rt.eprintln(fault);
     1
 }
 
+/// The exit status of what was done, whose fault is printed.
+fn status<F: Display + Drop>(rt: &HostRuntime, done: Result<(), F>) -> u8 {
+    match done {
+        Ok(()) => 0,
+        Err(fault) => fail(rt, fault),
+    }
+}
+
+/// Does the job, and answers the exit status.
+fn run<H: Threads + Wait + Net + time::Clock + Eprint + Copy + Drop + Send + Sync + 'static>(
+    rt: &HostRuntime,
+    threads: &H,
+    job: Job,
+) -> u8 {
+    match job {
+        Job::Help(text) => status(rt, rt.print(text).map_err(|_| "fault: cannot write")),
+        Job::Replay(options) => status(rt, replay_file(rt, threads, &options)),
+        Job::Serve(options) => status(rt, serve_at(rt, threads, &options)),
+    }
+}
+
 fn main(rt: HostRuntime) -> ExitCode {
     let status = match job(&rt) {
-        Ok(job) => match run(&rt, &rt, job) {
-            Ok(()) => 0,
-            Err(fault) => fail(&rt, fault),
-        },
+        Ok(job) => run(&rt, &rt, job),
         Err(WordsFault::BadWords(text)) => {
             let _ = rt.eprint(text);
             2
         }
-        Err(WordsFault::NoMemory) => fail(&rt, Fault::NoMemory),
+        Err(WordsFault::NoMemory) => fail(&rt, "fault: out of memory"),
     };
     ExitCode::from(status)
 }

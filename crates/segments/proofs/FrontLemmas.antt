@@ -1,6 +1,6 @@
 -- The front of a chain: the segments of it that would be merged.
 use Rattle.std.proofs.Common.{◌≡◌, ℕ, zero, suc, ◌+◌, ◌-◌, ◌≤◌, Bool, true, false, cond, eqb, List, [], ◌∷◌, length}
-use Rattle.std.proofs.Common.{get_or, take, Option, refl, sym, ap, subst, ◌∙◌, arith, inl, inr, add-one}
+use Rattle.std.proofs.Common.{get_or, take, drop, Option, refl, sym, ap, subst, ◌∙◌, arith, inl, inr, add-one}
 use Rattle.std.specs.Prelude.{All, take_while, if◌then◌else◌}
 use Rattle.std.specs.List.{prefix_len}
 use Rattle.std.proofs.lemmas.List.{take_all, take-take, length-take, length-take-le}
@@ -103,6 +103,12 @@ pub times-take : (n k : ℕ) (xs : List ℕ) → times n (take k xs) ≤ times n
 times-take n zero xs = omega arith
 times-take n (suc k) [] = omega arith
 times-take n (suc k) (x ∷ xs) = let e = times-take n k xs in omega arith
+
+-- nor has what is left of it
+pub times-drop : (n k : ℕ) (xs : List ℕ) → times n (drop k xs) ≤ times n xs
+times-drop n zero xs = omega arith
+times-drop n (suc k) [] = omega arith
+times-drop n (suc k) (x ∷ xs) = let e = times-drop n k xs in omega arith
 
 -- a number stands in the first four of a front no more often than in the chain without its tail
 few_by : (us : List (Option Used)) (n f : ℕ) (r : List ℕ) (l : Bool)

@@ -1,17 +1,26 @@
 -- The segments of chains stand in the order of their opening moments, whatever is written and whatever becomes free.
-use Rattle.std.proofs.Common.{◌≡◌, ℕ, ◌+◌, ◌≤◌, Bool, true, false, List, [], ◌∷◌, Option, Some, None, refl, sym, ap, subst, ◌∙◌}
-use Rattle.std.proofs.Common.{inl, inr, arith}
-use Rattle.std.specs.Prelude.{◌==◌, ◌⊎◌, if◌then◌else◌, All, IsSome, IsTrue, filter, not, option_map}
+use Rattle.std.proofs.Common.{◌≡◌, ℕ, ◌+◌, ◌-◌, ◌<◌, ◌≤◌, Bool, true, false, List, [], ◌∷◌, length, Option, Some, None, refl, sym, ap, subst, ◌∙◌}
+use Rattle.std.proofs.Common.{inl, inr, arith, add-one}
+use Rattle.std.specs.Prelude.{◌==◌, ◌⊎◌, if◌then◌else◌, All, IfSome, IsSome, IsTrue, MatchOption, filter, not, option_map, take, drop, min, nat_le}
 use Rattle.std.specs.Option.{option_map_or}
-use Rattle.std.proofs.lemmas.Bool.{cases_Bool, eq-eqb, eqb-true, not-true}
+use Rattle.std.proofs.lemmas.Bool.{cases_Bool, eq-eqb, eqb-true, leb-true, not-true}
+use Rattle.std.proofs.lemmas.List.{length-take, length-drop}
+use Rattle.std.proofs.Math.Nat.{min-le_right, le-min}
 use Rattle.std.proofs.lemmas.Option.{none-some}
 use Rattle.std.proofs.lemmas.List.Elements.{All-nil, All-cons, All-head, All-tail, All-append}
+use Rattle.segments.specs.declared.merge.Choice.{Choice}
 use Rattle.segments.specs.declared.place.Place.{Place}
 use Rattle.segments.specs.Items.{Item}
 use Rattle.proto.specs.Counts.{times}
 use Rattle.segments.specs.Pools.{PoolState, IsPool, Used, Liveness, segment_at, item_in, has_live, oldest}
 use Rattle.segments.specs.Changes.{IsGivenBack, IsAddedToTail, IsAddedToFree, without_segment, with_items, with_change}
-use Rattle.segments.specs.Merges.{Evicts, qualifies, merged_segments, merged_into, contains_number, kept_items, opened_at}
+use Rattle.proto.specs.declared.eviction.Eviction.{Eviction}
+use Rattle.proto.specs.declared.eviction.Eviction.TheVariants.{Oldest, LeastRead}
+use Rattle.proto.proofs.CountLemmas.{times-append}
+use Rattle.segments.proofs.FrontLemmas.{times-take, times-drop}
+use Rattle.segments.specs.Hits.{HitCounts, IsFewest}
+use Rattle.segments.specs.Merges.{IsVictim, IsVictimBy, Evicts, qualifies, merged_segments, merged_into, contains_number, kept_items, opened_at}
+use Rattle.segments.specs.Merges.{looked_from, looked_to, looked_at, quarter}
 use Rattle.segments.specs.Filling.{AreInTime, IsInTimeOrder, IsInTime}
 use Rattle.segments.proofs.LinkLemmas.{used_if}
 use Rattle.segments.proofs.Places.{cleared_segment}
@@ -127,7 +136,7 @@ merged_opened items p first n true e = filled_opened items (segment_at p first)
 merged_opened items p first n false e = refl
 
 -- segments that are merged leave the first of them, and the others
-pub part_merged : (p : PoolState) (b : ℕ) (items : List Item) → IsTrue (qualifies p b)
+pub part_merged : (p : PoolState) (b : Choice) (items : List Item) → IsTrue (qualifies p b)
     → IsPart p (merged_into p b (merged_segments p b) items)
 part_merged p b items qualifying =
     let f = merged_front p b qualifying in
@@ -161,16 +170,80 @@ oldest_stands (m ∷ order) n e =
     let z = eq-eqb m n same in
     rw z (omega arith)
 
--- the segment that was opened first is one
-oldest_used : (p : PoolState) (n : ℕ) → IsPool p → oldest p.order ≡ Some n → IsSome (segment_at p n)
-oldest_used p n k e = used_if (segment_at p n) (times n p.order) (k.named n) (oldest_stands p.order n e)
+-- so does, of some of the order that follow each other, the one with the fewest hits
+fewest_stands : (h : HitCounts) (k from : ℕ) (order : List ℕ) (n : ℕ) → IsFewest h (take k (drop from order)) n
+    → 1 ≤ times n order
+fewest_stands h k from order n f =
+    let z = eq-eqb n n refl in
+    let split = ap (times n) f.whole ∙ times-append n f.before (n ∷ f.after) in
+    let here : times n (n ∷ f.after) ≡ 1 + times n f.after = rw z refl in
+    let part = times-take n k (drop from order) in
+    let rest = times-drop n from order in
+    omega arith
+
+-- it is a segment, if there is one
+pub if_fewest : (p : PoolState) (none : Type 0) (k from : ℕ) (o : Option ℕ) → IsPool p
+    → MatchOption o none (IsFewest p.hits (take k (drop from p.order))) → IfSome o (λ n. IsSome (segment_at p n))
+if_fewest p none k from None pool m = tt
+if_fewest p none k from (Some n) pool f =
+    used_if (segment_at p n) (times n p.order) (pool.named n) (fewest_stands p.hits k from p.order n f)
+
+-- a part of a list from a place on and before another has numbers where the list has
+looked_some : (order : List ℕ) (low high : ℕ) → low < high → high ≤ length order
+    → take (high - low) (drop low order) ≡ [] → ⊥
+looked_some order low high lt le e =
+    let t = length-take (high - low) (drop low order) in
+    let d = length-drop low order in
+    let l = ap length e in
+    omega (arith, t, d, l, lt, le)
+
+-- what is less than both is less than the lesser
+lt-min : (k a b : ℕ) → k < a → k < b → k < min a b
+lt-min k a b x y = let h : k + 1 ≤ min a b = le-min (omega arith) (omega arith) in omega (arith, h)
+
+-- the places looked at are some, where there are any
+looked_low : (b : Bool) (hand count quarter : ℕ) → nat_le hand (count - quarter) ≡ b → 0 < quarter → 0 < count
+    → (if b then hand else 0) < min ((if b then hand else 0) + quarter) count
+looked_low true hand count quarter e q c =
+    let h = leb-true hand (count - quarter) e in
+    lt-min hand (hand + quarter) count (omega arith) (omega arith)
+looked_low false hand count quarter e q c = lt-min 0 (0 + quarter) count (omega arith) (omega arith)
+
+-- where no segment is looked at, none is in a chain
+looked_none : (p : PoolState) (order : List ℕ) → p.order ≡ order → 0 < quarter p → looked_at p ≡ [] → order ≡ []
+looked_none p [] is q e = refl
+looked_none p (x ∷ xs) is q e =
+    let count : length p.order ≡ length (x ∷ xs) = ap length is in
+    let some : 0 < length p.order = omega (arith, count, add-one (length xs)) in
+    absurd (looked_some p.order (looked_from p) (looked_to p)
+    (looked_low (nat_le p.hand (length p.order - quarter p)) p.hand (length p.order) (quarter p) refl q some)
+    (min-le_right (looked_from p + quarter p) (length p.order)) e)
+
+-- a quarter of a pool's segments is some
+quarter_some : (p : PoolState) → IsPool p → 0 < quarter p
+quarter_some p k = let few = k.geometry.fewest in omega (arith, few)
+
+-- of the segments looked at the one with the fewest hits is evicted, where the rule says so
+pub looked_victim : (p : PoolState) (o : Option ℕ) → IsPool p → p.eviction ≡ LeastRead
+    → MatchOption o (looked_at p ≡ []) (IsFewest p.hits (looked_at p)) → MatchOption o (p.order ≡ []) (IsVictim p)
+looked_victim p None k e none = looked_none p p.order refl (quarter_some p k) none
+looked_victim p (Some n) k e f = subst (λ x. IsVictimBy x p n) (sym e) f
+
+-- so is the one that is evicted
+victim_by : (e : Eviction) (p : PoolState) (n : ℕ) → IsVictimBy e p n → 1 ≤ times n p.order
+victim_by Oldest p n v = oldest_stands p.order n v
+victim_by LeastRead p n v = fewest_stands p.hits (looked_to p - looked_from p) (looked_from p) p.order n v
+
+-- the segment that is evicted is one
+victim_used : (p : PoolState) (n : ℕ) → IsPool p → IsVictim p n → IsSome (segment_at p n)
+victim_used p n k v = used_if (segment_at p n) (times n p.order) (k.named n) (victim_by p.eviction p n v)
 
 -- an eviction leaves a part
 pub part_evicted : (lives : Liveness) (p after : PoolState) → IsPool p → Evicts lives p after → IsPart p after
 part_evicted lives p after k (inl m) = subst (IsPart p) (sym m.after_is)
-    (part_merged p m.bucket (kept_items m.judged) m.next.qualifying)
+    (part_merged p m.choice (kept_items m.judged) m.next.qualifying)
 part_evicted lives p after k (inr c) = subst (IsPart p) (sym c.after_is)
-    (part_cleared p c.segment (oldest_used p c.segment k c.is_oldest))
+    (part_cleared p c.segment (victim_used p c.segment k c.is_victim))
 
 -- ---- what a write and a read leave
 

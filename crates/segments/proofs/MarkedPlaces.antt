@@ -601,7 +601,7 @@ knows_carried t p plan after known k h c starts =
                 let i = value_there (item_in p x.place) x.stands in
                 let is : is_marked t x.place ≡ true =
                 ap (λ s. mark_at t s (x.place.offset / 32)) x.segment ∙ ap (mark_at t n) x.offset ∙ old.1 in
-                elim (cases_Bool (contains_number (merged_segments p plan.bucket) x.place.segment)) [
+                elim (cases_Bool (contains_number (merged_segments p plan.choice) x.place.segment)) [
                   | inl y ↦
                       let s = live_source (lives_by t) p plan x.place i.0 h i.1 is y in
                       absurd (false≢true (sym old.0 ∙ source_mark x.place plan.moves n m x.segment x.offset s))

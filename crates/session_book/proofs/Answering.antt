@@ -6,9 +6,9 @@ use Rattle.proto.specs.Hits.{hit_bytes}
 use Rattle.proto.specs.Lines.{line_end}
 use Rattle.proto.specs.declared.message.Reply.{Reply}
 use Rattle.proto.specs.declared.message.Message.{Message}
-use Rattle.proto.specs.declared.message.Message.TheVariants.{Ask, Wrong, Quit, Fatal}
+use Rattle.proto.specs.declared.message.Message.TheVariants.{Ask, Local, Quit, Fatal}
 use Rattle.proto.specs.declared.message.Reply.TheVariants as replies
-use Rattle.proto.specs.declared.message.WrongKind.TheVariants as wrong
+use Rattle.proto.specs.declared.message.LocalKind.TheVariants as local
 use Rattle.proto.specs.declared.message.FatalKind.TheVariants as fatal
 use Rattle.proto.specs.Reading.{asks}
 use Rattle.proto.specs.Answers.{answer, reply_bytes, said, is_ask, is_silent}
@@ -22,7 +22,7 @@ said-append [] ns [] le = refl
 said-append [] ns (r ∷ rs) le = absurd (omega arith)
 said-append (Ask q quiet ∷ ms) ns [] le = refl
 said-append (Ask q quiet ∷ ms) ns (r ∷ rs) le = onto _ _ _ _ (said-append ms ns rs (omega arith))
-said-append (Wrong kind ∷ ms) ns rs le = onto _ _ _ _ (said-append ms ns rs le)
+said-append (Local kind ∷ ms) ns rs le = onto _ _ _ _ (said-append ms ns rs le)
 said-append (Quit ∷ ms) ns rs le = said-append ms ns rs le
 said-append (Fatal kind ∷ ms) ns rs le = onto _ _ _ _ (said-append ms ns rs le)
 
@@ -34,7 +34,7 @@ left-append [] ns [] le = refl
 left-append [] ns (r ∷ rs) le = absurd (omega arith)
 left-append (Ask q quiet ∷ ms) ns [] le = refl
 left-append (Ask q quiet ∷ ms) ns (r ∷ rs) le = left-append ms ns rs (omega arith)
-left-append (Wrong kind ∷ ms) ns rs le = left-append ms ns rs le
+left-append (Local kind ∷ ms) ns rs le = left-append ms ns rs le
 left-append (Quit ∷ ms) ns rs le = left-append ms ns rs le
 left-append (Fatal kind ∷ ms) ns rs le = left-append ms ns rs le
 
@@ -44,7 +44,7 @@ pub said_more : (ms : List Message) (rs ss : List Reply)
 said_more [] rs ss = refl
 said_more (Ask q quiet ∷ ms) [] ss = refl
 said_more (Ask q quiet ∷ ms) (r ∷ rs) ss = onto _ _ _ _ (said_more ms rs ss)
-said_more (Wrong kind ∷ ms) rs ss = onto _ _ _ _ (said_more ms rs ss)
+said_more (Local kind ∷ ms) rs ss = onto _ _ _ _ (said_more ms rs ss)
 said_more (Quit ∷ ms) rs ss = said_more ms rs ss
 said_more (Fatal kind ∷ ms) rs ss = onto _ _ _ _ (said_more ms rs ss)
 
@@ -54,7 +54,7 @@ pub left_more : (ms : List Message) (rs ss : List Reply)
 left_more [] rs ss = refl
 left_more (Ask q quiet ∷ ms) [] ss = refl
 left_more (Ask q quiet ∷ ms) (r ∷ rs) ss = left_more ms rs ss
-left_more (Wrong kind ∷ ms) rs ss = left_more ms rs ss
+left_more (Local kind ∷ ms) rs ss = left_more ms rs ss
 left_more (Quit ∷ ms) rs ss = left_more ms rs ss
 left_more (Fatal kind ∷ ms) rs ss = left_more ms rs ss
 
@@ -65,7 +65,7 @@ asks-left [] [] le = refl
 asks-left [] (r ∷ rs) le = absurd (omega arith)
 asks-left (Ask q quiet ∷ ms) [] le = omega arith
 asks-left (Ask q quiet ∷ ms) (r ∷ rs) le = omega (arith, asks-left ms rs (omega arith))
-asks-left (Wrong kind ∷ ms) rs le = asks-left ms rs le
+asks-left (Local kind ∷ ms) rs le = asks-left ms rs le
 asks-left (Quit ∷ ms) rs le = asks-left ms rs le
 asks-left (Fatal kind ∷ ms) rs le = asks-left ms rs le
 
@@ -74,35 +74,35 @@ pub begins_asked-left : (ms : List Message) (rs : List Reply) → begins_asked (
 begins_asked-left [] rs = refl
 begins_asked-left (Ask q quiet ∷ ms) [] = refl
 begins_asked-left (Ask q quiet ∷ ms) (r ∷ rs) = begins_asked-left ms rs
-begins_asked-left (Wrong kind ∷ ms) rs = begins_asked-left ms rs
+begins_asked-left (Local kind ∷ ms) rs = begins_asked-left ms rs
 begins_asked-left (Quit ∷ ms) rs = begins_asked-left ms rs
 begins_asked-left (Fatal kind ∷ ms) rs = begins_asked-left ms rs
 
 -- a queue that begins with a request stays as it is, and says nothing, until the reply comes
 pub left_waits : (m : Message) (ms : List Message) → is_ask m ≡ true → messages_left (m ∷ ms) [] ≡ m ∷ ms
 left_waits (Ask q quiet) ms e = refl
-left_waits (Wrong kind) ms e = absurd cc
+left_waits (Local kind) ms e = absurd cc
 left_waits Quit ms e = absurd cc
 left_waits (Fatal kind) ms e = absurd cc
 
 -- as long as a request has no reply, nothing is said to it nor to what follows
 pub said_waits : (m : Message) (ms : List Message) → is_ask m ≡ true → said (m ∷ ms) [] ≡ []
 said_waits (Ask q quiet) ms e = refl
-said_waits (Wrong kind) ms e = absurd cc
+said_waits (Local kind) ms e = absurd cc
 said_waits Quit ms e = absurd cc
 said_waits (Fatal kind) ms e = absurd cc
 
 -- a message that is no request is answered at once
 pub left_local : (m : Message) (ms : List Message) → is_ask m ≡ false → messages_left (m ∷ ms) [] ≡ messages_left ms []
 left_local (Ask q quiet) ms e = absurd cc
-left_local (Wrong kind) ms e = refl
+left_local (Local kind) ms e = refl
 left_local Quit ms e = refl
 left_local (Fatal kind) ms e = refl
 
 -- a message that is no request is answered at once, and then what follows
 pub said_local : (m : Message) (ms : List Message) → is_ask m ≡ false → said (m ∷ ms) [] ≡ answer m None ++ said ms []
 said_local (Ask q quiet) ms e = absurd cc
-said_local (Wrong kind) ms e = refl
+said_local (Local kind) ms e = refl
 said_local Quit ms e = refl
 said_local (Fatal kind) ms e = refl
 
@@ -110,7 +110,7 @@ said_local (Fatal kind) ms e = refl
 pub left_reply : (m : Message) (ms : List Message) (r : Reply) → is_ask m ≡ true
     → messages_left (m ∷ ms) (r ∷ []) ≡ messages_left ms []
 left_reply (Ask q quiet) ms r e = refl
-left_reply (Wrong kind) ms r e = absurd cc
+left_reply (Local kind) ms r e = absurd cc
 left_reply Quit ms r e = absurd cc
 left_reply (Fatal kind) ms r e = absurd cc
 
@@ -118,7 +118,7 @@ left_reply (Fatal kind) ms r e = absurd cc
 pub said_reply : (m : Message) (ms : List Message) (r : Reply) → is_ask m ≡ true
     → said (m ∷ ms) (r ∷ []) ≡ answer m (Some r) ++ said ms []
 said_reply (Ask q quiet) ms r e = refl
-said_reply (Wrong kind) ms r e = absurd cc
+said_reply (Local kind) ms r e = absurd cc
 said_reply Quit ms r e = absurd cc
 said_reply (Fatal kind) ms r e = absurd cc
 
@@ -141,6 +141,7 @@ shown replies.NotFound = omega arith
 shown (replies.Values hits) = some (flat_map hit_bytes hits) (codes "END\r\n") (omega arith)
 shown replies.Deleted = omega arith
 shown (replies.Number n) = some (decimal n) line_end (omega arith)
+shown replies.Touched = omega arith
 shown replies.Flushed = omega arith
 shown replies.TooLarge = omega arith
 shown replies.NoMemory = omega arith
@@ -158,16 +159,18 @@ pub silent_reply : (m : Message) (ms : List Message) (r : Reply) → is_ask m �
 silent_reply (Ask q true) ms r e none = refl
 silent_reply (Ask q false) ms r e none =
     absurd (let l = none_front (reply_bytes r) (said ms []) none in let some = shown r in omega (arith, l, some))
-silent_reply (Wrong kind) ms r e none = absurd cc
+silent_reply (Local kind) ms r e none = absurd cc
 silent_reply Quit ms r e none = refl
 silent_reply (Fatal kind) ms r e none = absurd cc
 
 -- a message to which nothing is said at once has no answer
 pub silent_local : (m : Message) (ms : List Message) → is_ask m ≡ false → said (m ∷ ms) [] ≡ [] → IsTrue (is_silent m)
 silent_local (Ask q quiet) ms e none = absurd cc
-silent_local (Wrong wrong.Unknown) ms e none = absurd (let l = ap length none in omega (arith, l))
-silent_local (Wrong wrong.BadLine) ms e none = absurd (let l = ap length none in omega (arith, l))
-silent_local (Wrong wrong.Silent) ms e none = refl
+silent_local (Local local.Unknown) ms e none = absurd (let l = ap length none in omega (arith, l))
+silent_local (Local local.BadLine) ms e none = absurd (let l = ap length none in omega (arith, l))
+silent_local (Local local.Version) ms e none = absurd (let l = ap length none in omega (arith, l))
+silent_local (Local local.Verbosity) ms e none = absurd (let l = ap length none in omega (arith, l))
+silent_local (Local local.Silent) ms e none = refl
 silent_local Quit ms e none = refl
 silent_local (Fatal fatal.BadLine) ms e none = absurd (let l = ap length none in omega (arith, l))
 silent_local (Fatal fatal.LongLine) ms e none = absurd (let l = ap length none in omega (arith, l))

@@ -3,7 +3,7 @@ use Rattle.std.proofs.Common.{◌≡◌, true, false, List, [], ◌∷◌, ◌++
 use Rattle.std.specs.List.{list_any}
 use Rattle.std.proofs.lemmas.Bool.{both_ways}
 use Rattle.proto.specs.declared.message.Message.{Message}
-use Rattle.proto.specs.declared.message.Message.TheVariants.{Ask, Wrong, Quit, Fatal}
+use Rattle.proto.specs.declared.message.Message.TheVariants.{Ask, Local, Quit, Fatal}
 use Rattle.proto.specs.Reading.{ends_session}
 use Rattle.session_book.specs.declared.causes.EndCause.{EndCause}
 use Rattle.session_book.specs.Session.{ended_by}
@@ -13,7 +13,7 @@ pub ended_by-append : (ended : Option EndCause) (ms ns : List Message)
     → ended_by ended (ms ++ ns) ≡ ended_by (ended_by ended ms) ns
 ended_by-append ended [] ns = refl
 ended_by-append ended (Ask q quiet ∷ ms) ns = ended_by-append ended ms ns
-ended_by-append ended (Wrong kind ∷ ms) ns = ended_by-append ended ms ns
+ended_by-append ended (Local kind ∷ ms) ns = ended_by-append ended ms ns
 ended_by-append ended (Quit ∷ ms) ns = ended_by-append _ ms ns
 ended_by-append ended (Fatal kind ∷ ms) ns = ended_by-append _ ms ns
 
@@ -22,7 +22,7 @@ pub ended_stays : (ended : Option EndCause) (ms : List Message) → is_some ende
     → is_some (ended_by ended ms) ≡ true
 ended_stays ended [] e = e
 ended_stays ended (Ask q quiet ∷ ms) e = ended_stays ended ms e
-ended_stays ended (Wrong kind ∷ ms) e = ended_stays ended ms e
+ended_stays ended (Local kind ∷ ms) e = ended_stays ended ms e
 ended_stays ended (Quit ∷ ms) e = ended_stays _ ms refl
 ended_stays ended (Fatal kind ∷ ms) e = ended_stays _ ms refl
 
@@ -38,7 +38,7 @@ not_ended_before (Some c) ms e =
 pub has_ended_by : (ms : List Message) → is_some (ended_by None ms) ≡ list_any ends_session ms
 has_ended_by [] = refl
 has_ended_by (Ask q quiet ∷ ms) = has_ended_by ms
-has_ended_by (Wrong kind ∷ ms) = has_ended_by ms
+has_ended_by (Local kind ∷ ms) = has_ended_by ms
 has_ended_by (Quit ∷ ms) = ended_stays _ ms refl
 has_ended_by (Fatal kind ∷ ms) = ended_stays _ ms refl
 

@@ -6,7 +6,7 @@ use Rattle.std.proofs.lemmas.List.{append-nil}
 use Rattle.std.proofs.lemmas.Bool.{both_ways}
 use Rattle.proto.specs.declared.message.Request.{Request}
 use Rattle.proto.specs.declared.message.Message.{Message}
-use Rattle.proto.specs.declared.message.Message.TheVariants.{Ask, Wrong, Quit, Fatal}
+use Rattle.proto.specs.declared.message.Message.TheVariants.{Ask, Local, Quit, Fatal}
 use Rattle.proto.specs.Grammar.{Spells}
 use Rattle.proto.specs.Needs.{IsUnfinished}
 use Rattle.proto.specs.Reading.{asks}
@@ -145,7 +145,7 @@ no_ask_first n (o ∷ ns) other h = (other, h)
 pub asks_at_last : (ms : List Message) (m : Message) → asks ms ≡ [] → AskAtLast (ms ++ m ∷ [])
 asks_at_last [] m e = tt
 asks_at_last (Ask q quiet ∷ ms) m e = absurd cc
-asks_at_last (Wrong kind ∷ ms) m e = no_ask_first (Wrong kind) (ms ++ m ∷ []) refl (asks_at_last ms m e)
+asks_at_last (Local kind ∷ ms) m e = no_ask_first (Local kind) (ms ++ m ∷ []) refl (asks_at_last ms m e)
 asks_at_last (Quit ∷ ms) m e = no_ask_first Quit (ms ++ m ∷ []) refl (asks_at_last ms m e)
 asks_at_last (Fatal kind ∷ ms) m e = no_ask_first (Fatal kind) (ms ++ m ∷ []) refl (asks_at_last ms m e)
 
@@ -153,7 +153,7 @@ asks_at_last (Fatal kind ∷ ms) m e = no_ask_first (Fatal kind) (ms ++ m ∷ []
 pub no_asks : (ms : List Message) → asks ms ≡ [] → AskAtLast ms
 no_asks [] e = tt
 no_asks (Ask q quiet ∷ ms) e = absurd cc
-no_asks (Wrong kind ∷ ms) e = no_ask_first (Wrong kind) ms refl (no_asks ms e)
+no_asks (Local kind ∷ ms) e = no_ask_first (Local kind) ms refl (no_asks ms e)
 no_asks (Quit ∷ ms) e = no_ask_first Quit ms refl (no_asks ms e)
 no_asks (Fatal kind ∷ ms) e = no_ask_first (Fatal kind) ms refl (no_asks ms e)
 
@@ -203,14 +203,14 @@ read_more now view b need same b_is unfinished =
 -- a message that isn't a request
 pub not_ask : (m : Message) → ((q : Request) (quiet : Bool) → m ≡ Ask q quiet → ⊥) → is_ask m ≡ false
 not_ask (Ask q quiet) h = absurd (h q quiet refl)
-not_ask (Wrong kind) h = refl
+not_ask (Local kind) h = refl
 not_ask Quit h = refl
 not_ask (Fatal kind) h = refl
 
 -- a single message that is no request asks nothing
 none_asked : (m : Message) → is_ask m ≡ false → asks (m ∷ []) ≡ []
 none_asked (Ask q quiet) e = absurd cc
-none_asked (Wrong kind) e = refl
+none_asked (Local kind) e = refl
 none_asked Quit e = refl
 none_asked (Fatal kind) e = refl
 

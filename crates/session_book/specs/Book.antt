@@ -1,7 +1,7 @@
 -- The sessions of one worker.
 use Rattle.std.specs.Prelude.{◌≡◌, ℕ, ◌+◌, ◌<◌, ◌≤◌, ◌⊎◌, Bool, true, false, List, []}
 use Rattle.std.specs.Prelude.{◌∷◌, ◌++◌, map, length, Option, Some, None, Result, Ok, Err, IsSome}
-use Rattle.std.specs.Prelude.{slice_get, drop, max, filter, ◌==◌, if◌then◌else◌}
+use Rattle.std.specs.Prelude.{slice_get, drop, max, filter, sum_by, ◌==◌, if◌then◌else◌}
 use Rattle.std.specs.Map.{lookup}
 use Rattle.std.specs.Bool.{nat_eq}
 use Rattle.proto.specs.declared.dialect.Dialect.{Dialect}
@@ -170,3 +170,13 @@ Settles before answered outcomes.Dropped after =
     (session_of before answered.session ≡ None) × SettlesOldest before after answered None
 Settles before answered outcomes.Kept after = SettlesReply before after answered
 Settles before answered outcomes.Starved after = Starves before after answered
+
+-- how many bytes of output wait, over all sessions
+abbrev pub all_output : List (ℕ × SessionState) → ℕ
+all_output sessions = sum_by (λ (e : ℕ × SessionState). length e.1.out) sessions
+
+-- the session is open, and none has more output
+pub record IsFullest (book : BookState) (session : ℕ) : Type 0 where
+  pub s : SessionState
+  pub there : session_of book session ≡ Some s
+  pub most : (other : ℕ) (o : SessionState) → session_of book other ≡ Some o → length o.out ≤ length s.out

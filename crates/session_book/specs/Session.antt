@@ -6,7 +6,7 @@ use Rattle.proto.specs.declared.dialect.Dialect.{Dialect}
 use Rattle.proto.specs.declared.message.Request.{Request}
 use Rattle.proto.specs.declared.message.Reply.{Reply}
 use Rattle.proto.specs.declared.message.Message.{Message}
-use Rattle.proto.specs.declared.message.Message.TheVariants.{Ask, Wrong, Quit, Fatal}
+use Rattle.proto.specs.declared.message.Message.TheVariants.{Ask, Local, Quit, Fatal}
 use Rattle.proto.specs.declared.no_memory.NoMemory.{NoMemory}
 use Rattle.proto.specs.Grammar.{SpellsNone}
 use Rattle.proto.specs.Reading.{Reads, asks}
@@ -42,7 +42,7 @@ abbrev pub messages_left : List Message → List Reply → List Message
 messages_left [] replies = []
 messages_left (Ask q quiet ∷ ms) [] = Ask q quiet ∷ ms
 messages_left (Ask q quiet ∷ ms) (reply ∷ replies) = messages_left ms replies
-messages_left (Wrong kind ∷ ms) replies = messages_left ms replies
+messages_left (Local kind ∷ ms) replies = messages_left ms replies
 messages_left (Quit ∷ ms) replies = messages_left ms replies
 messages_left (Fatal kind ∷ ms) replies = messages_left ms replies
 
@@ -50,7 +50,7 @@ messages_left (Fatal kind ∷ ms) replies = messages_left ms replies
 abbrev pub ended_by : Option EndCause → List Message → Option EndCause
 ended_by ended [] = ended
 ended_by ended (Ask q quiet ∷ ms) = ended_by ended ms
-ended_by ended (Wrong kind ∷ ms) = ended_by ended ms
+ended_by ended (Local kind ∷ ms) = ended_by ended ms
 ended_by ended (Quit ∷ ms) = ended_by (Some causes.Quit) ms
 ended_by ended (Fatal kind ∷ ms) = ended_by (Some causes.Fatal) ms
 

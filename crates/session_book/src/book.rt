@@ -4,6 +4,7 @@ ghost use Rattle.std.specs.Prelude.{ℕ, ◌≡◌, ◌⊎◌, ◌+◌, ◌≤�
 ghost use Rattle.std.specs.Prelude.{IfSome, IsSome, OnOk, OnErr};
 ghost use Rattle.session_book.specs.Session.{SessionState, IsEmptied, new_session, gave, finished_by, once_over};
 ghost use Rattle.session_book.specs.Session.{HasReadAll};
+ghost use Rattle.session_book.specs.declared.book.TheConstants.{MAX_OUTPUT};
 ghost use Rattle.std.specs.Bool.{OnTrue, OnFalse, nat_eq};
 ghost use Rattle.std.specs.Option.{option_and_then};
 ghost use Rattle.proto.specs.declared.limits.TheConstants.{WINDOW};
@@ -15,29 +16,30 @@ use crate::session::{Offer, Session};
 use crate::upkeep::{Task, Upkeep};
 use bytes::Bytes;
 use indexmap::IndexMap;
-use proto::{Answered, Dialect, MAX_ANSWER, MAX_POSTS, MAX_SESSIONS, NoMemory, Request, WINDOW};
+use proto::{Answered, Dialect, MAX_POSTS, MAX_SESSIONS, NoMemory, Request, WINDOW};
 use std::alloc::Global;
 use std::collections::VecDeque;
 use std::marker::Model;
-
-/// The most bytes that the hits of a worker's unsettled requests take, before they are put into outputs: 128 MiB.
-pub const MAX_HITS: usize = 134_217_728;
 
 /// The most bytes that are reserved for one hit: an item takes 131,072 at most, of which 24 are neither key nor value, and
 /// 80 go to the words and numbers beside them.
 pub const MAX_HIT: usize = 131_128;
 
 /// Keys of unsettled requests, over all sessions, above which one request at a time goes on. Up to then each key has a hit at
-/// most, and the last request one answer, so that their hits take no more than `MAX_HITS`.
-pub const MAX_KEYS: usize = (MAX_HITS - MAX_ANSWER) / MAX_HIT;
+/// most, and the last request one answer: so before they are put into outputs, their hits take no more than 40 MiB leniently, and
+/// strictly, where a line has 1,021 keys at most, no more than 160 MiB.
+pub const MAX_KEYS: usize = 255;
 
-/// Bytes of waiting output, over all sessions, above which one request at a time goes on. What is on its way then is put
-/// after them, and then one answer at a time, of a session whose own output isn't above `MAX_WAITING`.
+/// Keys of unsettled requests, over all sessions, above which a `get` for many keys is put off. So the others wait for one large
+/// answer at a time.
+pub const MANY_UNSETTLED: usize = 128;
+
+/// Bytes of waiting output, over all sessions, above which the session with the most is closed, unless no other has any.
 pub const MAX_OUTPUT: usize = 67_108_864;
 
 /// The sessions of a worker. Contracts see it as a `BookState`.
 ///
-/// It keeps which sessions have something to do, in four ready queues. Calls put a session into one, and its owner takes it
+/// It keeps which sessions have something to do, in five ready queues. Calls put a session into one, and its owner takes it
 /// out and does it; no clause says that a session stands in one.
 #[derive(Drop)]
 pub struct Book {
@@ -83,7 +85,7 @@ impl Model for Book {
 
 impl Book {
     ghost use Rattle.session_book.specs.Book.{session_of, out_of, ChangesSession, Receives, FeedsHeldOf};
-    ghost use Rattle.session_book.specs.Book.{OnlyAt, IsKnown, NextAsk, Settles};
+    ghost use Rattle.session_book.specs.Book.{OnlyAt, IsKnown, NextAsk, Settles, IsFullest, all_output};
 
     /// No session is open yet. The worker's number is kept for its owner.
     pub fn new(alloc: Global, worker: usize, dialect: Dialect) -> Self
@@ -323,9 +325,68 @@ impl Book {
         }
     }
 
+    /// Whether the session has a `get` for many keys to be read next, and is asked later, as the unsettled requests have many.
+    pub fn put_off(&mut self, session: u64) -> bool
+        ensures { self.new ≡ self.old }
+    {
+        if self.upkeep.keys <= MANY_UNSETTLED {
+            return false;
+        }
+        let Some(place) = find(&self.sessions, session, &mut self.upkeep.place) else {
+            return false;
+        };
+        let (_, open) = self.sessions.pair_mut(place);
+        open.put_off(session, &mut self.upkeep)
+    }
+
+    /// The session with the most output, if more than `MAX_OUTPUT` bytes of output wait, over all sessions, and not in it alone: one
+    /// strict answer may have 134 MB.
+    pub fn fullest(&self) -> Option<u64>
+        ensures above { IsSome result → MAX_OUTPUT < all_output self.now.sessions }
+        ensures fullest { IfSome result (IsFullest self.now) }
+    {
+        if self.upkeep.waiting <= MAX_OUTPUT {
+            return None;
+        }
+        let mut fullest = None;
+        let mut most = 0;
+        let mut waiting: usize = 0;
+        for (session, open) in self.sessions.iter() {
+            let length = open.out().len();
+            waiting = waiting.saturating_add(length);
+            if length > most {
+                most = length;
+                fullest = Some(*session);
+            }
+        }
+        if waiting <= MAX_OUTPUT {
+            return None;
+        }
+        if waiting == most {
+            return None;
+        }
+        fullest
+    }
+
     /// Whether the session that was asked last can be read further.
     pub fn reads_on(&self) -> bool {
         self.upkeep.reads_on
+    }
+
+    /// Takes out the next session that is to be asked: one that was put off comes where no other is to be asked, or after as many
+    /// others as a window has requests.
+    pub fn next_to_ask(&mut self) -> Option<u64>
+        ensures { self.new ≡ self.old }
+    {
+        let others = self.ready(Task::Ask);
+        if self.upkeep.keys <= MANY_UNSETTLED && (others == 0 || self.upkeep.passed >= WINDOW) {
+            self.upkeep.passed = 0;
+            if let Some(session) = self.next_ready(Task::AskMany) {
+                return Some(session);
+            }
+        }
+        self.upkeep.passed = self.upkeep.passed.saturating_add(1);
+        self.next_ready(Task::Ask)
     }
 
     /// Takes out the next session that is to be taken up for the task.
@@ -352,11 +413,10 @@ impl Book {
             .all(|queue| queue.sessions.is_empty())
     }
 
-    /// Whether more than 767 keys stand in unsettled requests, or more than 67,108,864 bytes of output wait, over all
-    /// sessions. Its owner then asks for one request at a time: so the hits of the unsettled ones take 134,217,728 bytes at
-    /// most, and beyond them and the 67,108,864 the outputs grow by one answer at a time.
+    /// Whether more than 255 keys stand in unsettled requests, over all sessions. Its owner then asks for one request at a time: so
+    /// the hits of the unsettled ones take 41,943,040 bytes at most, or in the strict dialect 167,772,160.
     pub fn is_crowded(&self) -> bool {
-        self.upkeep.keys > MAX_KEYS || self.upkeep.waiting > MAX_OUTPUT
+        self.upkeep.keys > MAX_KEYS
     }
 
     /// How often the parser was called, for tests alone. The count stays at the greatest number.

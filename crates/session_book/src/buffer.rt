@@ -97,8 +97,20 @@ impl Buffer {
         } else if self.start >= left {
             self.bytes.drain(..self.start);
             self.start = 0;
+            self.bytes.shrink_to(MAX_BUFFER);
         }
         left
+    }
+
+    /// Frees memory that has no bytes, if it is more than a quarter and what is left isn't less than this. So bytes that wait for
+    /// long take at most three times as much.
+    pub fn trim(&mut self, least: usize)
+        ensures { self.new ≡ self.old }
+    {
+        let capacity = self.bytes.capacity();
+        if capacity - capacity / 4 > self.bytes.len().max(least) {
+            self.bytes.shrink_to(least);
+        }
     }
 }
 

@@ -50,6 +50,7 @@ pub enum EndCause {
     Fatal,
     /// The port told that the peer has gone. A socket's port tells it too of a session that it ended as idle.
     Gone,
+    /// There was no room for its input or its answer; or too much output waited over all sessions, and it had the most.
     NoMemory,
 }
 

@@ -26,15 +26,16 @@ pub fn beginnings()
     ensures said_whole { SaidIsWhole }
 {}
 
-/// The limits of a book in numbers: those that its contracts cite, and those of `is_crowded`. A hit of an item needs no more
-/// room than is reckoned with, nor do the hits of as many keys with one more answer.
+/// The limits of a book in numbers: those that its contracts cite, and that of `is_crowded`. A hit of an item needs no more
+/// room than is reckoned with, nor do the hits of as many keys with one more lenient answer, or with those of a strict line's keys.
 pub fn limits()
     ensures unsettled { WINDOW ≡ 64 }
     ensures unread { MAX_UNREAD ≡ 262144 }
     ensures waiting { MAX_WAITING ≡ 1048576 }
-    ensures keys { MAX_KEYS ≡ 767 }
+    ensures keys { MAX_KEYS ≡ 255 }
     ensures hit { (h : Hit) → 24 + length h.key + length h.value ≤ 131072 → hit_room h ≤ MAX_HIT }
-    ensures hits { MAX_KEYS * MAX_HIT + MAX_ANSWER ≤ 134217728 }
+    ensures hits { MAX_KEYS * MAX_HIT + MAX_ANSWER ≤ 41943040 }
+    ensures strict_hits { (MAX_KEYS + 1021) * MAX_HIT ≤ 167772160 }
     ensures output { MAX_OUTPUT ≡ 67108864 }
     ensures sessions { MAX_SESSIONS ≡ 16777216 }
     ensures posts { MAX_POSTS ≡ 4611686018427387904 }

@@ -36,6 +36,9 @@ const WORTH_GIVING: usize = 16_384;
 /// no whole message has come, has the room.
 const WORTH_FEEDING: usize = 65_536;
 
+/// The keys of a `get` up to which it needn't wait for a large answer.
+const FEW_KEYS: usize = 8;
+
 /// What is to be done with a session's output now.
 #[derive(Clone, Copy)]
 pub struct Offer<'a> {
@@ -286,6 +289,7 @@ impl Session {
             upkeep.add(Task::Ask, session, &mut self.tickets.ask);
         }
         if n == 0 {
+            self.output.trim(WORTH_GIVING);
             upkeep.add(Task::RetryWrite, session, &mut self.tickets.give);
         } else if left > 0 {
             upkeep.add(Task::Give, session, &mut self.tickets.give);
@@ -323,6 +327,17 @@ impl Session {
         upkeep.add(Task::Ask, session, &mut self.tickets.ask);
     }
 
+    /// Whether a `get` for many keys is read next: then the session is asked later.
+    pub fn put_off(&mut self, session: u64, upkeep: &mut Upkeep) -> bool
+        ensures { self.new ≡ self.old }
+    {
+        let asks_for_many = asks_for_many(self.input.as_slice());
+        if asks_for_many {
+            upkeep.add(Task::AskMany, session, &mut self.tickets.ask);
+        }
+        asks_for_many
+    }
+
     pub fn held(&self) -> &[u8]
         ensures { result.now ≡ self.now.held }
     {
@@ -349,12 +364,29 @@ impl Session {
     }
 }
 
+/// Whether the bytes begin with a `get` or `gets` for many keys: so many that its answer may be large.
+fn asks_for_many(bytes: &[u8]) -> bool {
+    if !bytes.starts_with(b"get") {
+        return false;
+    }
+    let mut keys: usize = 0;
+    for byte in bytes {
+        if *byte == b'\n' || keys > FEW_KEYS {
+            break;
+        }
+        if *byte == b' ' {
+            keys = keys.saturating_add(1);
+        }
+    }
+    keys > FEW_KEYS
+}
+
 /// How a message ends its session.
 fn cause_of(message: &Message) -> Option<EndCause>
     ensures { result ≡ ended_by None (message.now ∷ []) }
 {
     match message {
-        Message::Ask(..) | Message::Wrong(_) => None,
+        Message::Ask(..) | Message::Local(_) => None,
         Message::Quit => Some(EndCause::Quit),
         Message::Fatal(_) => Some(EndCause::Fatal),
     }

@@ -15,6 +15,8 @@ pub enum Task {
     Feed,
     /// They have input.
     Ask,
+    /// They have input, and were put off: a `get` for many keys is read next.
+    AskMany,
     /// They may have output, or have finished.
     Give,
     /// They have output, of which their client accepted nothing when it was last offered some.
@@ -22,7 +24,7 @@ pub enum Task {
 }
 
 /// How many tasks there are.
-const TASKS: usize = 4;
+const TASKS: usize = 5;
 
 /// A queue of sessions by their numbers, with the places where they stood in the table. A session that joins it draws a
 /// ticket, which counts those that ever joined, and is in the queue while its ticket is above the number of those that have
@@ -55,8 +57,8 @@ impl Ticket {
     }
 }
 
-/// The tickets of a session. To be given output it stands in one of two queues, since that of the clients that accepted nothing
-/// is gone through slowly, and has one ticket for both.
+/// The tickets of a session. To be asked it stands in one of two queues, and has one ticket for both. So it is with being given
+/// output, since the queue of the clients that accepted nothing is gone through slowly.
 #[derive(Clone, Copy)]
 pub(crate) struct Tickets {
     pub(crate) feed: Ticket,
@@ -89,6 +91,8 @@ pub(crate) struct Upkeep {
     pub(crate) waiting: usize,
     /// Whether the session that was asked last can be read further.
     pub(crate) reads_on: bool,
+    /// How many sessions were taken out to be asked since one of them had been put off.
+    pub(crate) passed: u64,
 }
 
 impl Upkeep {
@@ -99,12 +103,14 @@ impl Upkeep {
                 ReadyQueue::new(alloc),
                 ReadyQueue::new(alloc),
                 ReadyQueue::new(alloc),
+                ReadyQueue::new(alloc),
             ],
             place: 0,
             spares: SpareBuffers::new(alloc),
             keys: 0,
             waiting: 0,
             reads_on: false,
+            passed: 0,
         }
     }
 

@@ -1,5 +1,5 @@
 -- A history that goes on without forgetting anything.
-use Rattle.std.proofs.Common.{◌≡◌, ◌+◌, List, [], ◌∷◌, ◌++◌, refl, sym, subst, arith}
+use Rattle.std.proofs.Common.{◌≡◌, ◌+◌, List, [], ◌∷◌, ◌++◌, refl, sym, ap, subst, ◌∙◌, inl, inr, arith}
 use Rattle.std.specs.Prelude.{◌⊎◌}
 use Rattle.std.specs.List.{AllByRecursion}
 use Rattle.std.proofs.lemmas.List.Elements.{All-from_recursion, recursion_from_All}
@@ -15,6 +15,8 @@ use Rattle.engine.specs.Outcomes.{outcome_at}
 use Rattle.engine.specs.Keeping.{IsWithinBound, stored_in, ForgetsNone}
 use Rattle.engine.specs.Reaching.{last_cache}
 use Rattle.storage_thread.specs.Keeping.{stored_size, stored_bytes, ForgetsNothing, MayForgetNothing, KeepsSoFar, LeadsKeeping}
+use Rattle.storage_thread.specs.Keeping.{MayAlwaysForgetNothing}
+use Rattle.exchange.specs.Beginnings.{StartsWith}
 use Rattle.engine.proofs.ReachingLemmas.{chain_more, last_more}
 use Rattle.storage_thread.proofs.Undated.{NoneDated, undated_empty, undated_outcome, undated_chain, all_left}
 use Rattle.storage_thread.proofs.Undated.{undated_append, undated_in, written_in, within_bound}
@@ -105,31 +107,70 @@ keeps_more sizes h caches e after old new chain so_far step undated within =
           (all_left sizes before e.moment e.request e.reply after none now.0),
     )
 
+-- ---- beginnings
+
+-- the list behind its first item, and that item
+abbrev tail_of : List Answered → List Answered
+tail_of [] = []
+tail_of (x ∷ l) = l
+
+abbrev head_or : Answered → List Answered → Answered
+head_or d [] = d
+head_or d (x ∷ l) = x
+
+none_front : (l m : List Answered) → [] ≡ l ++ m → l ≡ []
+none_front [] m h = refl
+none_front (x ∷ l) m h = absurd cc
+
+-- what begins a list with one item more is that list, or begins the list without it
+split_last : (h b r : List Answered) (e : Answered) → h ++ e ∷ [] ≡ b ++ r → (b ≡ h ++ e ∷ []) ⊎ StartsWith h b
+split_last h [] r e s = inr (h, refl)
+split_last [] (x ∷ b) r e s =
+    let none = none_front b r (ap tail_of s) in
+    inl ((λ i. x ∷ none i) ∙ ap (λ (y : Answered). y ∷ []) (sym (ap (head_or e) s)))
+split_last (y ∷ h) (x ∷ b) r e s = on (split_last h b r e (ap tail_of s))
+  where
+    first : y ≡ x
+    first = ap (head_or y) s
+
+    on : (b ≡ h ++ e ∷ []) ⊎ StartsWith h b → (x ∷ b ≡ y ∷ h ++ e ∷ []) ⊎ StartsWith (y ∷ h) (x ∷ b)
+    on (inl t) = inl (λ i. sym first i ∷ t i)
+    on (inr (m, t)) = inr (m, λ i. first i ∷ t i)
+
+always_more : (sizes : Sizes) (h : List Answered) (e : Answered) → MayAlwaysForgetNothing sizes h
+    → MayForgetNothing sizes (h ++ e ∷ []) → MayAlwaysForgetNothing sizes (h ++ e ∷ [])
+always_more sizes h e was now b (r, is) = pick (split_last h b r e is)
+  where
+    pick : (b ≡ h ++ e ∷ []) ⊎ StartsWith h b → MayForgetNothing sizes b
+    pick (inl t) = subst (λ (z : List Answered). MayForgetNothing sizes z) (sym t) now
+    pick (inr first) = was b first
+
+always_first : (sizes : Sizes) → MayAlwaysForgetNothing sizes []
+always_first sizes b (r, is) =
+    subst (λ (z : List Answered). MayForgetNothing sizes z) (sym (none_front b r is)) (λ undated within. ([], tt, tt))
+
 -- before the first request
 pub leads_first : (sizes : Sizes) (h : List Answered) (cache : Cache) (keeps : List StoredItem → Type 0) → h ≡ []
     → cache ≡ empty_cache 0 → keeps []
     → LeadsKeeping sizes h cache keeps
 leads_first sizes h cache keeps none is start =
     subst (λ (z : List Answered × Cache). LeadsKeeping sizes z.0 z.1 keeps) (λ i. (sym none i, sym is i))
-    record { caches = []; chain = tt; cache_is = refl; kept = λ undated within. ([], start, refl, tt, tt) }
+    record { caches = []; chain = tt; cache_is = refl; kept = λ undated within. ([], start, refl, tt, tt); always = always_first sizes }
 
 -- one more request
 pub leads_more : (sizes : Sizes) (h : List Answered) (c after : Cache) (e : Answered)
     (old new : List StoredItem → Type 0)
     → LeadsKeeping sizes h c old → Step sizes c e.moment e.request e.reply after → KeepsStep sizes c e after old new
     → LeadsKeeping sizes (h ++ e ∷ []) after new
-leads_more sizes h c after e old new l s step = record {
-  caches = l.caches ++ after ∷ [];
-  chain = chain_more sizes (empty_cache 0) h l.caches e after l.chain
-      (subst (λ (z : Cache). Step sizes z e.moment e.request e.reply after) (sym l.cache_is) s);
-  cache_is = last_more (empty_cache 0) l.caches after;
-  kept = keeps_more sizes h l.caches e after old new l.chain l.kept
-      (subst (λ (z : Cache). KeepsStep sizes z e after old new) (sym l.cache_is) step);
-}
-
--- what is kept so far is kept in one of the chains
-pub none_forgotten : (sizes : Sizes) (h : List Answered) (c : Cache) (keeps : List StoredItem → Type 0)
-    → LeadsKeeping sizes h c keeps
-    → MayForgetNothing sizes h
-none_forgotten sizes h c keeps l undated within =
-    (l.caches, l.chain, (l.kept undated (within l.caches l.chain)).4)
+leads_more sizes h c after e old new l s step =
+    let caches = l.caches ++ after ∷ [] in
+    let chain = chain_more sizes (empty_cache 0) h l.caches e after l.chain
+    (subst (λ (z : Cache). Step sizes z e.moment e.request e.reply after) (sym l.cache_is) s) in
+    let kept = keeps_more sizes h l.caches e after old new l.chain l.kept
+    (subst (λ (z : Cache). KeepsStep sizes z e after old new) (sym l.cache_is) step) in record {
+      caches = caches;
+      chain = chain;
+      cache_is = last_more (empty_cache 0) l.caches after;
+      kept = kept;
+      always = always_more sizes h e l.always (λ undated within. (caches, chain, (kept undated (within caches chain)).4));
+    }

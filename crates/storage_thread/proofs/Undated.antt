@@ -9,18 +9,18 @@ use Rattle.std.proofs.lemmas.Nat.{mul-le}
 use Rattle.proto.specs.declared.history.Answered.{Answered}
 use Rattle.proto.specs.declared.message.Request.{Request}
 use Rattle.proto.specs.declared.message.Reply.{Reply}
-use Rattle.proto.specs.declared.message.Reply.TheVariants.{Stored, NotStored, Exists, NotFound, Values, Deleted, Number, Flushed, TooLarge, NoMemory}
+use Rattle.proto.specs.declared.message.Reply.TheVariants.{Stored, NotStored, Exists, NotFound, Values, Deleted, Number, Touched, Flushed, TooLarge, NoMemory}
 use Rattle.proto.specs.declared.message.Reply.TheVariants.{NotNumber, NoCas}
 use Rattle.proto.specs.Sizes.{Sizes, item_limit, item_size}
 use Rattle.proto.specs.Cache.{Entry, Entries, no_entries, Cache, empty_cache, has_arrived, live, found_at}
 use Rattle.proto.specs.Commands.{Outcome}
-use Rattle.proto.specs.Buckets.{time_to_live, bucket_of, MayLive}
-use Rattle.proto.specs.Steps.{size_at, deadline_at, IsDated, Step}
+use Rattle.proto.specs.Buckets.{time_to_live, bucket_of}
+use Rattle.proto.specs.Steps.{size_at, deadline_at, MayBeDated, IsDated, Step}
 use Rattle.proto.specs.History.{Chain}
 use Rattle.proto.specs.Stored.{StoredItem, stored_item_of, item_stored, is_no_memory, written, spread, SetsNoDeadline}
 use Rattle.proto.proofs.Options.{none_is_some}
 use Rattle.proto.proofs.CacheLemmas.{is_live, if_live, get-no_entries, get-live, contains_bytes, get-without}
-use Rattle.proto.proofs.StepLemmas.{insert-same}
+use Rattle.proto.proofs.StepLemmas.{none_dated, insert-same}
 use Rattle.engine.specs.Outcomes.{outcome_at}
 use Rattle.engine.specs.Keeping.{IsWithinBound, stored_in, ForgetsNone}
 use Rattle.engine.specs.Reaching.{last_cache}
@@ -65,25 +65,19 @@ undated_outcome sizes before t q sets none key =
       | inr same ↦ same ∙ undated_found before t none key
     ]
 
--- an entry that asks for no deadline gets none
-none_given : (t : ℕ) (asked given : Option ℕ) → asked ≡ None → MayLive t asked given → given ≡ None
-none_given t None None is may = refl
-none_given t None (Some d) is may = absurd may
-none_given t (Some d) given is may = absurd (none_is_some d (sym is))
-
 -- entries without deadlines stay as they were asked for
-pub same_dated : (t : ℕ) (asked : Entries) (stored : Option (List ℕ)) (dated : Entries) → NoneDated asked
-    → IsDated t asked stored dated → dated ≡ asked
-same_dated t asked None dated none is = is
-same_dated t asked (Some key) dated none is = by_entry (finite.get asked key) refl (none key) is
+pub same_dated : (t : ℕ) (answered : Reply) (asked : Entries) (stored : Option (List ℕ)) (dated : Entries) → NoneDated asked
+    → IsDated t answered asked stored dated → dated ≡ asked
+same_dated t answered asked None dated none is = is
+same_dated t answered asked (Some key) dated none is = by_entry (finite.get asked key) refl (none key) is
   where
     by_entry : (o : Option Entry) → finite.get asked key ≡ o → deadline_in o ≡ None
-        → MatchOption o (dated ≡ asked) (λ e. (deadline : Option ℕ) × MayLive t e.deadline deadline
+        → MatchOption o (dated ≡ asked) (λ e. (deadline : Option ℕ) × MayBeDated t e.deadline deadline answered
         × (dated ≡ finite.insert asked key (record e { deadline = deadline })))
         → dated ≡ asked
     by_entry None there none same = same
     by_entry (Some e) there none given =
-        let same : given.0 ≡ e.deadline = none_given t e.deadline given.0 none given.1 ∙ sym none in
+        let same : given.0 ≡ e.deadline = none_dated t e.deadline given.0 answered none given.1 ∙ sym none in
         given.2 ∙ ap (λ (d : Option ℕ). finite.insert asked key (record e { deadline = d })) same
         ∙ insert-same asked key e there
 
@@ -100,7 +94,7 @@ undated_step sizes before t q reply after step sets none =
       | inl x ↦
           let asked = undated_outcome sizes before t q sets none in
           let done = outcome_at sizes before t q in
-          let same : x.dated ≡ done.entries = same_dated t done.entries done.stored x.dated asked x.is_dated in
+          let same : x.dated ≡ done.entries = same_dated t done.reply done.entries done.stored x.dated asked x.is_dated in
           let dated : NoneDated x.dated = subst NoneDated (sym same) asked in
           subst NoneDated (sym x.entries) (λ key. ap deadline_in (get-without x.dated x.forgotten key)
           ∙ out_undated (contains_bytes x.forgotten key) (finite.get x.dated key) (dated key))
@@ -126,7 +120,7 @@ all_left sizes before t q reply after none left =
     let done = outcome_at sizes before t q in
     elim left [
       | inl refused ↦ inl refused
-      | inr is ↦ inr (same_dated t done.entries done.stored after.entries none is)
+      | inr is ↦ inr (same_dated t done.reply done.entries done.stored after.entries none is)
     ]
 
 -- ---- items
@@ -185,6 +179,7 @@ by_reply t done NotFound = stored_at t done done.stored
 by_reply t done (Values hits) = stored_at t done done.stored
 by_reply t done Deleted = stored_at t done done.stored
 by_reply t done (Number n) = stored_at t done done.stored
+by_reply t done Touched = stored_at t done done.stored
 by_reply t done Flushed = stored_at t done done.stored
 by_reply t done TooLarge = stored_at t done done.stored
 by_reply t done NoMemory = refl

@@ -12,6 +12,7 @@ use Rattle.proto.specs.Commands.{Outcome}
 use Rattle.proto.specs.Steps.{size_at}
 use Rattle.proto.specs.History.{Chain}
 use Rattle.proto.specs.Stored.{StoredItem, written, SetsNoDeadline}
+use Rattle.exchange.specs.Beginnings.{StartsWith}
 use Rattle.engine.specs.Outcomes.{outcome_at}
 use Rattle.engine.specs.Reaching.{last_cache}
 
@@ -41,6 +42,11 @@ MayForgetNothing sizes history =
     → stored_bytes sizes start history caches ≤ (sizes.segments - 1) * (sizes.segment_size - sizes.segment_size / 8))
     → (caches : List Cache) × Chain sizes start history caches × ForgetsNothing sizes start history caches
 
+-- so it is of each beginning of the history
+abbrev pub MayAlwaysForgetNothing : Sizes → List Answered → Type 0
+MayAlwaysForgetNothing sizes history =
+    (beginning : List Answered) → StartsWith history beginning → MayForgetNothing sizes beginning
+
 -- Where no request set a deadline, and what was stored is within the bound, nothing was forgotten so far, and a store keeps
 -- items of as many bytes, none of which has a deadline.
 abbrev pub KeepsSoFar : Sizes → List Answered → List Cache → (List StoredItem → Type 0) → Type 0
@@ -52,10 +58,11 @@ KeepsSoFar sizes history caches keeps =
     → (items : List StoredItem) × keeps items × (written items ≡ bytes)
     × AllByRecursion (λ i. i.bucket ≡ bucket_of None) items × ForgetsNothing sizes start history caches
 
--- A chain of steps leads through the history to this cache, and forgot nothing so far.
+-- A chain of steps leads through the history to this cache, and forgot nothing so far; nor need one of a beginning have.
 pub record LeadsKeeping (sizes : Sizes) (history : List Answered) (cache : Cache)
     (keeps : List StoredItem → Type 0) : Type 0 where
   pub caches : List Cache
   pub chain : Chain sizes (empty_cache 0) history caches
   pub cache_is : last_cache (empty_cache 0) caches ≡ cache
   pub kept : KeepsSoFar sizes history caches keeps
+  pub always : MayAlwaysForgetNothing sizes history

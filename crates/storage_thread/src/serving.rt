@@ -1,13 +1,13 @@
 //! The loop of the storage thread.
 
-ghost use Rattle.std.specs.Prelude.{◌≡◌, ℕ, ◌+◌, ◌-◌, ◌^◌, ◌<◌, ◌≤◌, map, min, length, All, Some, None, true, IsSome, MatchOption, []};
+ghost use Rattle.std.specs.Prelude.{◌≡◌, ℕ, ◌+◌, ◌-◌, ◌^◌, ◌<◌, ◌≤◌, map, min, length, All, Some, None, true, false, IsSome, MatchOption, []};
 ghost use Rattle.std.specs.Option.{IfNone};
 ghost use Rattle.proto.specs.Cache.{empty_cache};
-ghost use Rattle.proto.specs.History.{max_moment, answers_by, worker_share, Legal};
+ghost use Rattle.proto.specs.History.{max_moment, answers_by, worker_share, Legal, RefusesBy};
 ghost use Rattle.engine.specs.Reaching.{Reaches};
 ghost use Rattle.storage_thread.specs.Serving.{AsksClock, IsReadSince, IsTimed, taken_as, SaidBye, IsUnused, IsSameExchange};
 ghost use Rattle.storage_thread.specs.Serving.{GetsNone, GetsMessage, AnswersOpenRequest};
-ghost use Rattle.storage_thread.specs.Keeping.{LeadsKeeping, MayForgetNothing};
+ghost use Rattle.storage_thread.specs.Keeping.{LeadsKeeping, MayAlwaysForgetNothing};
 
 use engine::{Clock, MAX_MOMENT, StorageEngine};
 use exchange::{Answered, IdleTurns, Posted, StorageBatch, StorageEnd, StorageSignals, Taken};
@@ -79,12 +79,15 @@ fn execute<S: StorageEngine, C: Clock>(
     requires read { IsReadSince end.old.end.terms.system_clock (C.start clock.old.clock) end.old.end.history }
     requires reaches { Reaches end.old.end.terms.geometry end.old.end.history (S.cache store.old) (S.moment store.old) }
     requires sizes { S.sizes store.old ≡ end.old.end.terms.geometry }
+    requires refuses { end.old.end.terms.may_refuse ≡ false → S.may_refuse ≡ false }
+    requires refused { RefusesBy S.may_refuse end.old.end.history }
     requires open_request { end.old.end.open_request ≡ Some (worker, posted) }
     requires next { posted.number ≡ length (worker_share end.old.end.history worker) + 1 }
     ensures reaches { Reaches end.new.end.terms.geometry end.new.end.history (S.cache store.new) (S.moment store.new) }
     ensures kept { LeadsKeeping end.old.end.terms.geometry end.old.end.history (S.cache store.old) (S.keeps store.old)
         → LeadsKeeping end.new.end.terms.geometry end.new.end.history (S.cache store.new) (S.keeps store.new) }
     ensures sizes { S.sizes store.new ≡ S.sizes store.old }
+    ensures refused { RefusesBy S.may_refuse end.new.end.history }
     ensures answered { AnswersOpenRequest end.old.end end.new.end worker posted (S.moment store.new) clock.new.answers }
     ensures read { IsReadSince end.new.end.terms.system_clock (C.start clock.new.clock) end.new.end.history }
     ensures leads { C.leads_to clock.old.clock clock.new.clock }
@@ -169,11 +172,13 @@ pub fn run_storage<R: Wait + time::Clock, S: StorageEngine + Drop, C: Clock>(
 ) -> StorageReport<C>
     requires empty { (S.cache store ≡ empty_cache 0) × (S.moment store ≡ 0) }
     requires sizes { S.sizes store ≡ storage_end.terms.geometry }
+    requires refuses { storage_end.terms.may_refuse ≡ false → S.may_refuse ≡ false }
     requires system_clock { storage_end.terms.system_clock ≡ true → IsSome (C.start clock) }
     requires unasked { IsSome (C.start clock) → C.told clock ≡ Some [] }
     requires unused { IsUnused storage_end }
     ensures same { IsSameExchange storage_end result.storage_end }
     ensures legal { Legal storage_end.terms.geometry result.storage_end.history }
+    ensures refused { RefusesBy S.may_refuse result.storage_end.history }
     ensures once_in_order { (result.storage_end.taken ≡ map taken_as result.storage_end.history)
         × (result.storage_end.open_request ≡ None) }
     ensures inside { All (λ e. e.worker < storage_end.workers) result.storage_end.history }
@@ -181,8 +186,8 @@ pub fn run_storage<R: Wait + time::Clock, S: StorageEngine + Drop, C: Clock>(
     ensures leads { C.leads_to clock result.clock }
     ensures moments { IsTimed (C.told clock) (C.told result.clock) result.storage_end.history }
 
-    // nothing is forgotten where no deadline is set and little is stored, by a store that keeps what it stores
-    ensures bounded { S.keeps store [] → MayForgetNothing storage_end.terms.geometry result.storage_end.history }
+    // as long as no deadline is set and little is stored, nothing is forgotten by a store that keeps what it stores
+    ensures bounded { S.keeps store [] → MayAlwaysForgetNothing storage_end.terms.geometry result.storage_end.history }
     ensures executed { result.executed ≡ min (length result.storage_end.history) (2 ^ 64 - 1) }
 {
     let mut store = store;

@@ -4,7 +4,7 @@ use crate::player::Player;
 use crate::same::check_same;
 use bytes::Bytes;
 use proto::Dialect;
-use session_book::{Book, EndCause, OpenFault, Received, Settled};
+use session_book::{Book, EndCause, OpenFault, Received, Settled, Task};
 use std::alloc::Global;
 use std::process::Abort;
 use std::test::Fail;
@@ -124,6 +124,29 @@ fn holds_so_much_input(rt: HostRuntime) -> Result<(), Fail> {
     let checked = check_full(&rt, rt.alloc(), &mut book, piece.as_slice());
     drop(book);
     drop(piece);
+    checked
+}
+
+/// The input ends before its last message is read, which isn't answered: once it is read the session is to be taken up.
+fn check_silent_end(rt: &impl Abort, book: &mut Book) -> Result<(), Fail> {
+    check_open(rt, book, 1, Ok(()));
+    let piece = Bytes::from_static(b"verbosity 1 noreply\r\n");
+    check_received(rt, book, 1, piece, Received::Fed);
+    check_same(rt, book.end_input(1), None, "the end of its input");
+    check_same(rt, book.next_ready(Task::Ask), Some(1), "to be asked");
+    let has_request = book.next_ask(1)?.is_some();
+    check_same(rt, has_request, false, "a request");
+    check_same(rt, book.next_ready(Task::Give), Some(1), "to be given");
+    let finished = book.offer(1).finished;
+    check_same(rt, finished, Some(EndCause::EndOfInput), "its end");
+    Ok(())
+}
+
+#[test]
+fn ends_after_a_silent_message(rt: HostRuntime) -> Result<(), Fail> {
+    let mut book = Book::new(rt.alloc(), 0, Dialect::Lenient);
+    let checked = check_silent_end(&rt, &mut book);
+    drop(book);
     checked
 }
 
@@ -273,24 +296,33 @@ fn reads_a_line_of_carriage_returns(rt: HostRuntime) -> Result<(), Fail> {
     checked
 }
 
-/// An `append` is refused once, with its data, and the next answer belongs to the next request; a silent one has no answer.
-const REFUSED_DATA: [Step; 10] = [
+/// A line that is answered without the cache stands in its place, and a silent one has no answer.
+const LOCAL_LINES: [Step; 10] = [
     Step::Open(1),
-    Step::Feed(1, b"append a 0 0 7\r\nget b\r\n\r\nget a\r\n"),
+    Step::Feed(
+        1,
+        b"version\r\nverbosity 1 noreply\r\nget a\r\nverbosity 1\r\n",
+    ),
     Step::Ask(1, Some(1)),
     Step::Ask(1, None),
     Step::Settle(0, Settled::Kept),
-    Step::Output(1, "ERROR\r\nVALUE a 0 1\r\nx\r\nEND\r\n"),
-    Step::Feed(1, b"prepend a 0 0 5 noreply\r\nget b\r\n"),
+    Step::Output(
+        1,
+        "VERSION 1.6.0-segcached-0.6.0\r\nVALUE a 0 1\r\nx\r\nEND\r\nOK\r\n",
+    ),
+    Step::Feed(1, b"cache_memlimit 64 noreply\r\n"),
     Step::Ask(1, None),
-    Step::Output(1, "ERROR\r\nVALUE a 0 1\r\nx\r\nEND\r\n"),
+    Step::Output(
+        1,
+        "VERSION 1.6.0-segcached-0.6.0\r\nVALUE a 0 1\r\nx\r\nEND\r\nOK\r\n",
+    ),
     Step::Finished(1, None),
 ];
 
 #[test]
-fn refused_data_is_no_request_leniently(rt: HostRuntime) -> Result<(), Fail> {
+fn local_lines_are_answered_in_their_places(rt: HostRuntime) -> Result<(), Fail> {
     let mut player = Player::new(rt.alloc(), Dialect::Lenient, Some("x"));
-    let checked = check_steps(&rt, &mut player, &REFUSED_DATA);
+    let checked = check_steps(&rt, &mut player, &LOCAL_LINES);
     drop(player);
     checked
 }

@@ -27,6 +27,7 @@ fn made(alloc: Global, workers: usize) -> Result<Lanes, MakeFault>
     let terms = Terms {
         geometry,
         system_clock: false,
+        may_refuse: true,
     };
     let (workers, storage) = make(alloc, workers, terms)?;
     Ok(Lanes { workers, storage })

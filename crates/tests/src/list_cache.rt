@@ -85,11 +85,56 @@ impl ListCache {
             Request::Add(put) => self.put(alloc, now, put, Condition::Missing),
             Request::Replace(put) => self.put(alloc, now, put, Condition::There),
             Request::Cas(put, cas) => self.put(alloc, now, put, Condition::SameCas(*cas)),
+            Request::Append(put) => self.join(alloc, put, true),
+            Request::Prepend(put) => self.join(alloc, put, false),
+            Request::Touch(touch) => text_line(alloc, self.touch(now, &touch.key, touch.exptime)),
             Request::Delete { key } => text_line(alloc, self.delete(key)),
             Request::Incr { key, amount } => self.count(alloc, key, *amount, true),
             Request::Decr { key, amount } => self.count(alloc, key, *amount, false),
             Request::FlushAll { delay } => text_line(alloc, self.flush(now, *delay)),
         }
+    }
+
+    fn touch(&mut self, now: u64, key: &ByteString, exptime: i64) -> &'static str {
+        let Some(i) = self.place(key) else {
+            return "NOT_FOUND";
+        };
+        let deadline = deadline_of(now, exptime);
+        if deadline > now {
+            self.entries[i].deadline = deadline;
+        } else {
+            self.entries.remove(i);
+        }
+        "TOUCHED"
+    }
+
+    fn join(&mut self, alloc: Global, put: &Put, behind: bool) -> Result<Vec<u8>, AllocError> {
+        let Some(i) = self.place(&put.key) else {
+            return text_line(alloc, "NOT_STORED");
+        };
+        let here = Vec::from_slice(alloc, self.entries[i].value.as_slice())?;
+        let more = put.value.as_slice();
+        let bytes = put
+            .key
+            .as_slice()
+            .len()
+            .saturating_add(here.len())
+            .saturating_add(more.len());
+        if bytes.saturating_add(24).div_ceil(8) > self.item_limit / 8 {
+            return text_line(alloc, "SERVER_ERROR object too large for cache");
+        }
+        let mut joined = Vec::new(alloc);
+        if behind {
+            joined.extend_from_slice(here.as_slice())?;
+            joined.extend_from_slice(more)?;
+        } else {
+            joined.extend_from_slice(more)?;
+            joined.extend_from_slice(here.as_slice())?;
+        }
+        self.last_cas = self.last_cas.saturating_add(1);
+        self.entries[i].cas = self.last_cas;
+        self.entries[i].value = joined;
+        text_line(alloc, "STORED")
     }
 
     fn delete(&mut self, key: &ByteString) -> &'static str {

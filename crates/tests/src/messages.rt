@@ -62,7 +62,7 @@ const REQUESTS: [(&[u8], Given, &[u8]); 16] = [
 ];
 
 /// Lines that are answered without the cache.
-const FAULTS: [(&[u8], &[u8]); 26] = [
+const FAULTS: [(&[u8], &[u8]); 30] = [
     (b"foo\r\n", b"ERROR\r\n"),
     (b"\r\n", b"ERROR\r\n"),
     (b" get a\r\n", b"ERROR\r\n"),
@@ -116,6 +116,10 @@ const FAULTS: [(&[u8], &[u8]); 26] = [
     (b"set a 0 0 1\r\nx\ry", b"CLIENT_ERROR bad data chunk\r\n"),
     (b"append a 0 0 1\r\n", b"ERROR\r\n"),
     (b"prepend a 0 0 1 noreply\r\n", b"ERROR\r\n"),
+    (b"touch a 60 noreply\r\n", b"ERROR\r\n"),
+    (b"version\r\n", b"ERROR\r\n"),
+    (b"verbosity 1 noreply\r\n", b"ERROR\r\n"),
+    (b"cache_memlimit 64 noreply\r\n", b"ERROR\r\n"),
     (
         b"delete a 0\r\n",
         b"CLIENT_ERROR bad command line format\r\n",
@@ -125,7 +129,7 @@ const FAULTS: [(&[u8], &[u8]); 26] = [
 ];
 
 /// Leniently spaces before a line's end don't count, nor does a zero after the key of a `delete`; a data block is as it was sent.
-const LENIENT_REQUESTS: [(&[u8], Given, &[u8]); 16] = [
+const LENIENT_REQUESTS: [(&[u8], Given, &[u8]); 22] = [
     (b"get a \r\n", Given::Hit, b"VALUE a 0 1\r\nx\r\nEND\r\n"),
     (b"get a   \r\n", Given::Hit, b"VALUE a 0 1\r\nx\r\nEND\r\n"),
     (
@@ -146,10 +150,20 @@ const LENIENT_REQUESTS: [(&[u8], Given, &[u8]); 16] = [
     (b"set a 0 0 1 \r\nx\r\n", Given::Stored, b"STORED\r\n"),
     (b"set a 0 0 1 noreply \r\nx\r\n", Given::Stored, b""),
     (b"set a 0 0 2\r\nx \r\n", Given::Stored, b"STORED\r\n"),
+    (b"append a 0 0 1\r\nx\r\n", Given::Stored, b"STORED\r\n"),
+    (
+        b"prepend a 7 -1 7 \r\nget b\r\n\r\n",
+        Given::Stored,
+        b"STORED\r\n",
+    ),
+    (b"append a 0 0 1 noreply\r\nx\r\n", Given::Stored, b""),
+    (b"touch a 60\r\n", Given::Touched, b"TOUCHED\r\n"),
+    (b"touch a -1 \r\n", Given::Touched, b"TOUCHED\r\n"),
+    (b"touch a 60 noreply\r\n", Given::Touched, b""),
 ];
 
-/// Other faults stay, also leniently. `append` and `prepend` are refused once, with their data, or are silent.
-const LENIENT_FAULTS: [(&[u8], &[u8]); 23] = [
+/// Other faults stay, also leniently. `version` and `verbosity` are answered by their first word, unless they have `noreply`.
+const LENIENT_FAULTS: [(&[u8], &[u8]); 26] = [
     (b"get \r\n", b"CLIENT_ERROR bad command line format\r\n"),
     (b"get  \r\n", b"CLIENT_ERROR bad command line format\r\n"),
     (b" \r\n", b"ERROR\r\n"),
@@ -166,10 +180,13 @@ const LENIENT_FAULTS: [(&[u8], &[u8]); 23] = [
         b"CLIENT_ERROR bad command line format\r\n",
     ),
     (b"set a 0 0 1 \r\nx \r", b"CLIENT_ERROR bad data chunk\r\n"),
-    (b"append a 0 0 1\r\nx\r\n", b"ERROR\r\n"),
-    (b"prepend a 7 -1 7 \r\nget b\r\n\r\n", b"ERROR\r\n"),
-    (b"append a 0 0 1 noreply\r\nx\r\n", b""),
-    (b"prepend a 0 0 0 noreply\r\n\r\n", b""),
+    (b"version\r\n", b"VERSION 1.6.0-segcached-0.6.0\r\n"),
+    (b"version 1 \r\n", b"VERSION 1.6.0-segcached-0.6.0\r\n"),
+    (b"verbosity 1\r\n", b"OK\r\n"),
+    (b"verbosity 1 noreply\r\n", b""),
+    (b"cache_memlimit 64\r\n", b"ERROR\r\n"),
+    (b"cache_memlimit 64 noreply \r\n", b""),
+    (b"touch a\r\n", b"CLIENT_ERROR bad command line format\r\n"),
     (
         b"append a 0 0\r\n",
         b"CLIENT_ERROR bad command line format\r\n",
@@ -209,6 +226,7 @@ enum Given {
     Miss,
     Deleted,
     Zero,
+    Touched,
     Flushed,
     TooLarge,
     NoMemory,
@@ -233,6 +251,7 @@ fn reply_of(alloc: Global, with_cas: bool, given: Given) -> Result<Reply, NoMemo
         Given::Miss => Reply::Values(Hits::new(alloc)),
         Given::Deleted => Reply::Deleted,
         Given::Zero => Reply::Number(0),
+        Given::Touched => Reply::Touched,
         Given::Flushed => Reply::Flushed,
         Given::TooLarge => Reply::TooLarge,
         Given::NoMemory => Reply::NoMemory,
@@ -270,7 +289,7 @@ pub fn shown(alloc: Global, message: &Message, reply: Option<&Reply>) -> Result<
 fn request_answer(alloc: Global, message: &Message, reply: &Reply) -> Result<Vec<u8>, Fail> {
     match message {
         Message::Ask(..) => shown(alloc, message, Some(reply)),
-        Message::Wrong(_) | Message::Fatal(_) | Message::Quit => Err(Fail::from("a request")),
+        Message::Local(_) | Message::Fatal(_) | Message::Quit => Err(Fail::from("a request")),
     }
 }
 
@@ -341,7 +360,7 @@ fn spaces_before_the_end_do_not_count_leniently(rt: HostRuntime) -> Result<(), F
 fn local_answer(alloc: Global, message: &Message) -> Result<Vec<u8>, Fail> {
     match message {
         Message::Ask(..) => Err(Fail::from("no request")),
-        Message::Wrong(_) | Message::Fatal(_) | Message::Quit => shown(alloc, message, None),
+        Message::Local(_) | Message::Fatal(_) | Message::Quit => shown(alloc, message, None),
     }
 }
 

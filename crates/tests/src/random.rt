@@ -4,7 +4,7 @@ use crate::list_cache::ListCache;
 use crate::messages::shown;
 use crate::same::check_same;
 use engine::{PlainStore, StorageEngine};
-use proto::{ByteString, Geometry, Keys, Message, NoMemory, Put, Reply, Request, Words};
+use proto::{ByteString, Geometry, Keys, Message, NoMemory, Put, Reply, Request, Touch, Words};
 use std::alloc::{AllocError, Global};
 use std::process::Abort;
 use std::test::Fail;
@@ -166,10 +166,19 @@ fn random_request(
     now: u64,
     list: &ListCache,
 ) -> Result<Request, NoMemory> {
-    match random.below(20) {
+    match random.below(26) {
         0..=4 => random_get(alloc, random),
         pick @ 5..=13 => random_write(alloc, random, now, list, pick),
         pick @ 14..=18 => random_change(alloc, random, pick),
+        20..=21 => Ok(Request::Append(random_put(alloc, random, now)?)),
+        22..=23 => Ok(Request::Prepend(random_put(alloc, random, now)?)),
+        24..=25 => {
+            let put = random_put(alloc, random, now)?;
+            Ok(Request::Touch(Touch {
+                key: put.key,
+                exptime: put.exptime,
+            }))
+        }
         _ => Ok(Request::FlushAll {
             delay: random.below(4),
         }),
@@ -255,7 +264,7 @@ fn check_turns(
         }
         now = now.saturating_add(random.below(6) / 4);
     }
-    assert!(rt; shown > 200, "only {shown} answers show a value");
+    assert!(rt; shown > 150, "only {shown} answers show a value");
     Ok(())
 }
 

@@ -240,8 +240,8 @@ posted_goes_on told old batch request taken sent h =
         exchange = ap (λ (x : WorkerView). x.exchange) sent;
         worker = ap (λ (x : WorkerView). x.worker) sent;
       };
-      later = later_view w end (ap (λ (x : WorkerView). x.worker) sent) (ap (λ (x : WorkerView). x.terms) sent)
-          (ap (λ (x : WorkerView). x.seen) sent);
+      later = later_view w end (ap (λ (x : WorkerView). x.exchange) sent) (ap (λ (x : WorkerView). x.worker) sent)
+          (ap (λ (x : WorkerView). x.terms) sent) (ap (λ (x : WorkerView). x.seen) sent);
       steady = record {
         running = ap (λ (x : WorkerView). x.said_bye) sent ∙ h.steady.running;
         posted = h.steady.posted ∙ ap (length {A = Posted}) (sym all);

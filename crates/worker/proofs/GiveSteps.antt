@@ -29,7 +29,7 @@ use Rattle.worker.proofs.Readings.{first_of_reading}
 use Rattle.worker.proofs.ReportSteps.{share_of, asked_from}
 
 -- the requests of a session among the first posts are the first of its requests
-asked_first : (posts first : List Posted) (s : ℕ) → StartsWith posts first
+pub asked_first : (posts first : List Posted) (s : ℕ) → StartsWith posts first
     → StartsWith (asked_by posts s) (asked_by first s)
 asked_first posts first s h = (
   asked_by h.0 s,
@@ -77,6 +77,7 @@ may_be_given v end request t s h open_is posted back told =
     record {
       legal = told.legal.legal;
       read = all_read end.terms hist told.legal;
+      refused = told.legal.refused;
       said_there = λ messages rest reads.
           let m = first_of_reading v.dialect (fed t v.events) begun.0 rest ms messages begun.1 reads in
           let asks_on : StartsWith (asks messages) (asks ms) = (asks m.0, ap asks m.1 ∙ asks-append ms m.0) in

@@ -16,3 +16,4 @@ pub mod SettleSteps
 pub mod DrainSteps
 pub mod ReportSteps
 pub mod GiveSteps
+pub mod AskedOnly

@@ -186,6 +186,7 @@ still_by : (end : WorkerView) (book : BookState) (history : List Answered) → h
     → (trace : PortTrace) → IsTraceBy trace end book → IsTraceBy (record trace { history = history }) end book
 still_by end book history is trace (h, d) = (
   record {
+    exchange_is = h.exchange_is;
     worker_is = h.worker_is;
     terms_are = h.terms_are;
     later = subst (λ l. StartsWith end.seen l) (sym is) (starts_self end.seen);

@@ -9,7 +9,7 @@ use Rattle.proto.specs.declared.message.Request.{Request}
 use Rattle.proto.specs.declared.message.Reply.{Reply}
 use Rattle.proto.specs.declared.message.FatalKind.{FatalKind}
 use Rattle.proto.specs.declared.message.Message.{Message}
-use Rattle.proto.specs.declared.message.Message.TheVariants.{Ask, Wrong, Quit, Fatal}
+use Rattle.proto.specs.declared.message.Message.TheVariants.{Ask, Local, Quit, Fatal}
 use Rattle.proto.specs.declared.history.Posted.{Posted}
 use Rattle.proto.specs.declared.history.Answered.{Answered}
 use Rattle.proto.specs.History.{worker_share, session_share, asked_posted, asked, had}
@@ -86,7 +86,7 @@ left_none : (ms : List Message) (rs : List Reply) → length (asks (messages_lef
 left_none [] rs e = refl
 left_none (Ask q quiet ∷ ms) [] e = absurd (omega arith)
 left_none (Ask q quiet ∷ ms) (r ∷ rs) e = left_none ms rs e
-left_none (Wrong kind ∷ ms) rs e = left_none ms rs e
+left_none (Local kind ∷ ms) rs e = left_none ms rs e
 left_none (Quit ∷ ms) rs e = left_none ms rs e
 left_none (Fatal kind ∷ ms) rs e = left_none ms rs e
 
@@ -97,7 +97,7 @@ ended_true ms c e = sym (has_ended_by ms) ∙ ap is_some e
 -- a message that doesn't end the session leaves to the others what has
 ended_behind : (m : Message) (ms : List Message) → ends_session m ≡ false → ended_by None (m ∷ ms) ≡ ended_by None ms
 ended_behind (Ask q quiet) ms e = refl
-ended_behind (Wrong kind) ms e = refl
+ended_behind (Local kind) ms e = refl
 ended_behind Quit ms e = absurd cc
 ended_behind (Fatal kind) ms e = absurd cc
 
@@ -116,14 +116,14 @@ by_last d b o (m ∷ ms) c (p, behind, split, spells, inr r) e =
 -- the message by which a session ends with Quit
 is_quit : (m : Message) → ended_by None (m ∷ []) ≡ Some causes.Quit → m ≡ Quit
 is_quit (Ask q quiet) e = absurd cc
-is_quit (Wrong kind) e = absurd cc
+is_quit (Local kind) e = absurd cc
 is_quit Quit e = refl
 is_quit (Fatal kind) e = absurd cc
 
 -- and one by which it ends with Fatal
 is_fatal : (m : Message) → ended_by None (m ∷ []) ≡ Some causes.Fatal → (kind : FatalKind) × (m ≡ Fatal kind)
 is_fatal (Ask q quiet) e = absurd cc
-is_fatal (Wrong kind) e = absurd cc
+is_fatal (Local kind) e = absurd cc
 is_fatal Quit e = absurd cc
 is_fatal (Fatal kind) e = (kind, refl)
 

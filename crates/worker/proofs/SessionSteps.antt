@@ -7,7 +7,7 @@ use Rattle.proto.specs.declared.dialect.Dialect.{Dialect}
 use Rattle.proto.specs.declared.message.Request.{Request}
 use Rattle.proto.specs.declared.message.Reply.{Reply}
 use Rattle.proto.specs.declared.message.Message.{Message}
-use Rattle.proto.specs.declared.message.Message.TheVariants.{Ask, Wrong, Quit, Fatal}
+use Rattle.proto.specs.declared.message.Message.TheVariants.{Ask, Local, Quit, Fatal}
 use Rattle.proto.specs.Grammar.{SpellsNone}
 use Rattle.proto.specs.Reading.{asks}
 use Rattle.proto.specs.Answers.{said}
@@ -357,7 +357,7 @@ fails = inr (inr refl)
 ending : (o : Option EndCause) (ms : List Message) → IsEnding o → IsEnding (ended_by o ms)
 ending o [] h = h
 ending o (Ask q quiet ∷ ms) h = ending o ms h
-ending o (Wrong kind ∷ ms) h = ending o ms h
+ending o (Local kind ∷ ms) h = ending o ms h
 ending o (Quit ∷ ms) h = ending (Some causes.Quit) ms quits
 ending o (Fatal kind ∷ ms) h = ending (Some causes.Fatal) ms fails
 

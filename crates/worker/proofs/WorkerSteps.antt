@@ -190,16 +190,17 @@ same_end old new e = record {
 }
 
 -- such an end is later, or the same
-pub later_view : (old new : WorkerView) → new.worker ≡ old.worker → new.terms ≡ old.terms → new.seen ≡ old.seen
+pub later_view : (old new : WorkerView) → new.exchange ≡ old.exchange → new.worker ≡ old.worker → new.terms ≡ old.terms → new.seen ≡ old.seen
     → IsLaterEnd old new
-later_view old new w g s = record { worker = w; terms = g; later = ([], s ∙ sym (append-nil old.seen)) }
+later_view old new x w g s = record { exchange = x; worker = w; terms = g; later = ([], s ∙ sym (append-nil old.seen)) }
 
 pub later_is : (old new : WorkerView) → new ≡ old → IsLaterEnd old new
-later_is old new e = later_view old new (ap (λ (w : WorkerView). w.worker) e) (ap (λ (w : WorkerView). w.terms) e)
-    (ap (λ (w : WorkerView). w.seen) e)
+later_is old new e = later_view old new (ap (λ (w : WorkerView). w.exchange) e) (ap (λ (w : WorkerView). w.worker) e)
+    (ap (λ (w : WorkerView). w.terms) e) (ap (λ (w : WorkerView). w.seen) e)
 
 pub later_trans : (a b c : WorkerView) → IsLaterEnd a b → IsLaterEnd b c → IsLaterEnd a c
 later_trans a b c h k = record {
+  exchange = k.exchange ∙ h.exchange;
   worker = k.worker ∙ h.worker;
   terms = k.terms ∙ h.terms;
   later = starts_trans c.seen b.seen a.seen k.later h.later;
@@ -208,6 +209,7 @@ later_trans a b c h k = record {
 -- the trace is still that of the end's worker, later
 pub trace_later : (trace : PortTrace) (a b : WorkerView) → IsTraceOf trace a → IsLaterEnd a b → IsTraceOf trace b
 trace_later trace a b h k = record {
+  exchange_is = h.exchange_is ∙ sym k.exchange;
   worker_is = h.worker_is ∙ sym k.worker;
   terms_are = h.terms_are ∙ sym k.terms;
   later = starts_trans b.seen a.seen trace.history k.later h.later;

@@ -103,6 +103,7 @@ pub record IsSameEnd (old new : WorkerView) : Type 0 where
 
 -- the end, later: its history begins with the one that it was told of before
 pub record IsLaterEnd (old new : WorkerView) : Type 0 where
+  pub exchange : new.exchange ≡ old.exchange
   pub worker : new.worker ≡ old.worker
   pub terms : new.terms ≡ old.terms
   pub later : StartsWith new.seen old.seen

@@ -21,6 +21,12 @@ use worker_port::Port;
 /// The most events that are taken in a turn. The worker tells storage of their requests together, so it wakes it once.
 const EVENTS_A_TURN: usize = 32;
 
+/// The events that are taken in a turn though a session can't be asked further, so that the others are heard too.
+const EVENTS_WHILE_BUSY: usize = 8;
+
+/// The most requests that a session is asked for in a row, while others wait to be asked.
+const ASKS_IN_A_ROW: usize = 8;
+
 /// The most sessions whose peer accepted nothing that are offered their output again in a turn.
 const SLOW_A_TURN: usize = 2;
 
@@ -38,18 +44,18 @@ pub struct WorkerReport<P> {
 }
 
 /// Takes what has come, in a few events, and asks at once what they bring: what a session has sent is asked before it is
-/// taken that its peer has gone. They end where a session can't be asked further.
+/// taken that its peer has gone. Where a session can't be asked further, few are taken.
 fn take_events<P: Port, G: Gate>(worker: &mut Worker<P>, gate: &G, storage: &StorageSignals) -> bool
     ensures { Continues P.told P.leads_to worker.old worker.new }
 {
     let mut moved = false;
-    for _ in 0..EVENTS_A_TURN {
+    for taken in 1..=EVENTS_A_TURN {
         if !worker.take_event() {
             break;
         }
         moved = true;
         ask_sessions(worker, gate, storage);
-        if worker.state.book.ready(Task::Ask) > 0 {
+        if taken >= EVENTS_WHILE_BUSY && worker.state.book.ready(Task::Ask) > 0 {
             break;
         }
     }
@@ -67,7 +73,7 @@ fn feed_pieces<P: Port>(worker: &mut Worker<P>) -> bool
     moved
 }
 
-/// Asks the session for requests until it has none left or none can be asked now.
+/// Asks the session for requests until it has none left, none can be asked now, or it is the others' turn.
 fn ask_session<P: Port, G: Gate>(
     worker: &mut Worker<P>,
     session: u64,
@@ -77,11 +83,12 @@ fn ask_session<P: Port, G: Gate>(
     requires { worker.old.request ≡ None }
     ensures { Continues P.told P.leads_to worker.old worker.new }
 {
-    for _ in 0..=WINDOW {
+    for _ in 0..ASKS_IN_A_ROW {
         if !worker.ask_and_post(session, gate, storage) {
-            break;
+            return;
         }
     }
+    worker.state.book.ask_later(session);
 }
 
 /// Asks the sessions in turn, as long as requests can be asked. False where none was asked.
@@ -93,11 +100,16 @@ fn ask_sessions<P: Port, G: Gate>(
     ensures { Continues P.told P.leads_to worker.old worker.new }
 {
     let mut moved = false;
-    for _ in 0..worker.state.book.ready(Task::Ask) {
+    let most = worker
+        .state
+        .book
+        .ready(Task::Ask)
+        .saturating_add(WINDOW as usize);
+    for _ in 0..most {
         if worker.is_busy() {
             break;
         }
-        let Some(session) = worker.state.book.next_ready(Task::Ask) else {
+        let Some(session) = worker.state.book.next_to_ask() else {
             break;
         };
         ask_session(worker, session, gate, storage);
@@ -131,6 +143,20 @@ fn give_output<P: Port>(worker: &mut Worker<P>, task: Task, most: usize) -> bool
     moved
 }
 
+/// Shuts the sessions that have the most output, until that of all is within its limit.
+fn limit_output<P: Port>(worker: &mut Worker<P>) -> bool
+    ensures { Continues P.told P.leads_to worker.old worker.new }
+{
+    let mut moved = false;
+    for _ in 0..WINDOW {
+        if !worker.shut_fullest() {
+            break;
+        }
+        moved = true;
+    }
+    moved
+}
+
 /// One turn. False where there was nothing to do. It posts the held request, then what has come and what fits by now. Storage
 /// knows of all of it before the answers are looked for, so nothing is kept back while the worker waits.
 fn take_turn<P: Port, G: Gate>(worker: &mut Worker<P>, gate: &G, storage: &StorageSignals) -> bool
@@ -144,7 +170,8 @@ fn take_turn<P: Port, G: Gate>(worker: &mut Worker<P>, gate: &G, storage: &Stora
     let settled = settle_answers(worker, gate);
     let given = give_output(worker, Task::Give, usize::MAX);
     let given_slowly = give_output(worker, Task::RetryWrite, SLOW_A_TURN);
-    held || came || fed || asked || settled || given || given_slowly
+    let shut = limit_output(worker);
+    held || came || fed || asked || settled || given || given_slowly || shut
 }
 
 /// Whether all is done: the port has ended, nothing is held or outstanding, and no open session has input or output left. One

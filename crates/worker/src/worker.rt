@@ -18,7 +18,7 @@ use proto::{Dialect, Posted};
 use session_book::{Book, EndCause, Received, Settled, Task};
 use std::alloc::Global;
 use std::marker::Model;
-use worker_port::{Gone, Port, PortEvent, ToldHistory};
+use worker_port::{Gone, Port, PortEvent};
 
 /// What a worker holds. While it takes a step, these parts needn't agree.
 #[derive(Drop)]
@@ -160,7 +160,7 @@ impl<P: Port> Worker<P> {
         let may_wait = self.state.request.is_none()
             && self.state.batch.outstanding() == 0
             && self.state.book.is_idle();
-        match self.state.port.next(may_wait) {
+        match self.state.port.next(may_wait, &self.state.batch) {
             PortEvent::Opened(session) => self.state.admit(session),
             PortEvent::Data(session, bytes) => self.state.receive(session, bytes),
             PortEvent::EndOfInput(session) => {
@@ -226,8 +226,8 @@ impl<P: Port> Worker<P> {
             || (self.state.batch.outstanding() > 0 && self.state.book.is_crowded())
     }
 
-    /// Reads the session's next request and posts it. True where another one may be asked now. Where there may be one that
-    /// can't be asked now, the session is asked again later.
+    /// Reads the session's next request and posts it, unless it is put off. True where another one may be asked now. Where there
+    /// may be one that can't be asked now, the session is asked again later.
     pub(crate) fn ask_and_post<G: Gate>(
         &mut self,
         session: u64,
@@ -238,7 +238,7 @@ impl<P: Port> Worker<P> {
         ensures goes_on { Continues P.told P.leads_to self.old self.new }
         ensures goes_further { result ≡ true → self.new.request ≡ None }
     {
-        if self.ask(session) {
+        if self.state.book.put_off(session) || self.ask(session) {
             return false;
         }
         self.post(gate, storage);
@@ -317,7 +317,7 @@ impl<P: Port> Worker<P> {
         if offer.out.is_empty() {
             return (false, offer.finished);
         }
-        let history = ToldHistory::of(&self.state.batch);
+        let history = self.state.batch.told();
         match self.state.port.give(session, offer.out, history) {
             Ok(accepted) => (accepted > 0, self.state.book.gave(session, accepted)),
             Err(Gone) => {
@@ -337,6 +337,17 @@ impl<P: Port> Worker<P> {
         let (moved, finished) = self.offer(session);
         let finished = self.finish(session, finished);
         moved || finished
+    }
+
+    /// Shuts the session with the most output, where so much waits over all sessions that there is no room for it.
+    pub(crate) fn shut_fullest(&mut self) -> bool
+        ensures { Continues P.told P.leads_to self.old self.new }
+    {
+        let Some(session) = self.state.book.fullest() else {
+            return false;
+        };
+        self.state.shut(session, EndCause::NoMemory);
+        true
     }
 
     /// Shuts a session that has ended itself, or whose input has, once all was answered and given.

@@ -2,10 +2,15 @@
 //! for any stream inside, so they can't alter, drop or double a byte of it; no clause says what a socket delivers.
 
 ghost use Rattle.std.specs.Prelude.{◌≡◌, ◌≤◌, ◌<◌, ◌++◌, ◌∷◌, [], true, false, ◌==◌, length, take, IfOk, OnErr};
-ghost use Rattle.worker_port.specs.Giving.{MayBeSent};
+ghost use Rattle.std.specs.Prelude.{ℕ, List};
+ghost use Rattle.proto.specs.declared.message.Message.{Message};
+ghost use Rattle.proto.specs.Reading.{Reads, asks};
+ghost use Rattle.exchange.specs.Beginnings.{StartsWith};
+ghost use Rattle.worker_port.specs.Giving.{MayBeSent, sent_for};
 ghost use Rattle.std.specs.Io.KnownBytes.{ReadConsumes, WriteAppends};
 
 use crate::owner::Owner;
+use exchange::{ExchangeName, WorkerBatch};
 use mio::net::TcpStream;
 use proto::{Noted, Trace};
 use std::io::{self, Read, Write};
@@ -60,8 +65,20 @@ impl<S: Read + Write + Drop> LoggedStream<S> {
         self.stream
     }
 
-    /// What was read stands first in the buffer. A read of no bytes is the end of the input.
-    pub(crate) fn read(&mut self, buf: &mut [u8]) -> io::Result<usize>
+    /// What was read stands first in the buffer. A read of no bytes is the end of the input. While it reads, what its worker has
+    /// sent for this session are the first of the requests that the bytes spell which were read before.
+    pub(crate) fn read(
+        &mut self,
+        _owner: Owner,
+        _exchange: &ExchangeName,
+        _session: u64,
+        _sender: &WorkerBatch,
+        buf: &mut [u8],
+    ) -> io::Result<usize>
+        requires whose { (_sender.now.end.worker ≡ _owner.worker) × (_sender.now.end.exchange ≡ _exchange.now) }
+        requires asked { (messages : List Message) (rest : List ℕ)
+            → Reads _owner.dialect self.old.received.items messages rest
+            → StartsWith (asks messages) (sent_for _sender.now.end.sent _session) }
         requires goes_on { self.old.has_ended ≡ false }
         requires room { 0 < length buf.old }
         ensures within { IfOk result (λ n. n ≤ length buf.new) }
@@ -86,12 +103,14 @@ impl<S: Read + Write + Drop> LoggedStream<S> {
     pub(crate) fn write(
         &mut self,
         _owner: Owner,
+        _exchange: &ExchangeName,
         _session: u64,
         bytes: &[u8],
         _history: &ToldHistory,
     ) -> io::Result<usize>
-        requires { MayBeSent (record { geometry = _owner.geometry; system_clock = true }) _owner.dialect _owner.worker
-            _history.now _session self.old.received.items self.old.sent.items bytes.now }
+        requires exchange { _history.now.exchange ≡ _exchange.now }
+        requires due { MayBeSent (record { geometry = _owner.geometry; system_clock = true; may_refuse = false })
+            _owner.dialect _owner.worker _history.now.items _session self.old.received.items self.old.sent.items bytes.now }
         ensures within { IfOk result (λ n. n ≤ length bytes.now) }
         ensures sent { IfOk result (λ n. self.new.sent.items ≡ self.old.sent.items ++ take n bytes.now) }
         ensures failed { OnErr result (self.new.sent.items ≡ self.old.sent.items) }

@@ -1,6 +1,7 @@
 //! A port and a clock that count how often they are asked.
 
 use bytes::Bytes;
+use exchange::WorkerBatch;
 use proto::{Clock, ClockAnswer};
 use std::alloc::Global;
 use std::sync::atomic::{AtomicU64, Ordering};
@@ -59,7 +60,7 @@ impl Port for CountedPort<'_> {
 
     ghost leads_to = { λ _ _. Unit {0} };
 
-    fn next(&mut self, _may_wait: bool) -> PortEvent {
+    fn next(&mut self, _may_wait: bool, _sender: &WorkerBatch) -> PortEvent {
         self.counters.events.fetch_add(1, Ordering::SeqCst);
         if !self.is_open {
             self.is_open = true;

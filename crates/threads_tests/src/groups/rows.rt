@@ -6,29 +6,11 @@ use crate::groups::running::{are_complete, ports_of, run};
 use crate::groups::second_gate::SecondGate;
 use crate::same::check_same;
 use bytes::Bytes;
-use group::GroupFault;
 use std::alloc::Global;
 use std::test::Fail;
 use worker::{HoldGate, OpenGate};
 
 const KEYS: &[u8] = b"abcdefghi";
-
-#[test]
-fn no_port_and_nine_ports_are_refused(rt: HostRuntime) {
-    let alloc: Global = rt.alloc();
-    let counters = Counters::new();
-    for count in [0, 9] {
-        let ports = ports_of(&rt, alloc, &counters, &KEYS[..count]);
-        let clock = CountedClock {
-            counters: &counters,
-        };
-        match run(&rt, alloc, ports, clock, &OpenGate) {
-            Err(GroupFault::BadConfig) => {}
-            _ => panic!(rt; "{count} ports ran"),
-        }
-    }
-    check_same(&rt, counters.asked(), (0, 0), "asked");
-}
 
 #[test]
 fn one_worker_drains(rt: HostRuntime) {

@@ -4,6 +4,7 @@ ghost use Rattle.std.specs.Prelude.{◌≡◌, [], Some, IsSome};
 
 use crate::groups::counters::{CountedPort, Counters};
 use bytes::Bytes;
+use exchange::Exchange;
 use group::{Config, GroupFault, GroupReport, GroupWorker, run_group};
 use proto::{Clock, Dialect, Geometry, Terms};
 use segcache::Store;
@@ -69,11 +70,13 @@ pub(crate) fn run<
         terms: Terms {
             geometry,
             system_clock: false,
+            may_refuse: true,
         },
         dialect: Dialect::Strict,
         spin: None,
     };
-    run_group(rt, alloc, ports, config, store, clock, gate)
+    let exchange = Exchange::new(alloc, ports.len(), config.terms).expect(rt, "an exchange");
+    run_group(rt, alloc, ports, exchange, config, store, clock, gate)
 }
 
 /// Each worker's session 1 was given the whole output for its key, and was open until the port ended.

@@ -1,6 +1,6 @@
 //! Eight workers' threads beside the storage thread.
 
-ghost use Rattle.std.specs.Prelude.{◌≡◌, false};
+ghost use Rattle.std.specs.Prelude.{◌≡◌, true, false};
 ghost use Rattle.proto.specs.Cache.{empty_cache};
 ghost use Rattle.segcache.specs.StoreState.{sizes_in, segmented_cache, last_moment};
 ghost use Rattle.storage_thread.specs.Serving.{IsUnused, IsSameExchange};
@@ -133,7 +133,7 @@ fn many_callers(rt: HostRuntime) -> Result<(), Fail> {
         move || -> StorageReport<Count>
             requires empty { (segmented_cache store ≡ empty_cache 0) × (last_moment store ≡ 0) }
             requires sizes { sizes_in store ≡ storage.terms.geometry }
-            requires any_clock { storage.terms.system_clock ≡ false }
+            requires any_terms { (storage.terms.system_clock ≡ false) × (storage.terms.may_refuse ≡ true) }
             requires unused { IsUnused storage }
             ensures { IsSameExchange storage result.storage_end }
         { run_storage(&rt, store, clock, storage, &of_storage) },

@@ -31,6 +31,7 @@ pub(crate) fn made(
     let terms = Terms {
         geometry,
         system_clock: false,
+        may_refuse: true,
     };
     let (ends, storage) = make(alloc, workers, terms)?;
     Ok((ends, storage, store))

@@ -1,6 +1,6 @@
 //! One lane, by the single calls of its ends.
 
-ghost use Rattle.std.specs.Prelude.{◌≡◌, ◌+◌, [], length, false, Some, None};
+ghost use Rattle.std.specs.Prelude.{◌≡◌, ◌+◌, [], length, true, false, Some, None};
 ghost use Rattle.proto.specs.History.{answers_by, worker_share};
 ghost use Rattle.engine.specs.Reaching.{Reaches};
 ghost use Rattle.segcache.specs.StoreState.{sizes_in, segmented_cache, last_moment};
@@ -29,7 +29,7 @@ fn execute<S: StorageEngine, C: Clock>(
     requires answers { clock.old.answers ≡ answers_by [] end.old.history }
     requires reaches { Reaches end.old.terms.geometry end.old.history (S.cache store.old) (S.moment store.old) }
     requires sizes { S.sizes store.old ≡ end.old.terms.geometry }
-    requires any_clock { end.old.terms.system_clock ≡ false }
+    requires any_terms { (end.old.terms.system_clock ≡ false) × (end.old.terms.may_refuse ≡ true) }
     requires open_request { end.old.open_request ≡ Some (worker, posted) }
     requires next { posted.number ≡ length (worker_share end.old.history worker) + 1 }
 {
@@ -58,7 +58,7 @@ fn serve_one<C: Clock>(store: &mut Store, clock: &mut AskedClock<C>, end: &mut S
     requires reaches { Reaches end.old.terms.geometry end.old.history
         (segmented_cache store.old) (last_moment store.old) }
     requires sizes { sizes_in store.old ≡ end.old.terms.geometry }
-    requires any_clock { end.old.terms.system_clock ≡ false }
+    requires any_terms { (end.old.terms.system_clock ≡ false) × (end.old.terms.may_refuse ≡ true) }
     requires shut { end.old.open_request ≡ None }
 {
     match end.next(clock) {
@@ -106,7 +106,7 @@ fn check_room(
     requires reaches { Reaches storage.old.terms.geometry storage.old.history
         (segmented_cache store.old) (last_moment store.old) }
     requires sizes { sizes_in store.old ≡ storage.old.terms.geometry }
-    requires any_clock { storage.old.terms.system_clock ≡ false }
+    requires any_terms { (storage.old.terms.system_clock ≡ false) × (storage.old.terms.may_refuse ≡ true) }
 {
     let mut clock = AskedClock::new(SteadyClock);
     check_sent(rt, alloc, end, 64);

@@ -4,8 +4,9 @@
 use crate::same::check_same;
 use crate::workers::refusing_gate::RefusingGate;
 use crate::workers::scripts::{joined, repeated};
-use crate::workers::serving::{serve, sizes};
+use crate::workers::serving::{exchange_of_one, serve, sizes};
 use bytes::Bytes;
+use exchange::WorkerBatch;
 use std::alloc::Global;
 use std::collections::VecDeque;
 use std::process::Abort;
@@ -71,7 +72,7 @@ impl Port for LivePort {
 
     ghost leads_to = { λ _ _. Unit {0} };
 
-    fn next(&mut self, may_wait: bool) -> PortEvent {
+    fn next(&mut self, may_wait: bool, _sender: &WorkerBatch) -> PortEvent {
         if !self.is_open {
             self.is_open = true;
             self.waits_at_first = may_wait;
@@ -164,7 +165,9 @@ where
         waits_at_first: false,
         waits_early: false,
     };
-    let (report, executed) = serve(rt, alloc, sizes(rt), port, gate);
+    let geometry = sizes(rt);
+    let exchange = exchange_of_one(rt, alloc, geometry);
+    let (report, executed) = serve(rt, alloc, geometry, exchange, port, gate);
     assert!(*rt; report.port.patience > 0);
     assert!(*rt; report.port.given == peer.wanted);
     assert!(*rt; report.port.was_shut == peer.is_shut);

@@ -6,13 +6,12 @@ ghost use Rattle.worker_port.specs.declared.events.PortRecord.TheVariants.{EndOf
 ghost use Rattle.worker_port.specs.Ports.{is_in, is_open};
 
 use crate::workers::records::{has_ended_in, is_new_in, is_open_in, is_over_in};
-use crate::workers::serving::sizes;
 use bytes::Bytes;
+use exchange::{ExchangeName, WorkerBatch};
 use proto::Geometry;
 use std::alloc::Global;
 use std::collections::VecDeque;
 use std::process::Abort;
-use std::snapshot::Snapshot;
 use worker_port::{Gone, MAX_PIECE, Port, PortEvent, PortRecord, ToldHistory};
 
 /// What a port plays.
@@ -42,8 +41,10 @@ pub(crate) struct RecordingPort<R: Abort + Drop> {
     alloc: Global,
     pub(crate) geometry: Geometry,
     pub(crate) records: Vec<PortRecord>,
+    /// The exchange of its worker's end.
+    pub(crate) exchange: ExchangeName,
     /// By which bytes were given last.
-    pub(crate) history: Snapshot<Option<ToldHistory>>,
+    pub(crate) history: Option<ToldHistory>,
     steps: VecDeque<Step>,
     manners: Manners,
     gives: u64,
@@ -56,18 +57,21 @@ impl<R: Abort + Drop> RecordingPort<R> {
     pub(crate) fn new(
         rt: R,
         alloc: Global,
+        geometry: Geometry,
         steps: VecDeque<Step>,
         manners: Manners,
+        exchange: ExchangeName,
     ) -> RecordingPort<R>
-        ensures { (result.records.items ≡ []) × (result.history.value ≡ None) }
+        ensures { (result.records.items ≡ []) × (result.history ≡ None) × (result.exchange ≡ exchange)
+            × (result.geometry ≡ geometry) }
     {
-        let geometry = sizes(&rt);
         RecordingPort {
             rt,
             alloc,
             geometry,
             records: Vec::new(alloc),
-            history: Snapshot::of(&None),
+            exchange,
+            history: None,
             steps,
             manners,
             gives: 0,
@@ -123,9 +127,10 @@ impl<R: Abort + Drop> RecordingPort<R> {
 }
 
 impl<R: Abort + Drop> Port for RecordingPort<R> {
-    ghost use Rattle.std.specs.Prelude.{Some, false, ◌==◌, []};
+    ghost use Rattle.std.specs.Prelude.{Some, false, ◌==◌};
     ghost use Rattle.proto.specs.declared.dialect.Dialect.TheVariants.{Strict};
-    ghost use Rattle.std.specs.Option.{option_map_or, unwrap_or};
+    ghost use Rattle.std.specs.Option.{option_map_or};
+    ghost use Rattle.worker_port.specs.Ports.{told_last};
     ghost use Rattle.worker_port.specs.Giving.{by_any_clock};
 
     ghost told = { λ p. Some (record {
@@ -134,12 +139,13 @@ impl<R: Abort + Drop> Port for RecordingPort<R> {
       terms = by_any_clock p.geometry;
       dialect = Strict;
       worker = 0;
-      history = unwrap_or p.history.value [];
+      exchange = p.exchange;
+      history = told_last p.history;
     }) };
 
     ghost leads_to = { λ _ _. Unit {0} };
 
-    fn next(&mut self, _may_wait: bool) -> PortEvent {
+    fn next(&mut self, _may_wait: bool, _sender: &WorkerBatch) -> PortEvent {
         if has_ended_in(self.records.as_slice()) || self.is_paused() {
             return PortEvent::Idle;
         }
@@ -182,7 +188,7 @@ impl<R: Abort + Drop> Port for RecordingPort<R> {
     }
 
     fn give(&mut self, session: u64, bytes: &[u8], history: ToldHistory) -> Result<usize, Gone> {
-        self.history = Snapshot::of(&Some(history));
+        self.history = Some(history);
         if self.manners.slow_gives > 0 {
             self.manners.slow_gives -= 1;
             return Ok(0);

@@ -1,7 +1,7 @@
 //! What no contract says: that a run ends, and what was given by then.
 
 use crate::same::check_same;
-use crate::workers::recording_port::{Manners, RecordingPort};
+use crate::workers::recording_port::Manners;
 use crate::workers::refusing_gate::RefusingGate;
 use crate::workers::running::{Ending, Outcome, run};
 use crate::workers::scripts::{Script, joined, repeated};
@@ -93,12 +93,7 @@ fn run_script<R>(rt: &R, alloc: Global, script: Script<R>, manners: Manners) -> 
 where
     R: Abort + Threads + Wait + Clock + Copy + Drop + Send + Sync + 'static,
 {
-    run(
-        rt,
-        alloc,
-        RecordingPort::new(*rt, alloc, script.steps, manners),
-        &OpenGate,
-    )
+    run(rt, alloc, script.steps, manners, &OpenGate)
 }
 
 /// Session 1 sends the bytes, in pieces as long as they may be, and drains. Its port was paused, and resumed as often, and
@@ -256,12 +251,7 @@ fn a_held_request_is_posted_once(rt: HostRuntime) {
     let mut script = Script::new(&rt, alloc);
     script.open(1);
     script.send(1, repeated(&rt, alloc, b"get a\r\n", 100).as_slice());
-    let outcome = run(
-        &rt,
-        alloc,
-        RecordingPort::new(rt, alloc, script.steps, PLAIN),
-        &gate,
-    );
+    let outcome = run(&rt, alloc, script.steps, PLAIN, &gate);
     check_same(&rt, outcome.sent, 100, "sent");
     check_same(&rt, outcome.executed, 100, "executed");
     check_same(&rt, gate.told.load(Ordering::SeqCst), 100, "told");

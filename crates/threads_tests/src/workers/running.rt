@@ -1,10 +1,9 @@
 //! What a run over a port that keeps its records leaves.
 
-ghost use Rattle.std.specs.Prelude.{◌≡◌, [], None};
-
-use crate::workers::recording_port::RecordingPort;
-use crate::workers::serving::serve;
+use crate::workers::recording_port::{Manners, RecordingPort, Step};
+use crate::workers::serving::{exchange_of_one, serve, sizes};
 use std::alloc::Global;
+use std::collections::VecDeque;
 use std::process::Abort;
 use std::sync::Wait;
 use std::thread::Threads;
@@ -29,14 +28,22 @@ pub(crate) struct Outcome<R: Abort + Drop> {
     pub(crate) executed: u64,
 }
 
-/// Runs a worker over the port. Each session that was opened stands in the report.
-pub(crate) fn run<R, G>(rt: &R, alloc: Global, port: RecordingPort<R>, gate: &G) -> Outcome<R>
+/// Runs a worker over a port that plays these steps. Each session that was opened stands in the report.
+pub(crate) fn run<R, G>(
+    rt: &R,
+    alloc: Global,
+    steps: VecDeque<Step>,
+    manners: Manners,
+    gate: &G,
+) -> Outcome<R>
 where
     R: Abort + Threads + Wait + Clock + Copy + Drop + Send + Sync + 'static,
     G: Gate,
-    requires { (port.records.items ≡ []) × (port.history.value ≡ None) }
 {
-    let (report, executed) = serve(rt, alloc, port.geometry, port, gate);
+    let geometry = sizes(rt);
+    let exchange = exchange_of_one(rt, alloc, geometry);
+    let port = RecordingPort::new(*rt, alloc, geometry, steps, manners, exchange.name());
+    let (report, executed) = serve(rt, alloc, geometry, exchange, port, gate);
     assert!(*rt; report.unopened == 0);
     Outcome {
         port: report.port,

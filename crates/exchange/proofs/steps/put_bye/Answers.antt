@@ -1,4 +1,4 @@
-use Rattle.std.proofs.Common.{rules, arith, ◌≡◌, ℕ, suc, ◌*◌, refl, sym, ap}
+use Rattle.std.proofs.Common.{rules, arith, ◌≡◌, ℕ, suc, ◌*◌, refl, sym, ap, ◌+◌}
 use Rattle.exchange.specs.declared.messages.LaneMessage.TheVariants.{Bye}
 use Rattle.exchange.specs.declared.rule.WorkerState.{WorkerState}
 use Rattle.exchange.specs.Lanes.{SeatState}
@@ -23,7 +23,7 @@ store-requires c = let room = c.requires.room in let d : WorkerState = worker_st
       search rules,
       posts_bye_as _ _ _ _ (holding_slot d (suc (placed_count d))) _ _
           (stands_put _ _ _ d _ _ _ Bye room.0 c.load.ensures.2 c.exchange.ensures.3 c.slot_at-slot.ensures room.1 many)
-          (ap (λ (z : ℕ). 16 * z) (sym room.1)) (omega arith) c.requires.none_put refl room.4 c.requires.all_back,
+          (ap (λ (z : ℕ). 16 * z + 8) (sym room.1)) (omega arith) c.requires.none_put refl room.4 c.requires.all_back,
     )
 
 pub returns-clause-sent : goal.returns-clause-sent

@@ -1,4 +1,4 @@
-use Rattle.proto.proofs.ExampleProofs.{lenient_lines_spelled, lenient_refusals_spelled, lenient_long_lines_spelled}
+use Rattle.proto.proofs.ExampleProofs.{lenient_lines_spelled, lenient_commands_spelled, lenient_long_lines_spelled}
 use Rattle.proto.proofs.examples.lenient_spellings.Goals as goal
 
 pub returns-clause-lines : goal.returns-clause-lines
@@ -7,5 +7,5 @@ returns-clause-lines c = lenient_lines_spelled
 pub returns-clause-long_lines : goal.returns-clause-long_lines
 returns-clause-long_lines c = lenient_long_lines_spelled
 
-pub returns-clause-refusals : goal.returns-clause-refusals
-returns-clause-refusals c = lenient_refusals_spelled
+pub returns-clause-commands : goal.returns-clause-commands
+returns-clause-commands c = lenient_commands_spelled

@@ -2,7 +2,8 @@ use Rattle.std.proofs.Common.{◌≡◌, rules, ℕ, List, [], ◌∷◌, ◌++�
 use Rattle.proto.specs.declared.history.Answered.{Answered}
 use Rattle.proto.specs.declared.message.Request.{Request}
 use Rattle.proto.specs.ClockAnswers.{GivenAnswer}
-use Rattle.proto.specs.History.{answers_by}
+use Rattle.proto.specs.History.{answers_by, RefusesBy}
+use Rattle.proto.proofs.HistoryLemmas.{refuses_more}
 use Rattle.proto.specs.Sizes.{Sizes}
 use Rattle.proto.specs.Steps.{Step}
 use Rattle.exchange.specs.Ends.{StorageView}
@@ -10,6 +11,7 @@ use Rattle.engine.specs.Reaching.{Reaches}
 use Rattle.storage_thread.specs.Serving.{IsReadSince}
 use Rattle.storage_thread.specs.Keeping.{LeadsKeeping}
 use Rattle.engine.proofs.ReachingLemmas.{reaches_more, legal_of}
+use Rattle.engine.proofs.Refusals.{refused_get}
 use Rattle.storage_thread.proofs.Turns.{read_more}
 use Rattle.storage_thread.proofs.Kept.{KeepsStep, leads_more}
 use Rattle.storage_thread.proofs.serving.execute.Goals as goal
@@ -39,6 +41,10 @@ answer_later-requires-clause-legal g c = let p = c.args.posted in
       legal = legal;
       read = λ is. let f = read_more _ _ _ c.args.end.now.end.history e c.next_moment-moment.ensures.moment.0 by c.requires.read
           c.next_moment-moment.ensures.moment.4 c.next_moment-moment.ensures.moment.5 is in (f.0, f.2);
+      refused = λ none. refuses_more g.S.StorageEngine.may_refuse c.args.end.now.end.history e c.requires.refused
+          (refused_get g.S.StorageEngine.may_refuse (g.S.StorageEngine.sizes c.args.store.now) (g.S.StorageEngine.cache c.args.store.now)
+          c.next_moment-moment.result p.request c.handle-reply.new.request c.handle-reply.result c.handle-reply.ensures.succeeds
+          c.handle-reply.ensures.request) (c.requires.refuses none);
     }
 
 pub returns-clause-reaches : goal.returns-clause-reaches
@@ -105,3 +111,19 @@ returns-clause-read g c = let p = c.args.posted in
     (sym c.answer_later.ensures.answered)
     (read_more _ _ _ c.args.end.now.end.history e c.next_moment-moment.ensures.moment.0 by c.requires.read
     c.next_moment-moment.ensures.moment.4 c.next_moment-moment.ensures.moment.5)
+
+pub returns-clause-refused : goal.returns-clause-refused
+returns-clause-refused g c = let p = c.args.posted in let m = g.S.StorageEngine in
+    let e : Answered = record {
+      worker = c.args.worker;
+      session = p.session;
+      number = p.number;
+      request = c.handle-reply.new.request;
+      moment = c.next_moment-moment.result;
+      clock = c.answers-given.result;
+      reply = c.handle-reply.result;
+    } in
+    subst (λ (z : StorageView). RefusesBy m.may_refuse z.history) (sym c.answer_later.ensures.answered)
+    (refuses_more m.may_refuse c.args.end.now.end.history e c.requires.refused
+    (refused_get m.may_refuse (m.sizes c.args.store.now) (m.cache c.args.store.now) c.next_moment-moment.result p.request
+    c.handle-reply.new.request c.handle-reply.result c.handle-reply.ensures.succeeds c.handle-reply.ensures.request))

@@ -3,11 +3,12 @@ use Rattle.proto.specs.declared.history.Posted.{Posted}
 use Rattle.exchange.specs.Ends.{StorageView}
 use Rattle.proto.specs.declared.terms.Terms.{Terms}
 use Rattle.proto.specs.ClockAnswers.{GivenAnswer}
-use Rattle.proto.specs.History.{Legal}
+use Rattle.proto.specs.History.{Legal, RefusesBy}
+use Rattle.proto.proofs.HistoryLemmas.{refuses_none}
 use Rattle.engine.proofs.ReachingLemmas.{legal_of}
 use Rattle.storage_thread.specs.Serving.{IsReadSince, SaidBye, GetsNone, IsStorageServing}
-use Rattle.storage_thread.specs.Keeping.{LeadsKeeping, MayForgetNothing}
-use Rattle.storage_thread.proofs.Kept.{leads_first, none_forgotten}
+use Rattle.storage_thread.specs.Keeping.{LeadsKeeping, MayAlwaysForgetNothing}
+use Rattle.storage_thread.proofs.Kept.{leads_first}
 use Rattle.storage_thread.proofs.Turns.{serving_first, longer, same_sizes, same_byes, same_workers, serving_asked}
 use Rattle.storage_thread.proofs.Turns.{serving_none, serving_bye, asked_read, answers_asked, read_first, timed_asked}
 use Rattle.storage_thread.proofs.Turns.{all_said}
@@ -32,6 +33,8 @@ loop-init g c = let unused = c.requires.unused in
           (subst (λ s. c.args.storage_end.terms.system_clock ≡ true → IsSome s) (sym (ap g.C.Clock.start c.new-clock.ensures.clock))
           c.requires.system_clock)
           (ap (λ (z : StorageView). z.history) same ∙ unused.2),
+      subst (RefusesBy g.S.StorageEngine.may_refuse) (sym (ap (λ (z : StorageView). z.history) same ∙ unused.2))
+          (refuses_none g.S.StorageEngine.may_refuse),
     )
 
 pub loop-preserved-in-Some-Asked : goal.loop-preserved-in-Some-Asked
@@ -60,11 +63,21 @@ loop-preserved-in-Some-Asked g c = let i = c.loop.invariant in
           (g.S.StorageEngine.keeps c.loop.store)) (sym f.after) (i.8 start)),
       answers_asked now mid w p f new m told a,
       c.execute-told.ensures.read,
+      c.execute-told.ensures.refused,
     )
 
 pub execute-told-requires-clause-read : goal.execute-told-requires-clause-read
 execute-told-requires-clause-read g c = let f = rw c.in-Some-Asked.field-0-is at c.in-Some-Asked.ensures.taken in
     asked_read c.loop.end.end c.take_next.new.end.end c.in-Some-Asked.worker c.in-Some-Asked.posted f _ c.loop.invariant.10
+
+pub execute-told-requires-clause-refused : goal.execute-told-requires-clause-refused
+execute-told-requires-clause-refused g c = let f = rw c.in-Some-Asked.field-0-is at c.in-Some-Asked.ensures.taken in
+    subst (λ (z : StorageView). RefusesBy g.S.StorageEngine.may_refuse z.history) (sym f.after) c.loop.invariant.11
+
+pub execute-told-requires-clause-refuses : goal.execute-told-requires-clause-refuses
+execute-told-requires-clause-refuses g c none = let f = rw c.in-Some-Asked.field-0-is at c.in-Some-Asked.ensures.taken in
+    c.requires.refuses (sym (ap (λ (z : StorageView). z.terms.may_refuse) f.after
+    ∙ ap (λ (j : Terms). j.may_refuse) c.loop.invariant.2.same.2) ∙ none)
 
 pub loop-preserved : goal.loop-preserved
 loop-preserved g c = let i = c.loop.invariant in let now : StorageView = c.loop.end.end in
@@ -81,6 +94,7 @@ loop-preserved g c = let i = c.loop.invariant in let now : StorageView = c.loop.
       search rules,
       search rules,
       subst (λ (z : StorageView). IsReadSince z.terms.system_clock (g.C.Clock.start c.loop.clock.clock) z.history) (sym f.1) i.10,
+      subst (λ (z : StorageView). RefusesBy g.S.StorageEngine.may_refuse z.history) (sym f.1) i.11,
     )
 
 pub loop-preserved-in-Some-Bye : goal.loop-preserved-in-Some-Bye
@@ -98,6 +112,7 @@ loop-preserved-in-Some-Bye g c = let i = c.loop.invariant in let now : StorageVi
       search rules,
       search rules,
       subst (λ (z : StorageView). IsReadSince z.terms.system_clock (g.C.Clock.start c.loop.clock.clock) z.history) (sym f.after) i.10,
+      subst (λ (z : StorageView). RefusesBy g.S.StorageEngine.may_refuse z.history) (sym f.after) i.11,
     )
 
 pub returns-then-left-eq0-clause-bye : goal.returns-then-left-eq0-clause-bye
@@ -111,6 +126,10 @@ returns-then-left-eq0-clause-legal g c = let i = c.loop.invariant in
     subst (λ (z : StorageView). Legal c.args.storage_end.terms.geometry z.history) (sym same)
     (subst (λ (j : Terms). Legal j.geometry c.loop.end.end.history) i.2.same.2 (legal_of _ _ _ _ i.2.reaches))
 
+pub returns-then-left-eq0-clause-refused : goal.returns-then-left-eq0-clause-refused
+returns-then-left-eq0-clause-refused g c = let same = c.into_end.ensures ∙ c.tell.ensures.end in
+    subst (λ (z : StorageView). RefusesBy g.S.StorageEngine.may_refuse z.history) (sym same) c.loop.invariant.11
+
 pub returns-then-left-eq0-clause-inside : goal.returns-then-left-eq0-clause-inside
 returns-then-left-eq0-clause-inside g c = let i = c.loop.invariant in
     let same = c.into_end.ensures ∙ c.tell.ensures.end in
@@ -120,6 +139,5 @@ returns-then-left-eq0-clause-inside g c = let i = c.loop.invariant in
 pub returns-then-left-eq0-clause-bounded : goal.returns-then-left-eq0-clause-bounded
 returns-then-left-eq0-clause-bounded g c start = let i = c.loop.invariant in
     let same = c.into_end.ensures ∙ c.tell.ensures.end in
-    subst (λ (z : StorageView). MayForgetNothing c.args.storage_end.terms.geometry z.history) (sym same)
-    (subst (λ (j : Terms). MayForgetNothing j.geometry c.loop.end.end.history) i.2.same.2
-    (none_forgotten c.loop.end.end.terms.geometry c.loop.end.end.history _ _ (i.8 start)))
+    subst (λ (z : StorageView). MayAlwaysForgetNothing c.args.storage_end.terms.geometry z.history) (sym same)
+    (subst (λ (j : Terms). MayAlwaysForgetNothing j.geometry c.loop.end.end.history) i.2.same.2 (i.8 start).always)

@@ -1,6 +1,6 @@
 use Rattle.std.proofs.Common.{◌≡◌, ◌+◌, ◌-◌, ◌^◌, [], min, length}
 use Rattle.storage_thread.specs.Serving.{IsReadSince, IsTimed, IsStorageServing}
-use Rattle.proto.specs.History.{answers_by}
+use Rattle.proto.specs.History.{answers_by, RefusesBy}
 use Rattle.storage_thread.specs.Keeping.{LeadsKeeping}
 use Rattle.storage_thread.proofs.serving.run_storage.Given as goal
 
@@ -17,3 +17,4 @@ invariant-loop g l =
     (g.S.StorageEngine.cache l.store) (g.S.StorageEngine.keeps l.store))
     × (l.clock.answers ≡ answers_by [] l.end.end.history)
     × IsReadSince l.end.end.terms.system_clock (g.C.Clock.start l.clock.clock) l.end.end.history
+    × RefusesBy g.S.StorageEngine.may_refuse l.end.end.history

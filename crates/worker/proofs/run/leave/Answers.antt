@@ -32,6 +32,7 @@ pub returns-clause-whose : goal.returns-clause-whose
 returns-clause-whose g c =
     λ trace e.
     let k = (c.worker.invariant.whose trace e).0 in let bye = c.say_bye.ensures in record {
+      exchange_is = k.exchange_is ∙ sym (ap (λ (e : WorkerView). e.exchange) bye);
       worker_is = k.worker_is ∙ sym (ap (λ (e : WorkerView). e.worker) bye);
       terms_are = k.terms_are ∙ sym (ap (λ (e : WorkerView). e.terms) bye);
       later = (k.later.0, ap (λ (e : WorkerView). e.seen) bye ∙ k.later.1);

@@ -39,16 +39,17 @@ looked old new done told k terms worker seen sent back = record {
 }
 
 -- the end after a look, which told of this history
-later_looked : (old new : WorkerView) (told : List Answered) → new.worker ≡ old.worker → new.terms ≡ old.terms
+later_looked : (old new : WorkerView) (told : List Answered) → new.exchange ≡ old.exchange → new.worker ≡ old.worker → new.terms ≡ old.terms
     → new.seen ≡ told → StartsWith told old.seen → IsLaterEnd old new
-later_looked old new told worker terms seen later =
-    record { worker = worker; terms = terms; later = subst (λ l. StartsWith l old.seen) (sym seen) later }
+later_looked old new told exchange worker terms seen later =
+    record { exchange = exchange; worker = worker; terms = terms; later = subst (λ l. StartsWith l old.seen) (sym seen) later }
 
 by_look : (old new : WorkerBatchView) (result : Option Answered) → TakesAnswer old.end result new.end
     → new.put ≡ old.put
     → IfSome result (IsFirst old) → Takes old result new
 by_look old new None k put own = let e = k.3.1 in record {
-  later = later_looked (with_put_sent old).end (with_put_sent new).end k.1 (ap (λ (w : WorkerView). w.worker) e)
+  later = later_looked (with_put_sent old).end (with_put_sent new).end k.1 (ap (λ (w : WorkerView). w.exchange) e)
+      (ap (λ (w : WorkerView). w.worker) e)
       (ap (λ (w : WorkerView). w.terms) e) (ap (λ (w : WorkerView). w.seen) e) k.2.later;
   sent = λ i. (e i).sent ++ put i;
   back = ap (λ (w : WorkerView). w.back) e;
@@ -59,7 +60,8 @@ by_look old new None k put own = let e = k.3.1 in record {
       (subst (λ l. StartsWith (worker_share k.1 old.end.worker) l) (sym (ap (λ (w : WorkerView). w.back) e)) k.2.back);
 }
 by_look old new (Some a) k put own = let e = k.3.1 in record {
-  later = later_looked (with_put_sent old).end (with_put_sent new).end k.1 (ap (λ (w : WorkerView). w.worker) e)
+  later = later_looked (with_put_sent old).end (with_put_sent new).end k.1 (ap (λ (w : WorkerView). w.exchange) e)
+      (ap (λ (w : WorkerView). w.worker) e)
       (ap (λ (w : WorkerView). w.terms) e) (ap (λ (w : WorkerView). w.seen) e) k.2.later;
   own = at_append old.end.sent old.put (length old.end.back) (posted_of a) own.1;
   sent = λ i. (e i).sent ++ put i;
@@ -75,7 +77,8 @@ by_look old new (Some a) k put own = let e = k.3.1 in record {
 seen_before : (old new : WorkerBatchView) (a : Answered) → TakesSeen old.end (Some a) new.end → new.put ≡ old.put
     → IsFirst old a → Takes old (Some a) new
 seen_before old new a k put own = let e = k.1.1 in record {
-  later = later_view (with_put_sent old).end (with_put_sent new).end (ap (λ (w : WorkerView). w.worker) e)
+  later = later_view (with_put_sent old).end (with_put_sent new).end (ap (λ (w : WorkerView). w.exchange) e)
+      (ap (λ (w : WorkerView). w.worker) e)
       (ap (λ (w : WorkerView). w.terms) e) (ap (λ (w : WorkerView). w.seen) e);
   own = at_append old.end.sent old.put (length old.end.back) (posted_of a) own.1;
   sent = λ i. (e i).sent ++ put i;

@@ -6,7 +6,7 @@ pub returns-clause-handled : goal.returns-clause-handled
 returns-clause-handled g c =
     let m = g.M.LiveMap in
     handled_by m c.args.self.now c.advance.new.self c.args.now c.args.request.now c.execute.result c.execute.new.self
-    c.advance.ensures.cache c.advance.ensures.sizes c.advance.ensures.moment c.advance.ensures.in_place c.advance.ensures.alike
+    c.advance.ensures.cache c.advance.ensures.sizes c.advance.ensures.moment c.advance.ensures.in_place c.advance.ensures.dialect c.advance.ensures.alike
     c.advance.ensures.kept c.execute.ensures.leaves
 
 pub returns-clause-promised : goal.returns-clause-promised

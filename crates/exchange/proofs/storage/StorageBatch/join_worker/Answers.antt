@@ -67,7 +67,7 @@ returns-clause-compared c = let d : StorageState = storage_state_in c.self.insid
     ∙ (c.requires ∙ ap (λ (z : StorageBatchView). z.end.exchange) (sym c.self.view_is)) in
     let lane = subst (λ (z : TableId × ℕ). IsLane z.0 z.1)
     (λ i. (table i, (theirs.2 i).worker)) c.into_seat-seat.ensures.lane in
-    let l0 : 16 * u.worker + 8 < c.self.inside.seat.table_id.words = lane.0 in let size = c.self.invariant.1.0 in
+    let l0 : 16 * u.worker + 16 < c.self.inside.seat.table_id.words = lane.0 in let size = c.self.invariant.1.0 in
     subst (λ (z : StorageBatchView × WorkerView). AreCompared z.0.end z.1) (λ i. (c.self.view_is i, (sym theirs.2 ∙ whole) i))
     (compared_outside c.self.inside.seat.table_id c.into_seat-seat.result.0.table_id c.self.inside.workers
     c.self.inside.last d u

@@ -1,4 +1,4 @@
-use Rattle.std.proofs.Common.{rules, ℕ, ◌*◌, sym, ap}
+use Rattle.std.proofs.Common.{rules, ℕ, ◌*◌, sym, ap, ◌+◌}
 use Rattle.exchange.specs.Seats.{worker_state_in}
 use Rattle.exchange.proofs.Known.{posts_as}
 use Rattle.exchange.proofs.Fields.{sent_all}
@@ -9,7 +9,7 @@ store-requires c = let r = c.self.invariant.2 in (
   search rules,
   search rules,
   posts_as _ _ _ _ (worker_state_in c.self.inside.seat.me.0) _ _ r.seated
-      (ap (λ (z : ℕ). 16 * z) (sym r.worker_is)) (search rules) r.idle (search rules),
+      (ap (λ (z : ℕ). 16 * z + 8) (sym r.worker_is)) (search rules) r.idle (search rules),
 )
 
 pub invariant_of-self : goal.invariant_of-self

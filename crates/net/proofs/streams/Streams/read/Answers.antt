@@ -5,67 +5,69 @@ use Rattle.std.specs.Bool.{nat_eq}
 use Rattle.worker_port.specs.declared.events.PortRecord.TheVariants as was
 use Rattle.worker_port.specs.declared.events.PortEvent.TheVariants as event
 use Rattle.net.specs.Shown.{shown_stream, seen_of}
-use Rattle.net.specs.Seen.{Seen, IsSet, then_received, then_over, is_paused_stream, is_over}
+use Rattle.net.specs.Seen.{IsSet, then_received, then_over, is_paused_stream, is_over}
 use Rattle.net.specs.Traces.{trace_of, Tells}
 use Rattle.net.proofs.StreamLemmas.{Agree, trace_after, set_by, open_with, shown_with}
 use Rattle.net.proofs.StreamLemmas.{agree_fed, agree_over, agree_gone, tell_fed, tell_over, tell_gone}
+use Rattle.std.proofs.Common.{subst, refl}
+use Rattle.std.specs.Prelude.{is_some}
+use Rattle.proto.specs.Reading.{Reads}
+use Rattle.net.specs.Seen.{received_of}
 use Rattle.net.proofs.streams.Streams.read.Goals as goal
 use Rattle.net.proofs.streams.Streams.read.Goals.{After-note_as, After-note_as-in-Ended, After-note_as-in-Gone}
 
 -- bytes came: the stream that is read stands under the session's number, and what it becomes does
-fed : (c : After-note_as) → let after = (c.get_mut.follows.lender c.list.new.self).entries in
-    Agree c.args.self.now after c.args.heard.session c.note_as.new.self.items
-    × Tells (trace_of c.args.self.now) (event.Data c.args.heard.session c.in-Bytes.piece)
-    (trace_after c.args.self.now after c.args.heard.session c.note_as.new.self.items)
+fed : (c : After-note_as) → let after = (c.get_mut.follows.lender c.read.new.self).entries in
+    Agree c.args.self.now after c.args.session c.note_as.new.self.items
+    × Tells (trace_of c.args.self.now) (event.Data c.args.session c.in-Bytes.piece)
+    (trace_after c.args.self.now after c.args.session c.note_as.new.self.items)
 fed c =
-    let old = c.args.self.now in let s = c.args.heard.session in let x = c.in-Some.open.now in let y = c.list.new.self in
+    let old = c.args.self.now in let s = c.args.session in let x = c.in-Some.open.now in let y = c.read.new.self in
     let after = (c.get_mut.follows.lender y).entries in let piece = c.in-Bytes.piece in let told = c.note_as.new.self.items in
     let found : Some x ≡ lookup (nat_eq s) old.open.entries = search rules in
     let set : IsSet s (Some (seen_of y)) (shown_stream old.open.entries) (shown_stream after) = search rules in
-    let heard : seen_of x ≡ seen_of c.hear-has_room.new.self = sym c.hear-has_room.ensures in
     let events : told ≡ old.told.items ++ was.Data s piece ∷ [] =
     c.note_as.ensures ∙ ap (λ (b : List ℕ). old.told.items ++ was.Data s b ∷ []) c.as_slice.ensures in
     let now = set_by old after s x y (then_received piece) found
-    (c.list.ensures ∙ c.in-Bytes.ensures.0 ∙ ap (then_received piece) c.hear-has_room.ensures) set in (
+    c.in-Bytes.ensures.arrives.0 set in (
       agree_fed old after s told (open_with old s x found) piece events now,
-      tell_fed old after s told (open_with old s x found) c.requires piece
-          (sym (ap is_paused_stream (shown_with old s x found)) ∙ ap (λ (v : Seen). v.paused) heard ∙ c.in-Bytes.ensures.2)
-          (sym (ap is_over (shown_with old s x found)) ∙ ap (λ (v : Seen). v.over) heard ∙ c.in-Bytes.ensures.1)
-          c.in-Bytes.ensures.3 c.in-Bytes.ensures.4 events now,
+      tell_fed old after s told (open_with old s x found) c.requires.goes_on piece
+          (sym (ap is_paused_stream (shown_with old s x found)) ∙ c.in-Bytes.ensures.arrives.2)
+          (sym (ap is_over (shown_with old s x found)) ∙ c.in-Bytes.ensures.arrives.1)
+          c.in-Bytes.ensures.arrives.3 c.in-Bytes.ensures.arrives.4 events now,
     )
 
 -- its input has ended
-ended : (c : After-note_as-in-Ended) → let after = (c.get_mut.follows.lender c.list.new.self).entries in
-    Agree c.args.self.now after c.args.heard.session c.note_as-in-Ended.new.self.items
-    × Tells (trace_of c.args.self.now) (event.EndOfInput c.args.heard.session)
-    (trace_after c.args.self.now after c.args.heard.session c.note_as-in-Ended.new.self.items)
+ended : (c : After-note_as-in-Ended) → let after = (c.get_mut.follows.lender c.read.new.self).entries in
+    Agree c.args.self.now after c.args.session c.note_as-in-Ended.new.self.items
+    × Tells (trace_of c.args.self.now) (event.EndOfInput c.args.session)
+    (trace_after c.args.self.now after c.args.session c.note_as-in-Ended.new.self.items)
 ended c =
-    let old = c.args.self.now in let s = c.args.heard.session in let x = c.in-Some.open.now in let y = c.list.new.self in
+    let old = c.args.self.now in let s = c.args.session in let x = c.in-Some.open.now in let y = c.read.new.self in
     let after = (c.get_mut.follows.lender y).entries in let told = c.note_as-in-Ended.new.self.items in
     let found : Some x ≡ lookup (nat_eq s) old.open.entries = search rules in
     let set : IsSet s (Some (seen_of y)) (shown_stream old.open.entries) (shown_stream after) = search rules in
-    let heard : seen_of x ≡ seen_of c.hear-has_room.new.self = sym c.hear-has_room.ensures in
     let now = set_by old after s x y then_over found
-    (c.list.ensures ∙ c.in-Ended.ensures.0 ∙ ap then_over c.hear-has_room.ensures) set in (
+    c.in-Ended.ensures.arrives.0 set in (
       agree_over old after s told (open_with old s x found) c.note_as-in-Ended.ensures now,
-      tell_over old after s told (open_with old s x found) c.requires
-          (sym (ap is_paused_stream (shown_with old s x found)) ∙ ap (λ (v : Seen). v.paused) heard ∙ c.in-Ended.ensures.2)
-          (sym (ap is_over (shown_with old s x found)) ∙ ap (λ (v : Seen). v.over) heard ∙ c.in-Ended.ensures.1)
+      tell_over old after s told (open_with old s x found) c.requires.goes_on
+          (sym (ap is_paused_stream (shown_with old s x found)) ∙ c.in-Ended.ensures.arrives.2)
+          (sym (ap is_over (shown_with old s x found)) ∙ c.in-Ended.ensures.arrives.1)
           c.note_as-in-Ended.ensures now,
     )
 
 -- its peer has gone
 gone : (c : After-note_as-in-Gone)
-    → Agree c.args.self.now c.remove.new.self.entries c.args.heard.session c.note_as-in-Gone.new.self.items
-    × Tells (trace_of c.args.self.now) (event.Gone c.args.heard.session)
-    (trace_after c.args.self.now c.remove.new.self.entries c.args.heard.session c.note_as-in-Gone.new.self.items)
+    → Agree c.args.self.now c.remove.new.self.entries c.args.session c.note_as-in-Gone.new.self.items
+    × Tells (trace_of c.args.self.now) (event.Gone c.args.session)
+    (trace_after c.args.self.now c.remove.new.self.entries c.args.session c.note_as-in-Gone.new.self.items)
 gone c =
-    let old = c.args.self.now in let s = c.args.heard.session in let x = c.in-Some.open.now in
+    let old = c.args.self.now in let s = c.args.session in let x = c.in-Some.open.now in
     let after = c.remove.new.self.entries in let told = c.note_as-in-Gone.new.self.items in
     let found : Some x ≡ lookup (nat_eq s) old.open.entries = search rules in
     let closed : IsSet s None (shown_stream old.open.entries) (shown_stream after) = search rules in (
       agree_gone old after s told (open_with old s x found) c.note_as-in-Gone.ensures closed,
-      tell_gone old after s told (open_with old s x found) c.requires c.note_as-in-Gone.ensures closed,
+      tell_gone old after s told (open_with old s x found) c.requires.goes_on c.note_as-in-Gone.ensures closed,
     )
 
 pub invariant_of-self-in-Bytes-clause-ties : goal.invariant_of-self-in-Bytes-clause-ties
@@ -85,3 +87,17 @@ returns-in-Ended-clause-told c = (ended (goal.at.returns-in-Ended-clause-told c)
 
 pub returns-in-Gone-clause-told : goal.returns-in-Gone-clause-told
 returns-in-Gone-clause-told c = (gone (goal.at.returns-in-Gone-clause-told c).After-note_as-in-Gone).1
+
+-- what was read of the stream came of its session
+pub read-requires-clause-asked : goal.read-requires-clause-asked
+read-requires-clause-asked c = λ messages rest reads.
+    let old = c.args.self.now in let s = c.args.session in let x = c.in-Some.open.now in
+    let found : Some x ≡ lookup (nat_eq s) old.open.entries = search rules in
+    let shown : Some (seen_of x) ≡ shown_stream old.open.entries s = shown_with old s x found in
+    let came = (old.ties.1 s (ap is_some (sym shown))).0 in
+    c.requires.asked.asked s messages rest
+    (subst (λ (b : List ℕ). Reads old.owner.dialect b messages rest)
+    (ap received_of shown ∙ sym came) reads)
+
+pub read-requires-clause-whose : goal.read-requires-clause-whose
+read-requires-clause-whose c = (c.requires.asked.worker, c.requires.asked.exchange)

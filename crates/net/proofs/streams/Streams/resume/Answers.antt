@@ -18,4 +18,4 @@ returns-in-Some-clause-told c =
     let there : is_some (shown_stream old.open.entries s) ≡ is_some (Some (seen_of x)) =
     search (rules, shown_with old s x found) in
     tells_pause (whose_of old) (shown_stream old.open.entries) (shown_stream after) old.told.items s false there
-    (set_by old after s x y (then_paused false) found c.resume.ensures set)
+    (set_by old after s x y (then_paused false) found c.resume.ensures.seen set)

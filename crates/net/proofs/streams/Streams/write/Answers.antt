@@ -36,12 +36,12 @@ returns-in-Ok-clause-told c =
     let set : IsSet s (Some (seen_of y)) (shown_stream old.open.entries) (shown_stream after) = search rules in
     let sends = set_by old after s x y (then_sent taken) found c.in-Ok.ensures.sends set in
     let some : (c.in-Ok.count == 0) ≡ false = ne_eqb c.in-Ok.count 0 (λ e. omega (arith, c.if-count-gt0.true)) in
-    (λ i. trace (record w { history = c.given_by-self.ensures i }) (shown_stream after) (c.note_as.ensures i))
-    ∙ gave_by w (shown_stream old.open.entries) (shown_stream after) l s (was.Accepted s taken ∷ []) c.args.history
+    (λ i. trace (record w { history = c.args.history.items }) (shown_stream after) (c.note_as.ensures i))
+    ∙ gave_by w (shown_stream old.open.entries) (shown_stream after) l s (was.Accepted s taken ∷ []) c.args.history.items
     (tells_given w (shown_stream old.open.entries) (shown_stream after) l s taken sends)
     ∙ (λ i. record (trace_of old) {
       events = l ++ cond (sym some i) [] (was.Accepted s taken ∷ []);
-      history = c.args.history;
+      history = c.args.history.items;
     })
 
 pub returns-else-count-gt0-clause-told : goal.returns-else-count-gt0-clause-told
@@ -56,15 +56,15 @@ returns-else-count-gt0-clause-told c =
     let sends_none = subst (λ (n : ℕ). IsSet s (option_map (then_sent (take n bytes)) (shown_stream old.open.entries s))
     (shown_stream old.open.entries) (shown_stream after))
     zero sends in
-    (λ i. trace (record w { history = c.given_by-self.ensures i })
+    (λ i. trace (record w { history = c.args.history.items })
     (λ o. sent_no_bytes w (shown_stream old.open.entries) (shown_stream after) l s sends_none o i) l)
-    ∙ (λ i. record (trace_of old) { events = sym (append-nil l) i; history = c.args.history })
-    ∙ ap (λ (n : ℕ). then_gave s bytes (Ok n) c.args.history (trace_of old)) (sym zero)
+    ∙ (λ i. record (trace_of old) { events = sym (append-nil l) i; history = c.args.history.items })
+    ∙ ap (λ (n : ℕ). then_gave s bytes (Ok n) c.args.history.items (trace_of old)) (sym zero)
 
 pub returns-in-Err-clause-told : goal.returns-in-Err-clause-told
 returns-in-Err-clause-told c =
     let old = c.args.self.now in let s = c.args.session in let after = c.remove.new.self.entries in let w = whose_of old in
     let closed : IsSet s None (shown_stream old.open.entries) (shown_stream after) = search rules in
-    (λ i. trace (record w { history = c.given_by-self.ensures i }) (shown_stream after) (c.note_as-in-Err.ensures i))
-    ∙ gave_lost w (shown_stream old.open.entries) (shown_stream after) old.told.items s c.args.history closed
-    ∙ (λ i. then_gave s c.args.bytes.now (sym c.in-Err.is i) c.args.history (trace_of old))
+    (λ i. trace (record w { history = c.args.history.items }) (shown_stream after) (c.note_as-in-Err.ensures i))
+    ∙ gave_lost w (shown_stream old.open.entries) (shown_stream after) old.told.items s c.args.history.items closed
+    ∙ (λ i. then_gave s c.args.bytes.now (sym c.in-Err.is i) c.args.history.items (trace_of old))

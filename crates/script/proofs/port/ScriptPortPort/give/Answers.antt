@@ -1,5 +1,4 @@
-use Rattle.std.proofs.Common.{[], ◌++◌, ap, ◌∙◌, subst}
-use Rattle.std.specs.Prelude.{unwrap_or}
+use Rattle.std.proofs.Common.{◌++◌, refl, ap, ◌∙◌, subst}
 use Rattle.script.specs.Records.{give_records}
 use Rattle.script.specs.States.{PortState, PlayerState, Gives}
 use Rattle.script.specs.Players.{player_state}
@@ -17,12 +16,13 @@ returns-clause-gives c tells =
 pub returns-clause-told : goal.returns-clause-told
 returns-clause-told c =
     let player_is = ap (λ (p : PortState). p.player) c.self.view_is in
-    told_give c.args.self.now _ c.args.session c.args.bytes.now c.give.result c.args.history
+    told_give c.args.self.now _ c.args.session c.args.bytes.now c.give.result c.args.history.items
     (record {
       sizes = ap (λ (p : PortState). p.sizes) c.self.view_is;
       dialect = ap (λ (p : PortState). p.dialect) c.self.view_is;
       worker = ap (λ (p : PortState). p.worker) c.self.view_is;
-      history = ap (λ o. unwrap_or o []) c.of.ensures;
+      exchange = ap (λ (p : PortState). p.exchange) c.self.view_is;
+      history = refl;
     })
     (c.give.ensures.counts.0 ∙ ap (λ (p : PlayerState). p.script) player_is)
     (λ tells. let gives = c.give.ensures.given

@@ -13,6 +13,7 @@ returns-clause-told c =
       sizes = ap (λ (p : PortState). p.sizes) c.self.view_is;
       dialect = ap (λ (p : PortState). p.dialect) c.self.view_is;
       worker = ap (λ (p : PortState). p.worker) c.self.view_is;
+      exchange = ap (λ (p : PortState). p.exchange) c.self.view_is;
       history = ap (λ (p : PortState). p.history) c.self.view_is;
     })
     (ap (λ sn. sn.value.items) c.next.ensures.goes_on.1 ∙ ap (λ (p : PlayerState). p.script) player_is)
@@ -26,4 +27,4 @@ returns-clause-may c =
     may_where_told port c.next.result
     (λ yes. (subst (λ (p : PlayerState). TellsNext p c.next.result (player_state c.next.new.self)) player_is
     (c.next.ensures.played (ap (λ (p : PlayerState). is_playable p.script) player_is ∙ yes))).may port.sizes port.dialect port.worker
-    port.history)
+    port.exchange port.history)

@@ -19,6 +19,7 @@ returns-clause-told c =
       sizes = ap (λ (p : PortState). p.sizes) c.self.view_is;
       dialect = ap (λ (p : PortState). p.dialect) c.self.view_is;
       worker = ap (λ (p : PortState). p.worker) c.self.view_is;
+      exchange = ap (λ (p : PortState). p.exchange) c.self.view_is;
       history = ap (λ (p : PortState). p.history) c.self.view_is;
     })
     (ap (λ sn. sn.value.items) c.hold.ensures.goes_on.1 ∙ ap (λ (p : PlayerState). p.script) player_is)

@@ -58,8 +58,8 @@ invariant_of-self-else-plan_merge c =
           c.plan_merge.ensures.pool h.1 crowded).past;
     }
 
-pub clear_oldest-requires-clause-crowded : goal.clear_oldest-requires-clause-crowded
-clear_oldest-requires-clause-crowded c =
+pub clear_victim-requires-clause-crowded : goal.clear_victim-requires-clause-crowded
+clear_victim-requires-clause-crowded c =
     let a = c.self.inside in
     let h = c.if-plan_merge.ensures.plan in
     let crowded : IsCrowded a.pool a.index a.moment = (let h = c.requires.crowded in rw (← c.self.view_is) at h) in
@@ -72,14 +72,14 @@ returns-else-plan_merge-clause-made c =
     let h = c.if-plan_merge.ensures.plan in
     let crowded : IsCrowded a.pool a.index a.moment = (let h = c.requires.crowded in rw (← c.self.view_is) at h) in
     rw (← c.self.view_is)
-    (made_replanned a.pool c.plan_merge.new.self None a.index a.marks a.moment c.clear_oldest.new.self.pool
-    c.clear_oldest.new.self.index c.self.invariant.tied c.plan_merge.ensures.pool h.1 crowded c.clear_oldest.ensures.made)
+    (made_replanned a.pool c.plan_merge.new.self None a.index a.marks a.moment c.clear_victim.new.self.pool
+    c.clear_victim.new.self.index c.self.invariant.tied c.plan_merge.ensures.pool h.1 crowded c.clear_victim.ensures.made)
 
 pub returns-else-plan_merge-clause-evicted : goal.returns-else-plan_merge-clause-evicted
 returns-else-plan_merge-clause-evicted c =
     let a = c.self.inside in
     let h = c.if-plan_merge.ensures.plan in
     rw (← c.self.view_is)
-    (evicted_replanned a.pool c.plan_merge.new.self None a.index a.marks c.clear_oldest.new.self.pool
-    c.clear_oldest.new.self.index c.self.invariant.tied c.plan_merge.ensures.pool h.1 (c.clear_oldest.ensures.evicted
+    (evicted_replanned a.pool c.plan_merge.new.self None a.index a.marks c.clear_victim.new.self.pool
+    c.clear_victim.new.self.index c.self.invariant.tied c.plan_merge.ensures.pool h.1 (c.clear_victim.ensures.evicted
     (none_replanned a.pool c.plan_merge.new.self None h.1 h.0)))

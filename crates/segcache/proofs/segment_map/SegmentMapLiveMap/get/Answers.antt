@@ -7,7 +7,9 @@ use Rattle.segments.specs.declared.place.Place.{Place}
 use Rattle.segments.specs.Pools.{place_deadline}
 use Rattle.segcache.specs.Shown.{current, entry_at, shown_entries}
 use Rattle.segcache.proofs.ShownItems.{get-live_in, not_live, entry_live}
+use Rattle.engine.specs.Shown.{entry_of}
 use Rattle.segcache.proofs.TiedParts.{current_item}
+use Rattle.segcache.proofs.LeftEntries.{value_small}
 use Rattle.segcache.proofs.segment_map.SegmentMapLiveMap.get.Goals as goal
 
 pub returns-in_err-place-clause-found : goal.returns-in_err-place-clause-found
@@ -48,3 +50,13 @@ returns-clause-found c =
     ∙ sym (get-live_in p m a.moment c.args.key.now
     ∙ ap (λ (o : Option Place). if_live a.moment (option_map (entry_at p) o)) (sym there)
     ∙ entry_live p c.in_ok-place.place a.moment x.0 x.1 waits))
+
+pub returns-clause-small : goal.returns-clause-small
+returns-clause-small c =
+    let a = c.self.inside in
+    let p = a.pool in
+    let m = current p a.index in
+    let there : Some c.in_ok-place.place ≡ finite.get m c.args.key.now = c.in_ok-place.ensures.place in
+    let x = current_item p a.index c.args.key.now c.in_ok-place.place (sym there) in
+    value_small p c.in_ok-place.place x.0 (entry_of c.entry_at-entry.result) c.self.invariant.tied.known.pool x.1
+    c.entry_at-entry.ensures.entry

@@ -1,16 +1,29 @@
-use Rattle.std.proofs.Common.{◌/◌, List, Option, None, refl, ap, sym, ◌∙◌, subst}
+use Rattle.std.proofs.Common.{◌/◌, List, Option, None, refl, ap, sym, ◌∙◌, subst, length, arith}
+use Rattle.std.specs.Prelude.{option_map}
 use Rattle.std.proofs.lemmas.List.{length-set}
 use Rattle.std.proofs.lemmas.List.Elements.{All-set}
 use Rattle.std.proofs.lemmas.Option.{none-some}
 use Rattle.segments.specs.Items.{Item, IsStorable}
 use Rattle.segments.specs.Shown.{item_of}
-use Rattle.segments.specs.Pools.{PoolState, Used}
-use Rattle.segments.specs.Inside.{IsSegment}
-use Rattle.segments.specs.Changes.{with_item_at, change_in}
+use Rattle.segments.specs.Hits.{HitCounts}
+use Rattle.segments.specs.Pools.{segment_at, PoolState, Used}
+use Rattle.segments.specs.Inside.{IsSegment, pool_of}
+use Rattle.segments.specs.Changes.{with_segment, with_item_at, change_in}
 use Rattle.segments.specs.declared.segment.Segment.{Segment}
 use Rattle.segments.proofs.ItemChanges.{keeps_over}
 use Rattle.segments.proofs.PoolLemmas.{changing, change_kept, change_shown, kept_one, linked_items, changed_shown, pool_kept}
 use Rattle.segments.proofs.pool.Pool.overwrite.Goals as goal
+
+pub count-requires : goal.count-requires
+count-requires c =
+    let a = c.self.inside in
+    let new : Item = item_of c.args.item in
+    let s : Segment = c.index_mut-segment.result.now in
+    let at = c.index_mut-segment.ensures.value in
+    let lt = (changing (λ _. new) a c.args.self.now c.args.place s c.self.view_is (keeps_over new _ c.requires.fits) at).within in
+    let count = c.self.invariant.count in
+    let hits = c.self.invariant.hit_count in
+    omega arith
 
 pub invariant_of-self : goal.invariant_of-self
 invariant_of-self c =
@@ -36,6 +49,8 @@ invariant_of-self c =
           c.args.place.segment s t
           o.opening i.linked lt at o.is o.is;
       cursor = i.cursor;
+      hit_count = ap (λ h. length h.counts) c.count.ensures
+          ∙ length-set a.hits.counts c.args.place.segment _ ∙ i.hit_count;
       order_room = i.order_room;
       free_room = i.free_room;
       merge_room = record {
@@ -45,6 +60,7 @@ invariant_of-self c =
         merged_room = m.merged_room;
         spare_sized = c.overwrite.ensures.size ∙ m.spare_sized;
         start_count = m.start_count;
+        rest_count = m.rest_count;
       };
       sound = λ b h. absurd (none-some b h);
     }
@@ -63,10 +79,16 @@ returns-clause-overwritten c =
       segments = us;
       order = a.order.items;
       cursor = a.cursor;
+      hand = a.hand;
       plan = None;
+      eviction = a.eviction;
+      hits = c.count.new.self;
     })
     (changed_shown a c.args.place.segment s t (change_in (λ _. new) c.args.place.offset) q.within at
     (change_shown (λ _. new) s t c.args.place.offset refl items))
+    ∙ ap (λ (h : HitCounts). record (with_segment (pool_of a) c.args.place.segment
+    (option_map (change_in (λ _. new) c.args.place.offset) (segment_at (pool_of a) c.args.place.segment))) { hits = h })
+    c.count.ensures
     ∙ ap (λ p. with_item_at p c.args.place new) c.self.view_is
 
 pub returns-clause-pool : goal.returns-clause-pool

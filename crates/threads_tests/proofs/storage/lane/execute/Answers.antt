@@ -29,5 +29,6 @@ answer-requires-clause-legal g c =
           (search rules) c.next_moment-moment.ensures.moment.0 (c.answers-told.ensures ∙ c.next_moment-moment.ensures.moment.2
           ∙ ap (λ (l : List GivenAnswer). l ++ c.next_moment-moment.ensures.moment.0 ∷ []) c.requires.answers)
           (search rules) c.requires.next);
-      read = λ is. absurd (true≢false (sym is ∙ c.requires.any_clock));
+      read = λ is. absurd (true≢false (sym is ∙ c.requires.any_terms.0));
+      refused = λ none. absurd (true≢false (sym c.requires.any_terms.1 ∙ none));
     }

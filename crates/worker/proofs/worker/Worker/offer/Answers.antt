@@ -4,9 +4,11 @@ use Rattle.session_book.specs.Session.{SessionState, gave}
 use Rattle.session_book.specs.Book.{BookState, session_of}
 use Rattle.worker_port.specs.Ports.{then_gave, fed, given}
 use Rattle.proto.specs.declared.history.Answered.{Answered}
+use Rattle.exchange.specs.Ends.{WorkerBatchView, ToldView}
+use Rattle.session_book.specs.declared.causes.EndCause.TheVariants as causes
 use Rattle.proto.specs.declared.terms.Terms.{Terms}
 use Rattle.worker.specs.EndCauses.{piece_of}
-use Rattle.worker.specs.Workers.{run_view}
+use Rattle.worker.specs.Workers.{run_view, Closes}
 use Rattle.worker.proofs.TraceLaws.{paused_kept}
 use Rattle.worker.proofs.PieceLaws.{pieces_kept, gave_piece}
 use Rattle.worker.proofs.WorkerSteps.{WorkerGoesOn, continues, open_at}
@@ -27,8 +29,10 @@ give-requires g c =
       «open» = open_at g.P.Port.told w c.args.session s.0 c.self.invariant s.1;
       said = λ trace e.
           let whose = c.self.invariant.whose trace e in
-          subst (λ (y : List ℕ × List Answered). MayBeGiven trace y.1 c.args.session y.0) (λ i. (sym s.2 i, sym c.of-history.ensures i))
+          subst (λ (y : List ℕ × ToldView). MayBeGiven trace y.1 c.args.session y.0)
+          (λ i. (sym s.2 i, sym c.told-history.ensures.told i))
           (record {
+            exchange = sym whose.0.exchange_is;
             later = whose.0.later;
             may = subst (λ (y : ℕ × Terms). MayBeSent y.1 trace.dialect y.0 (end_of w).seen c.args.session (fed c.args.session trace.events)
                 (given c.args.session trace.events) s.0.out) (λ i. (sym whose.0.worker_is i, sym whose.0.terms_are i))
@@ -37,14 +41,14 @@ give-requires g c =
           });
     }
 
--- some bytes were accepted, or none
-gave_some : (g : Over) (c : After-gave g) → WorkerGoesOn g.P.Port.told c.self.inside.state
+-- some bytes were accepted, or none, over the batch as it was
+gave_over : (g : Over) (c : After-gave g) → WorkerGoesOn g.P.Port.told c.self.inside.state
     (record c.self.inside.state { port = c.give.new.self; book = c.gave.new.self })
-gave_some g c =
+gave_over g c =
     let w = c.self.inside.state in let t = c.args.session in let out = c.offer-offer.result.out.now in
     let n = c.in-Ok.accepted in
     let new = record w { port = c.give.new.self; book = c.gave.new.self } in
-    let f = then_gave t out (Ok n) c.of-history.result in let k = c.gave.ensures.gave in
+    let f = then_gave t out (Ok n) c.told-history.result.items in let k = c.gave.ensures.gave in
     let s = offered_is (session_of w.book t) out c.offer-offer.ensures.out
     (sym c.is_empty.ensures ∙ c.if-is_empty.false) in
     let pieces = pieces_kept w.book c.gave.new.self t
@@ -52,7 +56,8 @@ gave_some g c =
     (gave_piece (session_of w.book t) n) in
     within_goes_on g.P.Port.told w new f
     (record { end = refl; request = refl; sessions = refl; unopened = refl; strangers = refl; ended = refl })
-    (gives_by w t out (Ok n) c.of-history.result c.of-history.ensures) c.in-Ok.ensures.told
+    (gives_by w t out (Ok n) c.told-history.result.items
+    (ap (λ (v : ToldView). v.items) c.told-history.ensures.told)) c.in-Ok.ensures.told
     (ap (λ (b : BookState). b.posted) k.rest) (ap (λ (b : BookState). b.unsettled) k.rest)
     (ap (λ (b : BookState). b.dialect) k.rest) c.self.invariant
     (λ trace was_so. (
@@ -63,6 +68,13 @@ gave_some g c =
           (λ q. refl) was_so.1,
     ))
 
+-- so it is over the batch that told of its history
+gave_some : (g : Over) (c : After-gave g) → WorkerGoesOn g.P.Port.told c.self.inside.state
+    (record c.self.inside.state { port = c.give.new.self; book = c.gave.new.self; batch = c.told-history.new.self })
+gave_some g c = subst (λ (z : WorkerBatchView). WorkerGoesOn g.P.Port.told c.self.inside.state
+    (record c.self.inside.state { port = c.give.new.self; book = c.gave.new.self; batch = z }))
+    (sym c.told-history.ensures.same) (gave_over g c)
+
 -- its peer has gone
 lost : (g : Over) (c : After-close g) → WorkerGoesOn g.P.Port.told c.self.inside.state c.close.new.self
 lost g c =
@@ -70,8 +82,11 @@ lost g c =
     let s = offered_is (session_of w.book c.args.session)
     c.offer-offer.result.out.now c.offer-offer.ensures.out (sym c.is_empty.ensures ∙ c.if-is_empty.false) in
     lost_goes_on g.P.Port.told w c.close.new.self c.give.new.self c.args.session s.0
-    c.offer-offer.result.out.now c.in-Err.field-0 c.of-history.result c.of-history.ensures s.1 c.in-Err.ensures.told
-    c.self.invariant c.close.ensures.port c.close.ensures.closes
+    c.offer-offer.result.out.now c.in-Err.field-0 c.told-history.result.items
+    (ap (λ (v : ToldView). v.items) c.told-history.ensures.told) s.1 c.in-Err.ensures.told
+    c.self.invariant c.close.ensures.port
+    (subst (λ (z : WorkerBatchView). Closes (record w { port = c.give.new.self; batch = z }) c.close.new.self c.args.session causes.Gone)
+    c.told-history.ensures.same c.close.ensures.closes)
 
 pub invariant_of-self : goal.invariant_of-self
 invariant_of-self g c = (gave_some g (goal.at.invariant_of-self g c).After-gave).serving

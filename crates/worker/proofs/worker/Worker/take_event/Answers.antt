@@ -3,7 +3,11 @@ use Rattle.session_book.specs.Book.{session_of}
 use Rattle.worker.proofs.WorkerSteps.{continues}
 use Rattle.worker.proofs.PortSteps.{opened_goes_on, opened_is_open, still_open, came_unheld, received_goes_on}
 use Rattle.worker.proofs.PortSteps.{over_goes_on, lose_goes_on, idle_goes_on, ended_goes_on}
+use Rattle.worker.proofs.AskedOnly.{has_asked_only}
 use Rattle.worker.proofs.worker.Worker.take_event.Goals as goal
+
+pub next-requires : goal.next-requires
+next-requires g c = λ trace e. has_asked_only g.P.Port.told c.self.inside.state c.self.invariant trace e
 
 pub admit-requires : goal.admit-requires
 admit-requires g c = let n = c.in-Opened.ensures in

@@ -1,0 +1,9 @@
+use Rattle.std.proofs.Common.{refl, sym, subst}
+use Rattle.worker_port.specs.Ports.{PortTrace}
+use Rattle.worker_port.specs.Giving.{HasAskedOnly}
+use Rattle.net.specs.Traces.{trace_of}
+use Rattle.net.proofs.port.MioPortPort.next.Goals as goal
+
+pub next_event-event-requires : goal.next_event-event-requires
+next_event-event-requires g c = subst (λ (t : PortTrace). HasAskedOnly t c.args.sender.now.end) (sym c.look.ensures.0)
+    (c.requires (trace_of c.args.self.now.served) refl)

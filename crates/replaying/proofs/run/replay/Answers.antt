@@ -1,0 +1,61 @@
+use Rattle.std.proofs.Common.{Some, refl, ◌∙◌}
+use Rattle.std.specs.Prelude.{map}
+use Rattle.script.specs.declared.clock.RecordingClock.{RecordingClock}
+use Rattle.script.specs.Readings.{readings_in_order}
+use Rattle.script.specs.ClockLeading.{GivesAnswers}
+use Rattle.script.specs.States.{trace_told, PlaysOn}
+use Rattle.replaying.specs.Printed.{lines_from, events_of}
+use Rattle.group.proofs.Keeping.{keeping_run}
+use Rattle.replaying.proofs.ReplayLemmas.{replayed}
+use Rattle.replaying.proofs.Lines.{owned}
+use Rattle.replaying.proofs.run.replay.Goals as goal
+
+pub run_group-requires-clause-ports : goal.run_group-requires-clause-ports
+run_group-requires-clause-ports g c κs within =
+    owned c.args.geometry c.args.options.now.dialect c.in_ok-exchange.exchange.id c.args.options.now.accept
+    c.args.options.now.fail_give c.in_ok-scripts.scripts.items
+    c.in_ok-ports.ports.items c.in_ok-ports.ensures
+
+-- the segmented store refuses no request that stores
+pub run_group-requires-clause-refuses : goal.run_group-requires-clause-refuses
+run_group-requires-clause-refuses g c κs within = λ none. refl
+
+pub returns-clause-ran : goal.returns-clause-ran
+returns-clause-ran g c =
+    let all = rw c.as_slice.ensures.value at c.in_ok-write_lines.ensures in (
+      lines_from 0 (map events_of c.in_ok-report.report.workers.items),
+      record {
+        scripts = c.in_ok-scripts.scripts.items;
+        read = c.in_ok-scripts.ensures.events;
+        exchange = c.in_ok-exchange.exchange.id;
+        ports = c.in_ok-ports.ports.items;
+        ports_are = c.in_ok-ports.ensures;
+        told = c.new-clock.result;
+        told_is = (c.new-clock.ensures.clock ∙ c.new-2.ensures, c.new-clock.ensures.answers);
+        report = c.in_ok-report.report;
+        run = keeping_run trace_told PlaysOn
+            (λ (k : RecordingClock). Some
+            (readings_in_order k.answers)) GivesAnswers _ _ _ c.args.geometry c.in_ok-ports.ports.items c.new-clock.result
+            c.in_ok-report.report
+            c.in_ok-report.ensures.run c.in_ok-store.ensures.sizes c.in_ok-store.ensures.keeps;
+        printed_is = refl;
+      },
+      all.0,
+    )
+
+pub returns-clause-printed : goal.returns-clause-printed
+returns-clause-printed g c =
+    let all = rw c.as_slice.ensures.value at c.in_ok-write_lines.ensures in (
+      lines_from 0 (map events_of c.in_ok-report.report.workers.items),
+      replayed c.args.geometry c.args.options.now.dialect _ c.args.options.now.workers c.args.options.now.accept c.args.options.now.fail_give
+          c.in_ok-scripts.text.items c.in_ok-scripts.scripts.items c.in_ok-scripts.ensures.events
+          c.in_ok-exchange.exchange.id c.in_ok-ports.ports.items c.in_ok-ports.ensures c.new-clock.result
+          (c.new-clock.ensures.clock ∙ c.new-2.ensures) c.new-clock.ensures.answers c.in_ok-report.report
+          (keeping_run trace_told PlaysOn
+          (λ (k : RecordingClock). Some
+          (readings_in_order k.answers)) GivesAnswers _ _ _ c.args.geometry c.in_ok-ports.ports.items c.new-clock.result
+          c.in_ok-report.report
+          c.in_ok-report.ensures.run c.in_ok-store.ensures.sizes c.in_ok-store.ensures.keeps)
+          all.1,
+      all.0,
+    )

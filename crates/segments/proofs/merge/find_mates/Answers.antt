@@ -1,0 +1,120 @@
+use Rattle.std.proofs.Common.{◌≡◌, ◌+◌, ◌-◌, ◌<◌, ℕ, suc, get_or, drop, length, sym, ap, subst, ◌∙◌, arith, add-one}
+use Rattle.std.proofs.Math.ListN.{set}
+use Rattle.std.proofs.Math.Seq.{drop-length}
+use Rattle.std.proofs.lemmas.List.{get_or_default}
+use Rattle.segments.specs.declared.merge.Rest.TheVariants.{Nothing}
+use Rattle.segments.specs.Inside.{shown_segments}
+use Rattle.segments.specs.Starts.{AreRests, with_front}
+use Rattle.segments.proofs.MateLemmas.{IsFound, rests_more, rests_same, found_same, found_here, free_mate, no_mate}
+use Rattle.segments.proofs.merge.find_mates.Goals as goal
+use Rattle.segments.proofs.merge.find_mates.Goals.{else-place-high-via-then-place-high+else-has_mate, else-place-high-via-else-place-high}
+
+pub loop-place-init : goal.loop-place-init
+loop-place-init c =
+    let us = shown_segments c.args.segments.now in
+    let order = c.args.order.now in
+    let most = c.requires.looked.1 in
+    let least = c.requires.looked.0 in
+    record {
+      within = omega (arith, least, most);
+      count = c.clear_rests.ensures.count;
+      rests = subst (λ xs. AreRests us xs c.clear_rests.new.rests.items) (sym (drop-length order))
+          (c.clear_rests.ensures.rests us);
+      found = λ k le lt. absurd (omega (arith, le, lt, most));
+    }
+
+pub loop-place-preserved-then-has_mate : goal.loop-place-preserved-then-has_mate
+loop-place-preserved-then-has_mate c =
+    let us = shown_segments c.args.segments.now in
+    let order = c.args.order.now in
+    let k = c.loop-place.place - 1 in
+    let some = c.loop-place-test.true in
+    let most = c.loop-place.auto.place in
+    let up : c.loop-place.place ≡ suc k = omega (arith, some, add-one k) in
+    let lt : k < length order = omega (arith, some, most) in
+    let known = c.requires.in_range k 0 lt in
+    let T = c.loop-place.rests in
+    let long = T.ok.0 in
+    let count = c.loop-place.invariant.count in
+    let o = c.in-Some.opening in
+    let small = (c.requires.dated (get_or order k 0) _ known o c.in-Some.is).0 in
+    let read : c.index-rest.result.now ≡ get_or T.items o.bucket Nothing = c.index-rest.ensures
+    ∙ get_or_default T.items o.bucket c.index-rest.result.now Nothing (omega (arith, long, count, small)) in
+    let next : c.with_front.result ≡ with_front (get_or T.items o.bucket Nothing) o.moment =
+    c.with_front.ensures ∙ ap (λ r. with_front r o.moment) read in
+    let a = subst (λ n. AreRests us (drop n order) T.items) up c.loop-place.invariant.rests in
+    let mate = sym c.has_mate.ensures ∙ c.if-has_mate.true in
+    let near = c.if-place-high.true in
+    record {
+      within = omega (arith, some);
+      count = count;
+      rests = subst (λ r. AreRests us (drop k order) (set T.items o.bucket r)) (sym next)
+          (rests_more c.args.segments.now order T.items k _ o lt known c.in-Some.is (omega (arith, long, count)) small a);
+      found = found_here c.args.segments.now order T.items k c.args.high _ o c.index-rest.result.now lt known c.in-Some.is
+          small a read mate (omega (arith, near));
+    }
+
+pub loop-place-preserved-else-place-high : goal.loop-place-preserved-else-place-high
+loop-place-preserved-else-place-high c =
+    let us = shown_segments c.args.segments.now in
+    let order = c.args.order.now in
+    let k = c.loop-place.place - 1 in
+    let some = c.loop-place-test.true in
+    let most = c.loop-place.auto.place in
+    let up : c.loop-place.place ≡ suc k = omega (arith, some, add-one k) in
+    let lt : k < length order = omega (arith, some, most) in
+    let known = c.requires.in_range k 0 lt in
+    let T = c.loop-place.rests in
+    let long = T.ok.0 in
+    let count = c.loop-place.invariant.count in
+    let o = c.in-Some.opening in
+    let small = (c.requires.dated (get_or order k 0) _ known o c.in-Some.is).0 in
+    let read : c.index-rest.result.now ≡ get_or T.items o.bucket Nothing = c.index-rest.ensures
+    ∙ get_or_default T.items o.bucket c.index-rest.result.now Nothing (omega (arith, long, count, small)) in
+    let next : c.with_front.result ≡ with_front (get_or T.items o.bucket Nothing) o.moment =
+    c.with_front.ensures ∙ ap (λ r. with_front r o.moment) read in
+    let a = subst (λ n. AreRests us (drop n order) T.items) up c.loop-place.invariant.rests in
+    let f = subst (λ n. IsFound us order n c.args.high c.loop-place.found) up c.loop-place.invariant.found in
+    record {
+      within = omega (arith, some);
+      count = count;
+      rests = subst (λ r. AreRests us (drop k order) (set T.items o.bucket r)) (sym next)
+          (rests_more c.args.segments.now order T.items k _ o lt known c.in-Some.is (omega (arith, long, count)) small a);
+      found = elim c.else-place-high.branch [
+        | else-place-high-via-then-place-high+else-has_mate w ↦
+            found_same us order k c.args.high c.loop-place.found
+            (λ _. no_mate c.args.segments.now order T.items k _ o c.index-rest.result.now lt known c.in-Some.is small a read
+            (sym w.has_mate.ensures ∙ w.if-has_mate.false)) f
+        | else-place-high-via-else-place-high w ↦
+            (let far = w.if-place-high.false in
+            found_same us order k c.args.high c.loop-place.found (λ less. absurd (omega (arith, far, less))) f)
+      ];
+    }
+
+pub loop-place-preserved : goal.loop-place-preserved
+loop-place-preserved c =
+    let us = shown_segments c.args.segments.now in
+    let order = c.args.order.now in
+    let k = c.loop-place.place - 1 in
+    let some = c.loop-place-test.true in
+    let most = c.loop-place.auto.place in
+    let up : c.loop-place.place ≡ suc k = omega (arith, some, add-one k) in
+    let lt : k < length order = omega (arith, some, most) in
+    let known = c.requires.in_range k 0 lt in
+    let a = subst (λ n. AreRests us (drop n order) c.loop-place.rests.items) up c.loop-place.invariant.rests in
+    let f = subst (λ n. IsFound us order n c.args.high c.loop-place.found) up c.loop-place.invariant.found in
+    record {
+      within = omega (arith, some);
+      count = c.loop-place.invariant.count;
+      rests = rests_same c.args.segments.now order c.loop-place.rests.items k _ lt known c.in_default.is a;
+      found = found_same us order k c.args.high c.loop-place.found
+          (λ _. free_mate c.args.segments.now order k _ known c.in_default.is) f;
+    }
+
+pub returns-clause-next : goal.returns-clause-next
+returns-clause-next c =
+    let us = shown_segments c.args.segments.now in
+    let past = c.loop-place-test.false in
+    let within = c.loop-place.invariant.within in
+    let done : c.loop-place.place ≡ c.args.low = omega (arith, past, within) in
+    subst (λ n. IsFound us c.args.order.now n c.args.high c.loop-place.found) done c.loop-place.invariant.found

@@ -1,0 +1,36 @@
+use Rattle.std.proofs.Common.{false, [], refl, sym, ◌∙◌}
+use Rattle.std.specs.Prelude.{⊤}
+use Rattle.segcache.specs.Keeping.{KeepsStored}
+use Rattle.segcache.specs.StoreState.{sizes_in}
+use Rattle.serving.specs.Runs.{socket_told, clock_told}
+use denote.Exit.{no}
+use denote.Param.Send.{param_send, arg_send}
+use Rattle.serving.proofs.Ports.{new_of}
+use Rattle.serving.proofs.Sends.{port_sends}
+use Rattle.group.proofs.Keeping.{keeping_run}
+use Rattle.serving.proofs.service.run_workers.Goals as goal
+
+pub run_group-requires-clause-ports : goal.run_group-requires-clause-ports
+run_group-requires-clause-ports g c κs within = new_of c.args.geometry c.args.options.now.dialect c.args.exchange.id c.args.ports.items c.requires.ports
+
+pub run_group-requires-send-P : goal.run_group-requires-send-P
+run_group-requires-send-P g c κs within = param_send 0 _ (arg_send _ no _ (port_sends _ c.type_bounds.send-H))
+
+-- the segmented store refuses no request that stores
+pub run_group-requires-clause-refuses : goal.run_group-requires-clause-refuses
+run_group-requires-clause-refuses g c κs within = λ none. refl
+
+pub returns : goal.returns
+returns g c = record {
+  exchange = c.args.exchange.id;
+  ports = c.args.ports.items;
+  new_ports = c.requires.ports;
+  count = sym c.args.ports.ok.0 ∙ c.requires.count;
+  store = c.args.store;
+  new_store = c.requires.store;
+  clock = c.new-clock.result;
+  unread = c.new-clock.ensures;
+  run = keeping_run socket_told (λ _ _. ⊤) clock_told (λ _ _. ⊤) (KeepsStored c.args.store.map []) false (sizes_in c.args.store)
+      c.args.geometry c.args.ports.items c.new-clock.result c.in_ok-report.report c.in_ok-report.ensures.run
+      c.requires.store.sizes_are c.requires.store.keeps;
+}

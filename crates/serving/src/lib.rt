@@ -1,0 +1,11 @@
+//! `segcached serve`, and the seed of the hash of its keys.
+#![tactic(auto)]
+
+mod fault;
+mod operator;
+mod seed;
+mod service;
+
+pub use fault::Fault;
+pub use seed::seed_of;
+pub use service::{Report, serve, serve_to_end};

@@ -1,0 +1,352 @@
+//! `segcached serve`.
+
+ghost use Rattle.std.specs.Prelude.{◌≡◌, ℕ, List, vec_len, IfOk, OnOk};
+ghost use Rattle.std.specs.String.{string_bytes};
+ghost use Rattle.std.specs.Io.KnownBytes.{Appends};
+ghost use Rattle.serving.specs.Listening.{IsListeningLine};
+ghost use Rattle.serving.specs.NewStores.{IsNewStore};
+ghost use Rattle.worker_port.specs.Giving.{by_system_clock};
+ghost use Rattle.net.specs.Traces.{trace_of, IsNew};
+ghost use Rattle.serving.specs.Runs.{AreNewPorts, IsServed};
+
+use crate::fault::Fault;
+use crate::operator::{Operator, Watch};
+use command_line::{ServeOptions, on_one_line, options_in_force};
+use exchange::{Exchange, ExchangeName};
+use group::{Config, GroupReport, run_group};
+use net::{Hand, ListenReport, Listener, MioPort, NetFault, Owner, StreamSender};
+use proto::{Geometry, MAX_SESSIONS, Terms};
+use segcache::Store;
+use std::alloc::Global;
+use std::io::{Eprint, Write};
+use std::net::Net;
+use std::sync::Wait;
+use std::thread::{self, JoinHandle, Threads};
+use std::time;
+use storage_thread::UnixClock;
+use worker::OpenGate;
+
+/// What a served group leaves.
+pub type Report<H> = GroupReport<MioPort<H>, UnixClock<H>>;
+
+/// That it can't listen, for this reason.
+fn cannot_listen(alloc: Global, options: &ServeOptions, fault: NetFault) -> Fault {
+    match fault {
+        NetFault::NoMemory => Fault::NoMemory,
+        NetFault::BadAddress | NetFault::Bind | NetFault::Poll => {
+            match on_one_line(alloc, options.listen.as_str()) {
+                Ok(addr) => Fault::CannotListen(addr),
+                Err(_) => Fault::NoMemory,
+            }
+        }
+    }
+}
+
+/// A port of this exchange, with the limits of the options.
+fn new_port<H>(
+    rt: H,
+    alloc: Global,
+    hand: Hand,
+    owner: Owner,
+    exchange: ExchangeName,
+    options: &ServeOptions,
+) -> Result<MioPort<H>, NetFault>
+where
+    H: Wait + Net + time::Clock + Copy + Drop,
+    ensures { IfOk result (λ port. IsNew owner.geometry owner.dialect owner.worker exchange (trace_of port.served)) }
+{
+    let mut port = MioPort::new(rt, alloc, hand, owner, exchange)?;
+    if let Some(seconds) = options.idle {
+        port.set_idle_limit(seconds);
+    }
+    if let Some(micros) = options.spin {
+        port.set_spin(micros);
+    }
+    Ok(port)
+}
+
+/// A port for each worker of the exchange, and the listener's ends of their hands, which take as many streams as a
+/// worker opens sessions in a run.
+fn make_ports<H>(
+    rt: H,
+    alloc: Global,
+    geometry: Geometry,
+    exchange: &Exchange,
+    options: &ServeOptions,
+) -> Result<(Vec<StreamSender>, Vec<MioPort<H>>), NetFault>
+where
+    H: Wait + Net + time::Clock + Copy + Drop,
+    ensures new { IfOk result (λ made. AreNewPorts geometry options.entry.now.dialect exchange.entry.now.id
+        made.1.items) }
+    ensures count { IfOk result (λ made. vec_len made.1 ≡ options.entry.now.workers) }
+{
+    let workers = options.workers as usize;
+    let mut hands = Vec::with_capacity(alloc, workers)?;
+    let mut ports = Vec::with_capacity(alloc, workers)?;
+    for worker in 0..workers {
+        let (of_listener, of_port) = Hand::pair(&rt, alloc, MAX_SESSIONS)?;
+        hands.push(of_listener)?;
+        let owner = Owner {
+            geometry,
+            dialect: options.dialect,
+            worker,
+        };
+        let port = new_port(rt, alloc, of_port, owner, exchange.name(), options)?;
+        ports.push(port)?;
+    }
+    Ok((hands, ports))
+}
+
+/// The line of the options' address, with the real port after its last colon.
+fn listening_line(alloc: Global, options: &ServeOptions, port: u16) -> Result<String, Fault>
+    ensures { IfOk result (λ line. IsListeningLine (string_bytes options.entry.now.listen) port (string_bytes line)) }
+{
+    let Some((host, _)) = options.listen.rsplit_once(':') else {
+        return Err(cannot_listen(alloc, options, NetFault::BadAddress));
+    };
+    let mut line = String::from_str(alloc, "listening on ")?;
+    line.push_str(host)?;
+    line.push_str(":")?;
+    line.push_str(port.to_string(alloc)?.as_str())?;
+    line.push_str("\n")?;
+    Ok(line)
+}
+
+/// Prints that it listens, with the real port.
+fn announce<W: Write>(
+    alloc: Global,
+    options: &ServeOptions,
+    port: u16,
+    out: &mut W,
+) -> Result<(), Fault>
+    ensures { OnOk result ((line : List ℕ) × IsListeningLine (string_bytes options.entry.now.listen) port line
+        × Appends (W.contents out.old) (W.contents out.new) line) }
+{
+    let line = listening_line(alloc, options, port)?;
+    if out.write_all(line.as_bytes()).is_err() || out.flush().is_err() {
+        return Err(Fault::CannotWrite);
+    }
+    Ok(())
+}
+
+/// What is made before the line is printed: the listener with its ends of the hands, the exchange, its workers' ports and
+/// the store.
+#[derive(Drop)]
+struct Opened<H: Drop> {
+    listener: Listener,
+    hands: Vec<StreamSender>,
+    exchange: Exchange,
+    ports: Vec<MioPort<H>>,
+    store: Store,
+}
+
+/// Listens on the options' address, and makes the rest.
+fn open<H>(
+    rt: H,
+    alloc: Global,
+    options: &ServeOptions,
+    geometry: Geometry,
+    seed: u64,
+) -> Result<Opened<H>, Fault>
+where
+    H: Wait + Net + time::Clock + Copy + Drop,
+    ensures store { IfOk result (λ opened. IsNewStore geometry options.entry.now opened.store) }
+    ensures exchange { IfOk result (λ opened. (opened.exchange.workers ≡ options.entry.now.workers)
+        × (opened.exchange.terms ≡ by_system_clock geometry)) }
+    ensures ports { IfOk result (λ opened. AreNewPorts geometry options.entry.now.dialect opened.exchange.id
+        opened.ports.items) }
+    ensures count { IfOk result (λ opened. vec_len opened.ports ≡ options.entry.now.workers) }
+{
+    let listener = match Listener::bind(&rt, alloc, options.listen.as_str()) {
+        Ok(listener) => listener,
+        Err(fault) => return Err(cannot_listen(alloc, options, fault)),
+    };
+    let terms = Terms {
+        geometry,
+        system_clock: true,
+        may_refuse: false,
+    };
+    let exchange = Exchange::new(alloc, options.workers as usize, terms)?;
+    let (hands, ports) = match make_ports(rt, alloc, geometry, &exchange, options) {
+        Ok(made) => made,
+        Err(fault) => return Err(cannot_listen(alloc, options, fault)),
+    };
+    Ok(Opened {
+        listener,
+        hands,
+        exchange,
+        ports,
+        store: Store::seeded(
+            alloc,
+            geometry,
+            0,
+            seed,
+            options.update_in_place,
+            options.dialect,
+            options.eviction,
+        )?,
+    })
+}
+
+/// Accepts streams in a thread of its own, up to the limit. The address is free again once it has ended.
+fn start_listening<H>(
+    rt: H,
+    watch: Option<Watch>,
+    mut listener: Listener,
+    mut hands: Vec<StreamSender>,
+    limit: Option<u64>,
+) -> Result<JoinHandle<ListenReport>, Fault>
+where
+    H: Threads + Wait + time::Clock + Eprint + Copy + Drop + Send + 'static,
+{
+    thread::spawn(&rt, move || {
+        os::set_thread_name(b"listener");
+        let mut operator = Operator { rt, watch };
+        listener.run_heard(&rt, hands.as_mut_slice(), limit, &mut operator)
+    })
+    .map_err(|_| Fault::NoThread)
+}
+
+/// Runs a worker of the exchange for each port over the store, as the options say, until all have ended.
+fn run_workers<H>(
+    rt: H,
+    alloc: Global,
+    ports: Vec<MioPort<H>>,
+    exchange: Exchange,
+    store: Store,
+    geometry: Geometry,
+    options: &ServeOptions,
+) -> Result<Report<H>, Fault>
+where
+    H: Threads + Wait + time::Clock + Copy + Drop + Send + Sync + 'static,
+    requires store { IsNewStore geometry options.now store }
+    requires count { vec_len ports ≡ options.now.workers }
+    requires exchange { (exchange.workers ≡ vec_len ports) × (exchange.terms ≡ by_system_clock geometry) }
+    requires ports { AreNewPorts geometry options.now.dialect exchange.id ports.items }
+    ensures { IfOk result (λ report. IsServed geometry options.entry.now report) }
+{
+    let config = Config {
+        terms: Terms {
+            geometry,
+            system_clock: true,
+            may_refuse: false,
+        },
+        dialect: options.dialect,
+        spin: options.spin,
+    };
+    let clock = UnixClock::new(rt);
+    let report = run_group(&rt, alloc, ports, exchange, config, store, clock, &OpenGate)?;
+    Ok(report)
+}
+
+/// Accepts streams up to the options' limit, and runs the workers until they have ended.
+fn run<H>(
+    rt: H,
+    alloc: Global,
+    opened: Opened<H>,
+    geometry: Geometry,
+    options: &ServeOptions,
+) -> Result<Report<H>, Fault>
+where
+    H: Threads + Wait + Net + time::Clock + Eprint + Copy + Drop + Send + Sync + 'static,
+    requires store { IsNewStore geometry options.now opened.store }
+    requires count { vec_len opened.ports ≡ options.now.workers }
+    requires exchange { (opened.exchange.workers ≡ vec_len opened.ports)
+        × (opened.exchange.terms ≡ by_system_clock geometry) }
+    requires ports { AreNewPorts geometry options.now.dialect opened.exchange.id opened.ports.items }
+    ensures { IfOk result (λ report. IsServed geometry options.entry.now report) }
+{
+    let Opened {
+        listener,
+        hands,
+        exchange,
+        ports,
+        store,
+    } = opened;
+    let listening = start_listening(
+        rt,
+        Watch::new(&rt, alloc),
+        listener,
+        hands,
+        options.sessions,
+    )?;
+    let report = run_workers(rt, alloc, ports, exchange, store, geometry, options)?;
+    listening.join(&rt);
+    Operator::new(rt, alloc).has_ended();
+    Ok(report)
+}
+
+/// Tells the operator the options in force, and prints that it listens.
+fn announce_all<H, W: Write>(
+    rt: H,
+    alloc: Global,
+    options: &ServeOptions,
+    port: u16,
+    out: &mut W,
+) -> Result<(), Fault>
+where
+    H: Eprint + Net + Drop,
+    ensures { OnOk result ((line : List ℕ) × IsListeningLine (string_bytes options.entry.now.listen) port line
+        × Appends (W.contents out.old) (W.contents out.new) line) }
+{
+    let in_force = options_in_force(alloc, options)?;
+    Operator::new(rt, alloc).serves_with(in_force.as_str());
+    announce(alloc, options, port, out)
+}
+
+/// Listens on the options' address, prints it, and serves: a thread accepts streams, a group of workers serves them,
+/// and moments are Unix seconds. Keys are hashed with the seed. With a number of sessions it accepts that many streams,
+/// and ends once their sessions have ended; else it goes on until each worker was given as many streams as it opens in
+/// a run, and ends in the same way. It leaves what the group left.
+///
+/// # Errors
+///
+/// CannotListen if the address is none, can't be bound or can't be watched; CannotWrite if the line of the address
+/// can't be printed; NoThread if the thread that accepts can't be started; Exchange if there is no memory for the
+/// exchange; Group if the group doesn't run, since a thread of it can't be started or it has no memory; NoMemory if
+/// memory is missing elsewhere.
+pub fn serve<H, W: Write>(
+    rt: H,
+    alloc: Global,
+    options: &ServeOptions,
+    geometry: Geometry,
+    seed: u64,
+    out: &mut W,
+) -> Result<Report<H>, Fault>
+where
+    H: Threads + Wait + Net + time::Clock + Eprint + Copy + Drop + Send + Sync + 'static,
+    ensures announced { OnOk result ((port : ℕ) × (line : List ℕ)
+        × IsListeningLine (string_bytes options.entry.now.listen) port line
+        × Appends (W.contents out.old) (W.contents out.new) line) }
+    ensures served { IfOk result (λ report. IsServed geometry options.entry.now report) }
+{
+    let opened = open(rt, alloc, options, geometry, seed)?;
+    announce_all(rt, alloc, options, opened.listener.port(), out)?;
+    run(rt, alloc, opened, geometry, options)
+}
+
+/// Serves as `serve` does, and drops what the group left.
+///
+/// # Errors
+///
+/// As of `serve`.
+pub fn serve_to_end<H, W: Write>(
+    rt: H,
+    alloc: Global,
+    options: &ServeOptions,
+    geometry: Geometry,
+    seed: u64,
+    out: &mut W,
+) -> Result<(), Fault>
+where
+    H: Threads + Wait + Net + time::Clock + Eprint + Copy + Drop + Send + Sync + 'static,
+    ensures announced { OnOk result ((port : ℕ) × (line : List ℕ)
+        × IsListeningLine (string_bytes options.entry.now.listen) port line
+        × Appends (W.contents out.old) (W.contents out.new) line) }
+    // there was such a report
+    ensures served { OnOk result ((report : GroupReport (MioPort H) (UnixClock H))
+        × IsServed geometry options.entry.now report) }
+{
+    serve(rt, alloc, options, geometry, seed, out)?;
+    Ok(())
+}

@@ -1,0 +1,70 @@
+#!/usr/bin/python3
+"""FreeRADIUS with its cache in a server: whether it starts. Usage: freeradius_calls.py PORT.
+
+When a connection to the cache is opened it asks for the version, and doesn't start without one.
+"""
+import os
+import shutil
+import subprocess
+import sys
+import tempfile
+
+from calls import Calls
+
+HOME = "/etc/freeradius/3.0"
+MODULE = """cache stored {{
+    driver = "rlm_cache_memcached"
+    memcached {{
+        options = "--SERVER=127.0.0.1:{port}"
+        pool {{
+            start = 1
+            min = 1
+            spare = 1
+            max = 2
+        }}
+    }}
+    key = "%{{User-Name}}"
+    ttl = 60
+    update {{
+        &reply:Class := "x"
+    }}
+}}
+"""
+SITE = """server one {
+    listen {
+        type = auth
+        ipaddr = 127.0.0.1
+        port = 0
+    }
+    authorize {
+        stored
+    }
+}
+"""
+
+
+def starts(port):
+    """Whether it says that it is ready, before it ends or ten seconds are over."""
+    with tempfile.TemporaryDirectory() as folder:
+        shutil.copytree(HOME, f"{folder}/raddb", symlinks=False, ignore_dangling_symlinks=True)
+        for path in os.listdir(f"{folder}/raddb/sites-enabled"):
+            os.remove(f"{folder}/raddb/sites-enabled/{path}")
+        with open(f"{folder}/raddb/mods-enabled/stored", "w", encoding="ascii") as file:
+            file.write(MODULE.format(port=port))
+        with open(f"{folder}/raddb/sites-enabled/one", "w", encoding="ascii") as file:
+            file.write(SITE)
+        words = ["timeout", "10", "freeradius", "-d", f"{folder}/raddb", "-X"]
+        with subprocess.Popen(words, stdout=subprocess.PIPE, stderr=subprocess.STDOUT, text=True, errors="replace") as server:
+            is_ready = any("Ready to process requests" in line for line in server.stdout)
+            server.terminate()
+    return is_ready
+
+
+def main():
+    calls = Calls("FreeRADIUS")
+    calls.check("starts", lambda: starts(sys.argv[1]), True)
+    calls.report()
+
+
+if __name__ == "__main__":
+    main()

@@ -373,20 +373,25 @@ impl Book {
         self.upkeep.reads_on
     }
 
-    /// Takes out the next session that is to be asked: one that was put off comes where no other is to be asked, or after as many
-    /// others as a window has requests.
+    /// Takes out the next session that is to be asked. One that was put off comes where no other is to be asked, or once as many
+    /// others as a window has requests went before it. From then on no other is asked until the unsettled requests have few keys,
+    /// so that it doesn't wait for ever.
     pub fn next_to_ask(&mut self) -> Option<u64>
         ensures { self.new ≡ self.old }
     {
-        let others = self.ready(Task::Ask);
-        if self.upkeep.keys <= MANY_UNSETTLED && (others == 0 || self.upkeep.passed >= WINDOW) {
+        if self.ready(Task::AskMany) == 0 {
             self.upkeep.passed = 0;
-            if let Some(session) = self.next_ready(Task::AskMany) {
-                return Some(session);
-            }
+            return self.next_ready(Task::Ask);
         }
-        self.upkeep.passed = self.upkeep.passed.saturating_add(1);
-        self.next_ready(Task::Ask)
+        if self.ready(Task::Ask) > 0 && self.upkeep.passed < WINDOW {
+            self.upkeep.passed = self.upkeep.passed.saturating_add(1);
+            return self.next_ready(Task::Ask);
+        }
+        if self.upkeep.keys > MANY_UNSETTLED {
+            return None;
+        }
+        self.upkeep.passed = 0;
+        self.next_ready(Task::AskMany)
     }
 
     /// Takes out the next session that is to be taken up for the task.

@@ -91,7 +91,7 @@ pub(crate) struct Upkeep {
     pub(crate) waiting: usize,
     /// Whether the session that was asked last can be read further.
     pub(crate) reads_on: bool,
-    /// How many sessions were taken out to be asked since one of them had been put off.
+    /// How many sessions were taken out to be asked while another one was put off.
     pub(crate) passed: u64,
 }
 

@@ -182,6 +182,44 @@ fn asks_64_at_a_time(rt: HostRuntime) -> Result<(), Fail> {
     checked
 }
 
+/// Session 1 has 17 requests of 8 keys on their way, and another one to be read; session 2, which asks for 9 keys, is put off.
+fn put_off_the_second(rt: &impl Abort, player: &mut Player) -> Result<(), Fail> {
+    player.open(1)?;
+    player.open(2)?;
+    for number in 1..=17 {
+        player.feed(1, b"get b b b b b b b b\r\n")?;
+        check_ask(rt, player, 1, Some(number))?;
+    }
+    player.feed(1, b"get b b b b b b b b\r\n")?;
+    player.feed(2, b"get b b b b b b b b b\r\n")?;
+    check_same(rt, player.next_to_ask(), Some(1), "the first");
+    player.ask_later(1);
+    check_same(rt, player.next_to_ask(), Some(2), "the second");
+    check_same(rt, player.put_off(2), true, "with 136 keys on their way");
+    Ok(())
+}
+
+/// Others go before it 64 times. Then none is asked before 128 keys or fewer are on their way.
+fn check_put_off(rt: &impl Abort, player: &mut Player) -> Result<(), Fail> {
+    put_off_the_second(rt, player)?;
+    for times in 1..=64 {
+        check_same(rt, player.next_to_ask(), Some(1), times);
+        player.ask_later(1);
+    }
+    check_same(rt, player.next_to_ask(), None, "with 136 keys on their way");
+    check_settle(rt, player, 0, Settled::Kept)?;
+    check_same(rt, player.next_to_ask(), Some(2), "with 128 keys on their way");
+    Ok(())
+}
+
+#[test]
+fn a_get_for_many_keys_does_not_wait_for_ever(rt: HostRuntime) -> Result<(), Fail> {
+    let mut player = Player::new(rt.alloc(), Dialect::Strict, None);
+    let checked = check_put_off(&rt, &mut player);
+    drop(player);
+    checked
+}
+
 fn check_known(rt: &impl Abort, book: &mut Book, sessions: &[u64]) {
     for session in sessions {
         check_open(rt, book, *session, Err(OpenFault::Known));

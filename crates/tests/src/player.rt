@@ -54,6 +54,20 @@ impl Player {
         Ok(Some(number))
     }
 
+    /// Puts the session off if it is to ask for many keys, and the unsettled requests have many.
+    pub fn put_off(&mut self, session: u64) -> bool {
+        self.book.put_off(session)
+    }
+
+    /// Takes out the session that is to be asked next.
+    pub fn next_to_ask(&mut self) -> Option<u64> {
+        self.book.next_to_ask()
+    }
+
+    pub fn ask_later(&mut self, session: u64) {
+        self.book.ask_later(session);
+    }
+
     /// Settles the request at this place among those that weren't settled yet.
     pub fn settle(&mut self, place: usize) -> Result<Option<Settled>, NoMemory> {
         if place >= self.asked.len() {

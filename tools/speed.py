@@ -21,8 +21,8 @@ THREADS = {1: 1, 2: 2, 3: 4}
 # Both servers may ask for huge pages, as docs/OPERATIONS.md says.
 TUNABLES = "glibc.malloc.hugetlb=1"
 # By the bytes of a value, how many segments of 1 MiB segcached has: room for what the load stores, and more.
-SEGMENTS = {100: 128, 1000: 512, 10000: 512}
-KEYS = {100: 100_000, 1000: 100_000, 10000: 10_000}
+SEGMENTS = {100: 128, 1000: 512, 10_000: 512, 100_000: 512}
+KEYS = {100: 100_000, 1000: 100_000, 10_000: 10_000, 100_000: 1000}
 # The load of the longest pause: both servers have 64 MiB, which half of the keys fill.
 PAUSE_MIB, PAUSE_KEYS = 64, 1_000_000
 PAUSE_SEGMENT_SIZES = (MIB, 64 << 10)
@@ -55,6 +55,7 @@ LOADS = (
     Load("one connection, processors apart", ("--connections", 1, "--threads", 1), apart=True),
     Load("one connection, --spin 100", ("--connections", 1), options=SPIN),
     Load("one connection, pipeline 16", ("--pipeline", 16, "--connections", 1)),
+    Load("1,000 connections", ("--connections", 1000)),
     Load("get of 16 keys", ("--many", 16)),
     Load("keys by Zipf's law, pipeline 16", ("--pipeline", 16, "--zipf", 0.99)),
     Load("first answer after a pause of 10 ms", ("--connections", 1, "--rate", 100)),
@@ -66,9 +67,11 @@ LOADS = (
     Load("one set in ten, pipeline 16", ("--pipeline", 16, "--sets", 10)),
     Load("sets, pipeline 16", ("--pipeline", 16, "--sets", 100)),
     Load("1,000-byte values, pipeline 16", ("--pipeline", 16), 1000),
-    Load("10 kB values", (), 10000),
-    Load("10 kB values, pipeline 16", ("--pipeline", 16), 10000),
-    Load("get of 16 keys of 10 kB", ("--many", 16), 10000),
+    Load("10 kB values", (), 10_000),
+    Load("10 kB values, pipeline 16", ("--pipeline", 16), 10_000),
+    Load("get of 16 keys of 10 kB", ("--many", 16), 10_000),
+    Load("sets of 10 kB", ("--sets", 100), 10_000),
+    Load("sets of 100 kB", ("--sets", 100), 100_000),
 )
 
 

@@ -178,7 +178,7 @@ lenient_commands =
     ∷ (codes "append\r\n", Fatal fatal.BadLine)
     ∷ (codes "append a 0 0\r\n", Fatal fatal.BadLine)
     ∷ (codes "prepend a 0 0 1 1\r\n", Fatal fatal.BadLine)
-    ∷ (codes "append a 0 0 131073\r\n", Fatal fatal.TooLarge)
+    ∷ (codes "append a 0 0 8388609\r\n", Fatal fatal.TooLarge)
     ∷ (codes "append a 0 0 1\r\nxyz", Fatal fatal.BadChunk)
     ∷ (codes "appendix a 0 0 1\r\n", Local local.Unknown)
     ∷ (codes "delete a 0\r\n", Ask (Delete a) false)
@@ -201,6 +201,13 @@ lenient_long_lines =
     ∷ (replicate 32767 97 ++ codes "\r", Fatal fatal.LongLine)
     ∷ (codes "get a" ++ replicate 32761 32 ++ line_break, Ask (Get (a ∷ []) false) false)
     ∷ (codes "get a" ++ replicate 32762 32 ++ codes "\r", Fatal fatal.LongLine)
+    ∷ []
+
+-- Leniently a block that is too large for a request is read, and any two bytes end it.
+abbrev pub lenient_blocks : List Example
+lenient_blocks =
+    (codes "set a 0 0 131073\r\n" ++ replicate 131075 97, Local (local.TooLarge false))
+    ∷ (codes "append a 0 0 131073 noreply\r\n" ++ replicate 131073 97 ++ line_break, Local (local.TooLarge true))
     ∷ []
 
 -- what isn't a whole message yet
@@ -240,6 +247,8 @@ AnswersAre =
     × (answer (Local local.Unknown) None ≡ codes "ERROR\r\n")
     × (answer (Local local.Verbosity) None ≡ codes "OK\r\n")
     × (answer (Local local.Silent) None ≡ [])
+    × (answer (Local (local.TooLarge false)) None ≡ codes "SERVER_ERROR object too large for cache\r\n")
+    × (answer (Local (local.TooLarge true)) None ≡ [])
     × (answer (Fatal fatal.LongLine) None ≡ codes "CLIENT_ERROR line too long\r\n")
     × (answer Quit None ≡ [])
 

@@ -2,8 +2,9 @@
 
 ghost use Rattle.std.specs.Prelude.{◌≡◌};
 ghost use Rattle.proto.specs.Lines.{longest_line};
+ghost use Rattle.proto.specs.Grammar.{longest_block};
 
-use crate::limits::{MAX_LENIENT_LINE, MAX_LINE};
+use crate::limits::{MAX_BLOCK, MAX_LENIENT_BLOCK, MAX_LENIENT_LINE, MAX_LINE};
 
 /// How lines may be written.
 #[derive(Clone, Copy, PartialEq, Eq)]
@@ -12,7 +13,8 @@ pub enum Dialect {
     Strict,
     /// Spaces before a line's end don't count, nor does a zero after the key of a `delete`, and with its end a line has at
     /// most 32,768 bytes. It has `append`, `prepend`, `touch`, `version` and `verbosity` too, doesn't answer `cache_memlimit` with
-    /// `noreply`, and refuses the binary protocol by its first byte.
+    /// `noreply`, drops a data block that is too large for the cache and goes on behind it, and refuses the binary protocol by its
+    /// first byte.
     Lenient,
 }
 
@@ -26,6 +28,16 @@ impl Dialect {
                 if *first == 128 { 0 } else { MAX_LENIENT_LINE }
             }
             _ => MAX_LINE,
+        }
+    }
+
+    /// The longest data block in bytes that is read.
+    pub fn longest_block(self) -> u64
+        ensures { result ≡ longest_block self }
+    {
+        match self {
+            Dialect::Strict => MAX_BLOCK,
+            Dialect::Lenient => MAX_LENIENT_BLOCK,
         }
     }
 }

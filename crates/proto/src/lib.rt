@@ -40,8 +40,8 @@ pub use history::{Answered, Posted};
 pub use hits::{Hit, HitRef, HitWriter, Hits, SpareBuffer};
 pub use keys::Keys;
 pub use limits::{
-    MAX_ANSWER, MAX_BLOCK, MAX_KEY, MAX_LENIENT_LINE, MAX_LINE, MAX_POSTS, MAX_SESSIONS,
-    MAX_WORKERS, MIN_ITEM_SIZE, WINDOW,
+    MAX_ANSWER, MAX_BLOCK, MAX_KEPT, MAX_KEY, MAX_LENIENT_BLOCK, MAX_LENIENT_LINE, MAX_LINE,
+    MAX_POSTS, MAX_SESSIONS, MAX_WORKERS, MIN_ITEM_SIZE, WINDOW,
 };
 pub use message::{FatalKind, LocalKind, Message, Next, Put, Reply, Request, Touch};
 pub use next::{next_message, next_message_in, to_message};

@@ -153,7 +153,7 @@ impl PendingAnswer {
         match self.kind {
             AnswerKind::Ask
             | AnswerKind::QuietAsk
-            | AnswerKind::Local(LocalKind::Silent)
+            | AnswerKind::Local(LocalKind::Silent | LocalKind::TooLarge(true))
             | AnswerKind::Quit
             | AnswerKind::Fatal(FatalKind::Binary) => Ok(()),
             AnswerKind::Local(LocalKind::Unknown) => show_line(out, b"ERROR"),
@@ -169,7 +169,8 @@ impl PendingAnswer {
                 out,
                 b"CLIENT_ERROR bad data chunk",
             ),
-            AnswerKind::Fatal(FatalKind::TooLarge) => {
+            AnswerKind::Local(LocalKind::TooLarge(false))
+            | AnswerKind::Fatal(FatalKind::TooLarge) => {
                 show_line(out, b"SERVER_ERROR object too large for cache")
             }
         }

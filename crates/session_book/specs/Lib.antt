@@ -1,3 +1,4 @@
+pub mod Input
 pub mod Session
 pub mod Book
 pub mod Accounts

@@ -12,6 +12,7 @@ use Rattle.proto.specs.Grammar.{SpellsNone}
 use Rattle.proto.specs.Reading.{Reads, asks}
 use Rattle.proto.specs.Needs.{IsUnfinished}
 use Rattle.proto.specs.Answers.{said, is_ask}
+use Rattle.session_book.specs.Input.{kept_length}
 use Rattle.session_book.specs.declared.causes.EndCause.{EndCause}
 use Rattle.session_book.specs.declared.causes.EndCause.TheVariants as causes
 use Rattle.session_book.specs.declared.causes.Received.{Received}
@@ -132,9 +133,9 @@ pub record IsEmptied (s : SessionState) : Type 0 where
   pub unfinished : finished_by s ≡ None
   pub stops : Stops s
 
--- the piece doesn't fit after the unread bytes; it always does once the session drops its input
+-- the piece doesn't fit after the unread bytes that are kept; it always does once the session drops its input
 abbrev pub IsInputFull : SessionState → List ℕ → Type 0
-IsInputFull s piece = (s.ended ≡ None) × (MAX_UNREAD < length s.unread + length piece)
+IsInputFull s piece = (s.ended ≡ None) × (MAX_UNREAD < kept_length s.unread s.need + length piece)
 
 -- the piece is held
 abbrev pub holding : SessionState → List ℕ → SessionState

@@ -5,6 +5,7 @@
 mod book;
 mod buffer;
 mod causes;
+mod input;
 pub mod laws;
 mod session;
 mod upkeep;

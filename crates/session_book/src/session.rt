@@ -11,17 +11,15 @@ ghost use Rattle.proto.specs.Reading.{asks};
 
 use crate::buffer::{Buffer, Use};
 use crate::causes::{EndCause, Received, Unsettled};
+use crate::input::Input;
 use crate::upkeep::{Task, Tickets, Upkeep};
 use bytes::Bytes;
-use proto::{
-    Dialect, Message, NextView, NoMemory, PendingAnswer, Reply, Request, next_view_behind,
-    to_message,
-};
+use proto::{Dialect, Message, NoMemory, PendingAnswer, Reply, Request};
 use std::alloc::Global;
 use std::collections::VecDeque;
 use std::marker::Model;
 
-/// Unread bytes of a session. It is above the longest spelling, a line of 32,768 bytes and a data block of
+/// Unread bytes of a session that are kept. It is above the longest message that is, a line of 32,768 bytes and a data block of
 /// 131,072 with its end, so a session whose input is full always has a message to read.
 pub const MAX_UNREAD: usize = 262_144;
 
@@ -32,8 +30,8 @@ pub const MAX_WAITING: usize = 1_048_576;
 const WORTH_GIVING: usize = 16_384;
 
 /// The room at which a held piece is fed, so that its port gives as many bytes before it is paused again.
-/// What may then be left to read, 196,608 bytes, is above the longest spelling: a session that is read no further, since
-/// no whole message has come, has the room.
+/// What may then be left to read, 196,608 bytes, is above the longest message that is kept: a session that is read no further,
+/// since no whole message has come, has the room.
 const WORTH_FEEDING: usize = 65_536;
 
 /// The keys of a `get` up to which it needn't wait for a large answer.
@@ -53,14 +51,10 @@ pub struct Offer<'a> {
 #[derive(Drop)]
 pub struct Session {
     alloc: Global,
-    dialect: Dialect,
-    input: Buffer,
-    /// How many bytes in front of the input were searched for a line's end, and none was there.
-    searched: usize,
+    input: Input,
     queue: VecDeque<PendingAnswer>,
     output: Buffer,
     ended: Option<EndCause>,
-    need: usize,
     held: Option<Bytes>,
     /// No more input comes.
     is_over: bool,
@@ -69,25 +63,22 @@ pub struct Session {
 
 impl Model for Session {
     ghost use Rattle.std.specs.Prelude.{◌≡◌, true, [], unwrap_or};
-    ghost use Rattle.proto.specs.Lines.{IsSearched};
-    ghost use Rattle.proto.specs.Needs.{NeedsMore};
     ghost use Rattle.session_book.specs.Session.{SessionState, begins_asked};
 
     ghost Value = { SessionState };
 
     ghost view = { λ a. record {
-      dialect = a.dialect;
-      unread = a.input;
+      dialect = a.input.dialect;
+      unread = a.input.unread;
       queue = a.queue.items;
       out = a.output;
       ended = a.ended;
-      need = a.need;
+      need = a.input.need;
       held = unwrap_or a.held [];
       is_over = a.is_over;
     } };
 
-    ghost invariant = { λ a. (begins_asked a.queue.items ≡ true) × NeedsMore a.dialect a.input a.need
-        × IsSearched a.input a.searched };
+    ghost invariant = { λ a. begins_asked a.queue.items ≡ true };
 }
 
 impl Session {
@@ -100,13 +91,10 @@ impl Session {
     {
         Session {
             alloc,
-            dialect,
-            input: Buffer::new(alloc),
-            searched: 0,
+            input: Input::new(alloc, dialect),
             queue: VecDeque::new(alloc),
             output: Buffer::new(alloc),
             ended: None,
-            need: 1,
             held: None,
             is_over: false,
             tickets: Tickets::none(),
@@ -152,7 +140,7 @@ impl Session {
         ensures not_fed { (result ≡ Ok true → ⊥) → self.new ≡ self.old }
     {
         if self.ended.is_none() {
-            if piece.len() > MAX_UNREAD || self.input.len() > MAX_UNREAD - piece.len() {
+            if piece.len() > MAX_UNREAD || self.input.kept().len() > MAX_UNREAD - piece.len() {
                 return Ok(false);
             }
             self.input.append(piece, &mut upkeep.spares)?;
@@ -162,8 +150,7 @@ impl Session {
     }
 
     /// Reads messages up to the next request, for which there is room among the unsettled ones then, and counts the calls
-    /// of the parser. The bytes are read in place, and a request is copied out of them once. A line that isn't whole yet is
-    /// searched for its end from where the last call of the parser stopped.
+    /// of the parser. The bytes are read in place, and a request is copied out of them once.
     pub fn next_ask(
         &mut self,
         unsettled: &mut VecDeque<Unsettled>,
@@ -179,22 +166,14 @@ impl Session {
         while self.is_ready() {
             unsettled.reserve(1)?;
             *looks = looks.saturating_add(1);
-            match next_view_behind(self.dialect, self.input.as_slice(), &mut self.searched) {
-                NextView::More(need) => {
-                    self.need = need;
-                    return Ok(None);
-                }
-                NextView::Found(view, length) => {
-                    let message = to_message(alloc, view)?;
-                    put_behind(&mut self.queue, &mut self.output, &message, upkeep)?;
-                    self.input.discard(length, Use::Input, &mut upkeep.spares);
-                    self.searched = 0;
-                    self.need = 1;
-                    self.ended = cause_of(&message);
-                    if let Message::Ask(request, _) = message {
-                        return Ok(Some(request));
-                    }
-                }
+            let Some((message, length)) = self.input.next(alloc, &mut upkeep.spares)? else {
+                return Ok(None);
+            };
+            put_behind(&mut self.queue, &mut self.output, &message, upkeep)?;
+            self.input.take(length, &mut upkeep.spares);
+            self.ended = cause_of(&message);
+            if let Message::Ask(request, _) = message {
+                return Ok(Some(request));
             }
         }
         Ok(None)
@@ -219,12 +198,12 @@ impl Session {
         ensures ready { OnTrue result (IsReady self.now) }
         ensures stops { OnFalse result (Stops self.now) }
     {
-        self.need <= self.input.len() && self.ended.is_none() && self.output.len() <= MAX_WAITING
+        self.input.has_enough() && self.ended.is_none() && self.output.len() <= MAX_WAITING
     }
 
     /// Whether it is worth feeding. A session that has ended drops what it is fed.
     fn has_room(&self) -> bool {
-        self.ended.is_some() || self.input.len() <= MAX_UNREAD - WORTH_FEEDING
+        self.ended.is_some() || self.input.kept().len() <= MAX_UNREAD - WORTH_FEEDING
     }
 
     /// Gives the first request of the queue its reply. Where there is no memory for the bytes the session is of no further
@@ -308,7 +287,7 @@ impl Session {
         if self.ended.is_some() {
             return self.ended;
         }
-        if self.is_over && self.held().is_empty() && self.input.len() < self.need {
+        if self.is_over && self.held().is_empty() && !self.input.has_enough() {
             return Some(EndCause::EndOfInput);
         }
         None
@@ -331,7 +310,7 @@ impl Session {
     pub fn put_off(&mut self, session: u64, upkeep: &mut Upkeep) -> bool
         ensures { self.new ≡ self.old }
     {
-        let asks_for_many = asks_for_many(self.input.as_slice());
+        let asks_for_many = asks_for_many(self.input.kept());
         if asks_for_many {
             upkeep.add(Task::AskMany, session, &mut self.tickets.ask);
         }

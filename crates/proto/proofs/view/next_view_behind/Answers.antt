@@ -4,10 +4,9 @@ use Rattle.std.proofs.lemmas.List.{take_min, take_all}
 use Rattle.proto.specs.declared.dialect.Dialect.{Dialect}
 use Rattle.proto.specs.declared.message.FatalKind.TheVariants as fatal
 use Rattle.proto.specs.declared.view.MessageView.TheVariants as messages
-use Rattle.proto.specs.declared.view.NextView.TheVariants as finds
 use Rattle.proto.specs.Lines.{has_line_end, longest_line}
 use Rattle.proto.proofs.LineSearch.{searched_front}
-use Rattle.proto.proofs.NextLemmas.{line_found, next_long, next_short, need_short, is_view}
+use Rattle.proto.proofs.NextLemmas.{line_found, next_long, next_short, need_short, longest_least, is_found, is_more}
 use Rattle.proto.proofs.view.next_view_behind.Goals as goal
 
 -- the bytes in which a line end is searched
@@ -33,8 +32,8 @@ returns-then-input-longest-clause-view c =
     let longest = c.longest_line-longest.ensures in
     let front = front_is c.args.dialect b _ _ _ longest c.min.ensures c.split_at.ensures.front in
     let clear = line_found c.args.dialect b None (rw front at c.in_default.ensures) in
-    rw longest (is_view c.args.dialect b (finds.Found (messages.Fatal fatal.LongLine) (longest_line c.args.dialect b))
-    (next_long c.args.dialect b clear (rw longest at c.if-input-longest.true) (rw longest at c.if-longest-eq0.false)) tt)
+    rw longest (is_found c.args.dialect b (messages.Fatal fatal.LongLine) (longest_line c.args.dialect b)
+    (next_long c.args.dialect b clear (rw longest at c.if-input-longest.true) (rw longest at c.if-longest-eq0.false)))
 
 pub returns-clause-view : goal.returns-clause-view
 returns-clause-view c =
@@ -43,8 +42,8 @@ returns-clause-view c =
     let front = front_is c.args.dialect b _ _ _ longest c.min.ensures c.split_at.ensures.front in
     let clear = line_found c.args.dialect b None (rw front at c.in_default.ensures) in
     let short : length b < longest_line c.args.dialect b = rw longest at c.if-input-longest.false in
-    is_view c.args.dialect b (finds.More (length b + 1)) (next_short c.args.dialect b clear short)
-    (need_short c.args.dialect b clear short)
+    is_more c.args.dialect b (length b + 1) (next_short c.args.dialect b clear short)
+    (need_short c.args.dialect b clear short) (omega (arith, short, longest_least c.args.dialect b))
 
 pub returns-clause-searched : goal.returns-clause-searched
 returns-clause-searched c =

@@ -1,0 +1,45 @@
+-- The unread bytes of a session, and what they begin with.
+use Rattle.std.specs.Prelude.{◌≡◌, ℕ, ◌-◌, ◌<◌, ◌≤◌, ◌⊎◌, Bool, List, [], ◌++◌, length, take, nat_lt, if◌then◌else◌}
+use Rattle.std.specs.Prelude.{Option, Some, None, Result, Ok, Err}
+use Rattle.proto.specs.declared.dialect.Dialect.{Dialect}
+use Rattle.proto.specs.declared.limits.TheConstants.{MAX_KEPT}
+use Rattle.proto.specs.declared.message.Message.{Message}
+use Rattle.proto.specs.declared.message.Message.TheVariants.{Local}
+use Rattle.proto.specs.declared.message.LocalKind.TheVariants as local
+use Rattle.proto.specs.declared.no_memory.NoMemory.{NoMemory}
+use Rattle.proto.specs.Grammar.{Spells}
+use Rattle.proto.specs.Needs.{IsUnfinished}
+
+-- the dialect of the lines, the bytes, and how many there have to be before the parser is asked again
+pub record InputState : Type 0 where
+  pub dialect : Dialect
+  pub unread : List ℕ
+  pub need : ℕ
+
+-- How many of the unread bytes are kept. If more are needed than a message has that is kept, the bytes of one that is too large are
+-- dropped as they come: then those behind it.
+abbrev pub kept_length : List ℕ → ℕ → ℕ
+kept_length unread need = if nat_lt MAX_KEPT need then length unread - need else length unread
+
+-- The bytes gone are the first of a message that is too large, and nothing is kept before all of these have come.
+pub record IsDropping (d : Dialect) (gone kept : List ℕ) (need : ℕ) (quiet : Bool) : Type 0 where
+  pub large : MAX_KEPT < need
+  pub within : length gone ≤ need
+  pub nothing_kept : length gone < need → kept ≡ []
+  pub spells : (more : List ℕ) → length (gone ++ more) ≡ need → Spells d (gone ++ more) (Local (local.TooLarge quiet))
+
+-- bytes are dropped, or none are
+abbrev pub MayDrop : Dialect → List ℕ → List ℕ → ℕ → Bool → Type 0
+MayDrop d gone kept need quiet = IsDropping d gone kept need quiet ⊎ ((need ≤ MAX_KEPT) × (gone ≡ []))
+
+-- the first n bytes spell the message
+pub record Begins (i : InputState) (m : Message) (n : ℕ) : Type 0 where
+  pub within : n ≤ length i.unread
+  pub spells : Spells i.dialect (take n i.unread) m
+
+-- A message is found, or none is there yet and more bytes are needed; or there was no memory for its copy.
+abbrev pub Finds : InputState → Result (Option (Message × ℕ)) NoMemory → InputState → Type 0
+Finds before (Ok (Some found)) after = Begins before found.0 found.1 × (after ≡ before)
+Finds before (Ok None) after =
+    IsUnfinished before.dialect before.unread after.need × (after ≡ record before { need = after.need })
+Finds before (Err e) after = after ≡ before

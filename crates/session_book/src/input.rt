@@ -1,0 +1,148 @@
+//! The unread bytes of a session, and what they begin with. Those of a message whose block is too large are dropped as they come.
+
+ghost use Rattle.std.specs.Prelude.{◌≡◌, ◌≤◌, ◌<◌, ◌++◌, ◌×◌, length, drop, OnOk, OnErr};
+ghost use Rattle.std.specs.Bool.{OnTrue, OnFalse};
+ghost use Rattle.proto.specs.declared.message.Message.{Message};
+ghost use Rattle.proto.specs.Grammar.{SpellsNone};
+
+use crate::buffer::{Buffer, SpareBuffers, Use};
+use proto::{
+    Dialect, LocalKind, MAX_KEPT, Message, NextView, NoMemory, Trace, next_view_behind, to_message,
+};
+use std::alloc::Global;
+use std::marker::Model;
+
+/// Unread bytes. Contracts see those that were dropped too.
+#[derive(Drop)]
+pub(crate) struct Input {
+    dialect: Dialect,
+    kept: Buffer,
+    /// How many of the kept bytes were searched for a line's end, and none was there.
+    searched: usize,
+    /// How many bytes there have to be before the parser is asked again.
+    need: usize,
+    /// How many bytes were dropped, in front of those that are kept: none, unless the need is above `MAX_KEPT`.
+    dropped: usize,
+    /// Which these were.
+    gone: Trace<u8>,
+    /// Whether the message that they begin has `noreply`.
+    noreply: bool,
+}
+
+impl Model for Input {
+    ghost use Rattle.std.specs.Prelude.{◌≡◌, ◌++◌, ◌×◌, length};
+    ghost use Rattle.proto.specs.Lines.{IsSearched};
+    ghost use Rattle.proto.specs.Needs.{NeedsMore};
+    ghost use Rattle.session_book.specs.Input.{InputState, MayDrop};
+
+    ghost Value = { InputState };
+
+    ghost view = { λ a. record { dialect = a.dialect; unread = a.gone.items ++ a.kept; need = a.need } };
+
+    ghost invariant = { λ a. (length a.gone.items ≡ a.dropped)
+        × NeedsMore a.dialect (a.gone.items ++ a.kept) a.need
+        × IsSearched a.kept a.searched
+        × MayDrop a.dialect a.gone.items a.kept a.need a.noreply };
+}
+
+impl Input {
+    ghost use Rattle.session_book.specs.Input.{InputState, kept_length, Begins, Finds};
+
+    pub fn new(alloc: Global, dialect: Dialect) -> Self
+        ensures { result ≡ record { dialect = dialect; unread = []; need = 1 } }
+    {
+        Input {
+            dialect,
+            kept: Buffer::new(alloc),
+            searched: 0,
+            need: 1,
+            dropped: 0,
+            gone: Trace::new(),
+            noreply: false,
+        }
+    }
+
+    /// Whether the parser is to be asked.
+    pub fn has_enough(&self) -> bool
+        ensures enough { OnTrue result (self.now.need ≤ length self.now.unread) }
+        ensures few { OnFalse result (length self.now.unread < self.now.need) }
+        ensures none { OnFalse result (SpellsNone self.now.dialect self.now.unread) }
+    {
+        if self.need > MAX_KEPT {
+            self.dropped == self.need
+        } else {
+            self.kept.len() >= self.need
+        }
+    }
+
+    /// The bytes that are kept.
+    pub fn kept(&self) -> &[u8]
+        ensures { length result.now ≡ kept_length self.now.unread self.now.need }
+    {
+        self.kept.as_slice()
+    }
+
+    /// Puts a piece after the others. What is still to be dropped of a message is dropped.
+    pub fn append(&mut self, piece: &[u8], spares: &mut SpareBuffers) -> Result<(), NoMemory>
+        ensures ok { OnOk result (self.new ≡ record self.old { unread = self.old.unread ++ piece.now }) }
+        ensures err { OnErr result (self.new ≡ self.old) }
+    {
+        if self.need <= MAX_KEPT {
+            return self.kept.append(piece, spares);
+        }
+        let (front, behind) = piece.split_at((self.need - self.dropped).min(piece.len()));
+        if !behind.is_empty() {
+            self.kept.append(behind, spares)?;
+        }
+        self.gone.note(front);
+        self.dropped += front.len();
+        Ok(())
+    }
+
+    /// The message that the bytes begin with, copied, and how many of them spell it; or None, and the need is what the parser said.
+    /// A line that isn't whole yet is searched for its end from where the last search stopped.
+    pub fn next(
+        &mut self,
+        alloc: Global,
+        spares: &mut SpareBuffers,
+    ) -> Result<Option<(Message, usize)>, NoMemory>
+        requires { self.old.need ≤ length self.old.unread }
+        ensures { Finds self.old result self.new }
+    {
+        if self.need > MAX_KEPT {
+            let message = Message::Local(LocalKind::TooLarge(self.noreply));
+            return Ok(Some((message, self.need)));
+        }
+        match next_view_behind(self.dialect, self.kept.as_slice(), &mut self.searched) {
+            NextView::Found(view, length) => Ok(Some((to_message(alloc, view)?, length))),
+            NextView::More(need) => {
+                self.need = need;
+                Ok(None)
+            }
+            NextView::Drop(need, noreply) => {
+                self.gone.note(self.kept.as_slice());
+                self.dropped = self.kept.len();
+                self.kept.discard(self.dropped, Use::Input, spares);
+                self.searched = 0;
+                self.need = need;
+                self.noreply = noreply;
+                Ok(None)
+            }
+        }
+    }
+
+    /// Takes away the bytes of the message that was found.
+    pub fn take(&mut self, n: usize, spares: &mut SpareBuffers)
+        requires { (m : Message) × Begins self.old m n }
+        ensures { self.new ≡ record self.old { unread = drop n self.old.unread; need = 1 } }
+    {
+        if self.need > MAX_KEPT {
+            self.gone = Trace::new();
+            self.dropped = 0;
+        } else {
+            self.kept.discard(n, Use::Input, spares);
+        }
+        self.searched = 0;
+        self.need = 1;
+    }
+}

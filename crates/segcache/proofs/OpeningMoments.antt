@@ -9,7 +9,7 @@ use Rattle.std.proofs.lemmas.Option.{none-some}
 use Rattle.segments.specs.declared.place.Place.{Place}
 use Rattle.segments.specs.Pools.{PoolState, IsPool, Used, Liveness, segment_at, has_live, opening_moment, lasting}
 use Rattle.segments.specs.Items.{Item}
-use Rattle.segments.specs.Changes.{with_change, change_in, without_segment, IsGivenBack}
+use Rattle.segments.specs.Changes.{with_change, with_segment_hit, change_in, without_segment, IsGivenBack}
 use Rattle.segments.specs.Merges.{opened_at}
 use Rattle.proto.specs.declared.eviction.Eviction.{Eviction}
 use Rattle.segments.specs.Filling.{IsInTime, IsOpenedBy, bucket_in}
@@ -60,6 +60,12 @@ past_changed change p t place past some =
           ]);
       in_order = order_changed change p place some past.in_order;
     }
+
+-- where only a hit of a segment is counted, nothing changes of that
+pub past_hit : (p after : PoolState) (t n : ℕ) → after ≡ with_segment_hit p n → IsPast p t → IsPast after t
+past_hit p after t n is past =
+    subst (λ (q : PoolState). IsPast q t) (sym is)
+    (record { within = past.within; opened = past.opened; in_order = past.in_order })
 
 -- a segment that is kept where a test holds, and is there, is the one that was there
 part_of : (b : Bool) (o : Option Used) (u : Used) → (if b then o else None) ≡ Some u → o ≡ Some u

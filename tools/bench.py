@@ -1,15 +1,16 @@
 #!/usr/bin/env python3
 """Compares segcached with memcached, or with another build of segcached, on the same machine in the same run.
 
-    tools/bench.py [--quick] [--write] [--only WORD,..] [--speed] [--misses] [--segments] [--rounds N]
+    tools/bench.py [--quick] [--write] [--only WORD,..] [--speed] [--misses] [--segments] [--site] [--rounds N]
                    [--seconds S] [--program FILE] [--against FILE] [--tunables WORDS]
 
 memcached (of Debian) with 1, 2 and 4 threads stands beside `segcached serve` with 1, 2 and 3 workers. tools/speed.py measures how
 fast each is, by tools/load.c, which checks each answer; tools/beside_redis.py how many requests redis answers to a load of its own;
-then tools/misses.py measures misses at equal memory. --write puts the figures of all between the marks in docs/PERFORMANCE.md,
+then tools/misses.py measures misses at equal memory, and tools/hot_keys.py which keys in use are lost. --write puts the figures of all between the marks in docs/PERFORMANCE.md,
 pictures into docs/performance.svg and docs/misses.svg, and the tables of misses into out/bench.md. --quick runs each load once and
 briefly, with 2 workers. --only takes loads whose names have a WORD, and no misses, pauses or redis. --speed takes all but the
-misses, --misses these alone, --segments those of segcached by the size of its segments, which is in no other run. --program names
+misses, --misses these alone. In no other run are --segments, the misses of segcached by the size of its segments, and --site, those of
+a site, which take two hours (or with --quick a minute). --program names
 another build to measure, --against one of segcached that takes memcached's place: a change for speed is judged by that, and ratios
 above 1 say that the program does more, or takes longer, than the one it is against. Loads with an option that the other build hasn't
 got are left out. --tunables gives the program that is measured another GLIBC_TUNABLES than huge pages alone.
@@ -24,6 +25,7 @@ import tempfile
 import textwrap
 
 import beside_redis
+import hot_keys
 import misses
 import speed
 from served import PROGRAM, TOP, Trouble
@@ -123,16 +125,18 @@ def miss_parts(load, words):
     """Misses at equal memory: the line of their ratios; all tables, and the picture with --write."""
     runs = misses.Misses(load, words.program, say)
     if words.quick:
-        point = misses.Point(32, 1000, 0.99)
-        return [misses.table([point], runs.each(runs.both, [point]))]
+        points, seconds = [misses.Point(32, 1000, 0.99)], 20
+        lost = hot_keys.losses(words.program, seconds, hot_keys.FLOODS[1:3])
+        return [misses.table(points, runs.each(runs.both, points)), hot_keys.table(lost, seconds)]
     kinds = misses.curve()
     results = runs.each(runs.both, [point for points in kinds for point in points])
+    lost = hot_keys.table(hot_keys.losses(words.program))
     tables = [misses.table(points, results) for points in kinds]
     if words.write:
         misses.draw(results, f"{TOP}/docs/misses.svg")
         keep("\n\n".join("\n".join(it) for it in tables))
         tables = []
-    return [*tables, [misses.ratios(results), misses.conditions(results)]]
+    return [*tables, [misses.ratios(results), misses.conditions(results)], lost]
 
 
 def segment_parts(load, words):
@@ -141,8 +145,18 @@ def segment_parts(load, words):
     return [misses.segment_table(points, runs.each(runs.alone, points))]
 
 
+def site_parts(load, words):
+    """Misses of a site with TTLs up to a day."""
+    runs = misses.Misses(load, words.program, say)
+    points = misses.site(words.quick)
+    results = runs.each(runs.both, points)
+    return [misses.table(points, results), [misses.least_held(results)]]
+
+
 def measures(load, words):
     """By the marks' name, what these words ask for."""
+    if words.site:
+        return {"site": lambda: site_parts(load, words)}
     if words.segments:
         return {"segments": lambda: segment_parts(load, words)}
     chosen = {} if words.misses else {"bench": lambda: speed_parts(load, words)}
@@ -164,7 +178,7 @@ def run(words):
 
 def read_words():
     parser = argparse.ArgumentParser(description="Compares segcached with memcached, or with another build.")
-    for word in ("--quick", "--write", "--speed", "--misses", "--segments"):
+    for word in ("--quick", "--write", "--speed", "--misses", "--segments", "--site"):
         parser.add_argument(word, action="store_true")
     parser.add_argument("--only", default="")
     parser.add_argument("--rounds", type=int)
@@ -175,7 +189,7 @@ def read_words():
     words = parser.parse_args()
     words.rounds = words.rounds or (1 if words.quick else 7)
     words.seconds = words.seconds or (0.5 if words.quick else 0.8)
-    if words.write and (words.quick or words.only or words.segments or words.against or words.tunables or words.program != PROGRAM):
+    if words.write and (words.quick or words.only or words.segments or words.site or words.against or words.tunables or words.program != PROGRAM):
         parser.error("--write is for a whole run of the program that stands in crates/segcached/out")
     if words.against and os.path.realpath(words.against) == os.path.realpath(words.program):
         parser.error("--against is for another build than the one that is measured")

@@ -1,14 +1,16 @@
 // A load for servers of the memcached text protocol, which measures requests a second and latencies.
 //
 //   load HOST PORT [--connections N] [--threads N] [--pipeline N] [--seconds S] [--reads N] [--keys N] [--value BYTES]
-//                  [--sets PERCENT] [--many KEYS] [--zipf EXPONENT] [--rate R] [--fill] [--through] [--ttls] [--seed N]
+//                  [--sets PERCENT] [--deletes PERCENT] [--many KEYS] [--zipf EXPONENT] [--rate R] [--fill] [--through]
+//                  [--ttls | --long-ttls] [--seed N]
 //
 // Each connection keeps a pipeline of requests on its way: it sends them in one piece, reads all their answers, and sends
 // the next ones. A latency is the time from that send to the last byte of the request's answer. Each answer is checked: its keys are
 // those that were asked, in order, and each value is the one that its key has to hold. --fill writes each key once and measures
 // nothing. --many asks for this number of keys in one get. --rate sends this number of requests a second in all, evenly, in place
 // of as many as can be. --through writes each key that was missed, as a client of a cache does: at the front of the next pipeline, beyond its
-// number of requests and their rate. --ttls writes half of the keys with a TTL of 60 seconds, three tenths with 600. --reads
+// number of requests and their rate. --ttls writes half of the keys with a TTL of 60 seconds, three tenths with 600; --long-ttls
+// four tenths with 300 seconds, four with 3,600, and two with 86,400. --reads
 // ends after this number of keys was asked, in place of after some seconds; one connection asks the same keys in the same order each
 // time. The last line is of words NAME=FIGURE; `busy` is the share of the time that the threads ran: near 1 the load itself is
 // what limits.
@@ -33,10 +35,10 @@
 
 struct options {
     const char *host;
-    int port, connections, threads, pipeline, many, sets, keys, value, seed;
+    int port, connections, threads, pipeline, many, sets, deletes, keys, value, seed;
     double seconds, rate, zipf;
     long reads;
-    bool fill, through, ttls;
+    bool fill, through, ttls, long_ttls;
 };
 
 static struct options options = {
@@ -49,8 +51,10 @@ enum { MOST_LATENCIES = 1 << 20, LETTERS = 26, TAILS = 10, KEY_LENGTH = 11, LONG
 #define REFUSED "SERVER_ERROR out of memory storing object\r\n"
 
 // What is asked, and how its answer is read.
+enum kind { GET, SET, DELETE };
+
 struct request {
-    bool is_set;
+    enum kind kind;
     int first_key;
 };
 
@@ -127,8 +131,10 @@ static void make_values(void) {
 }
 
 static void make_tails(void) {
-    static const int ttls[TAILS] = {60, 600, 60, 0, 60, 600, 60, 0, 60, 600};
-    for (int i = 0; i < TAILS; i++) sprintf(tails[i], " 0 %d %d\r\n", options.ttls ? ttls[i] : 0, options.value);
+    static const int none[TAILS], some[TAILS] = {60, 600, 60, 0, 60, 600, 60, 0, 60, 600};
+    static const int longer[TAILS] = {300, 3600, 300, 86400, 3600, 300, 3600, 86400, 300, 3600};
+    const int *ttls = options.ttls ? some : options.long_ttls ? longer : none;
+    for (int i = 0; i < TAILS; i++) sprintf(tails[i], " 0 %d %d\r\n", ttls[i], options.value);
 }
 
 // The key's name: "key-" and seven digits.
@@ -154,6 +160,12 @@ static void add_set(struct connection *c, int key) {
     add(c, value_of(key), options.value + 2);
 }
 
+static void add_delete(struct connection *c, int key) {
+    add(c, "delete ", 7);
+    add_key(c, key);
+    add(c, "\r\n", 2);
+}
+
 static void add_get(struct connection *c, int key) {
     add(c, "get", 3);
     for (int i = 0; i < options.many; i++) {
@@ -167,15 +179,19 @@ static void add_get(struct connection *c, int key) {
 static bool next_request(struct worker *w, struct connection *c, struct request *r) {
     if (options.fill) {
         if (c->next_fill >= c->end_fill) return false;
-        *r = (struct request){true, c->next_fill++};
+        *r = (struct request){SET, c->next_fill++};
     } else {
-        *r = (struct request){(int)(next_random(&w->seed) % 100) < options.sets, pick_key(&w->seed)};
+        int drawn = next_random(&w->seed) % 100;
+        enum kind kind = drawn < options.sets ? SET : drawn < options.sets + options.deletes ? DELETE : GET;
+        *r = (struct request){kind, pick_key(&w->seed)};
     }
     return true;
 }
 
 static void ask(struct connection *c, struct request r) {
-    if (r.is_set) add_set(c, r.first_key); else add_get(c, r.first_key);
+    if (r.kind == SET) add_set(c, r.first_key);
+    else if (r.kind == DELETE) add_delete(c, r.first_key);
+    else add_get(c, r.first_key);
     c->asked[c->waiting++] = r;
 }
 
@@ -184,7 +200,7 @@ static bool make_pipeline(struct worker *w, struct connection *c) {
     struct request next;
     c->out_length = c->out_sent = 0;
     c->waiting = c->answered = 0;
-    for (; c->missed_count > 0; c->missed_count--) ask(c, (struct request){true, c->missed[c->missed_count - 1]});
+    for (; c->missed_count > 0; c->missed_count--) ask(c, (struct request){SET, c->missed[c->missed_count - 1]});
     for (int i = 0; i < options.pipeline && next_request(w, c, &next); i++) ask(c, next);
     return c->waiting > 0;
 }
@@ -213,16 +229,23 @@ static long value_length(const struct request *r, const char *in, size_t length,
     return memcmp(in + value, value_of((r->first_key + *nth) % options.keys), size) ? -1 : (long)(value + size);
 }
 
+// The length of a line that the bytes begin with, 0 if it isn't whole yet, or -1 if it is another one.
+static long line_length(const char *in, size_t length, const char *line) {
+    size_t whole = strlen(line);
+    if (!can_be(in, length, line, whole)) return -1;
+    return length < whole ? 0 : (long)whole;
+}
+
 // The length of the answer that the bytes begin with, 0 if it isn't whole yet, or -1 if it is none.
 static long answer_length(struct worker *w, struct connection *c, const struct request *r, const char *in, size_t length) {
-    if (r->is_set) {
-        if (can_be(in, length, REFUSED, sizeof REFUSED - 1)) {
-            if (length < sizeof REFUSED - 1) return 0;
-            w->refused++;
-            return sizeof REFUSED - 1;
-        }
-        if (!can_be(in, length, "STORED\r\n", 8)) return -1;
-        return length < 8 ? 0 : 8;
+    if (r->kind == SET) {
+        long refused = line_length(in, length, REFUSED);
+        if (refused > 0) w->refused++;
+        return refused >= 0 ? refused : line_length(in, length, "STORED\r\n");
+    }
+    if (r->kind == DELETE) {
+        long deleted = line_length(in, length, "DELETED\r\n");
+        return deleted >= 0 ? deleted : line_length(in, length, "NOT_FOUND\r\n");
     }
     size_t at = 0;
     uint64_t hits = 0;
@@ -405,6 +428,7 @@ static void read_words(int count, char **words) {
         if (!strcmp(word, "--fill")) options.fill = true;
         else if (!strcmp(word, "--through")) options.through = true;
         else if (!strcmp(word, "--ttls")) options.ttls = true;
+        else if (!strcmp(word, "--long-ttls")) options.long_ttls = true;
         else if (!strcmp(word, "--zipf")) options.zipf = fraction(word, next, 10), i++;
         else if (!strcmp(word, "--connections")) options.connections = number(word, next, 1, 20000), i++;
         else if (!strcmp(word, "--threads")) options.threads = number(word, next, 1, 64), i++;
@@ -414,6 +438,7 @@ static void read_words(int count, char **words) {
         else if (!strcmp(word, "--keys")) options.keys = number(word, next, 1, 9999999), i++;
         else if (!strcmp(word, "--value")) options.value = number(word, next, 0, 131072), i++;
         else if (!strcmp(word, "--sets")) options.sets = number(word, next, 0, 100), i++;
+        else if (!strcmp(word, "--deletes")) options.deletes = number(word, next, 0, 100), i++;
         else if (!strcmp(word, "--many")) options.many = number(word, next, 1, 100), i++;
         else if (!strcmp(word, "--seed")) options.seed = number(word, next, 0, 2000000000), i++;
         else if (!strcmp(word, "--rate")) options.rate = number(word, next, 1, 100000000), i++;

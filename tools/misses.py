@@ -4,7 +4,7 @@ A client reads keys by Zipf's law and writes each that it missed. All keys with 
 memory, so no server keeps them all. memcached (of Debian, with its own defaults) gets an -m with which the point's memory is
 resident; segcached gets the most segments with which it has no more resident than memcached, once each server was filled with all
 keys. Then both are warmed by a number of reads, and a further number is counted: of reads, not of seconds, so a slow machine
-counts the same misses. If keys have TTLs the clock counts too, and both servers are read at one fixed rate. segcached is measured
+counts the same misses. If keys have TTLs the clock counts too, and both servers are asked at one fixed rate. segcached is measured
 with each of its rules of eviction.
 """
 import concurrent.futures
@@ -20,8 +20,6 @@ MIB = 1 << 20
 KEY_BYTES, HEAD_BYTES = 11, 24
 # How many reads warm and how many are counted, as multiples of the number of keys, and the least number of reads.
 WARMED, COUNTED, LEAST = 4, 2, 1_000_000
-# If keys have TTLs: reads a second, and the seconds of warming and of counting.
-RATE, WARM_SECONDS, COUNT_SECONDS = 60_000, 100, 40
 SEGMENT_SIZE = 64 << 10
 MEMORIES, VALUES, EXPONENTS = (32, 64, 128), (100, 300, 1000), (0.8, 0.99)
 # How many times the memory the keys with their values have: in the curve, and in a table of its own.
@@ -33,6 +31,31 @@ PLAIN = {name: value for name, value in os.environ.items() if name != "GLIBC_TUN
 
 
 @dataclasses.dataclass(frozen=True)
+class Timed:
+    """What keys with TTLs are asked for: the load's word for their TTLs, requests a second, the seconds of warming and of counting, and
+    how many of 100 requests are writes and deletes beside those of keys that were missed."""
+
+    name: str
+    ttls: str
+    rate: int
+    warm: int
+    count: int
+    sets: int = 0
+    deletes: int = 0
+    pipeline: int = 256
+
+    @property
+    def reads(self):
+        """Reads a second."""
+        return self.rate * (100 - self.sets - self.deletes) // 100
+
+
+SHORT = Timed("with TTLs", "--ttls", 60_000, 100, 40)
+# Pages, sessions and settings of a site: two hours, of which the last half hour counts.
+SITE = Timed("a site", "--long-ttls", 3_000, 5_400, 1_800, sets=10, deletes=1, pipeline=16)
+
+
+@dataclasses.dataclass(frozen=True)
 class Point:
     """What is measured: MiB of memory, bytes of a value, the law's exponent, and what else is asked."""
 
@@ -40,7 +63,7 @@ class Point:
     value: int
     zipf: float
     times: float = TIMES
-    ttls: bool = False
+    timed: Timed | None = None
     sets: int = 0
     segment_size: int = SEGMENT_SIZE
     evict: str = "oldest"
@@ -56,19 +79,22 @@ class Point:
 
     def words(self):
         """The load's words."""
-        asked = ["--through", "--zipf", self.zipf, "--threads", 1, "--pipeline", 256, "--keys", self.keys, "--value", self.value]
-        asked += ["--sets", self.sets, "--connections", 4 if self.ttls else 1]
-        return asked + (["--ttls", "--rate", RATE] if self.ttls else [])
+        asked = ["--through", "--zipf", self.zipf, "--threads", 1, "--keys", self.keys, "--value", self.value]
+        if not self.timed:
+            return [*asked, "--pipeline", 256, "--sets", self.sets, "--connections", 1]
+        kind = self.timed
+        asked += ["--pipeline", kind.pipeline, "--sets", kind.sets, "--deletes", kind.deletes, "--connections", 4]
+        return [*asked, kind.ttls, "--rate", kind.rate]
 
     @property
     def told(self):
         """What a table says of its TTLs and its rule."""
-        return f"{', with TTLs' if self.ttls else ''}, --evict {self.evict}"
+        return f"{f', {self.timed.name}' if self.timed else ''}, --evict {self.evict}"
 
     def reads(self):
         """How many reads warm, and how many are counted."""
-        if self.ttls:
-            return RATE * WARM_SECONDS, RATE * COUNT_SECONDS
+        if self.timed:
+            return self.timed.reads * self.timed.warm, self.timed.reads * self.timed.count
         return max(WARMED * self.keys, LEAST), max(COUNTED * self.keys, LEAST)
 
 
@@ -86,13 +112,21 @@ def curve():
     """The points of the picture, those with fewer and with more keys, and those with TTLs, by both rules."""
     plain = [Point(memory, value, zipf, evict=evict) for zipf in EXPONENTS for value in VALUES for memory in MEMORIES for evict in EVICTIONS]
     others = [Point(32, value, 0.99, times, evict=evict) for value in VALUES for times in OTHER_TIMES for evict in EVICTIONS]
-    ttls = [Point(64, value, 0.99, ttls=True, segment_size=MIB, evict=evict) for value in (100, 1000) for evict in EVICTIONS]
-    return plain, others, ttls
+    timed = [Point(64, value, 0.99, timed=SHORT, segment_size=MIB, evict=evict) for value in (100, 1000) for evict in EVICTIONS]
+    return plain, others, timed
+
+
+def site(quick):
+    """The points of a site, by both rules: or a minute of a small one."""
+    if quick:
+        brief = dataclasses.replace(SITE, rate=30_000, warm=45, count=15)
+        return [Point(16, 600, 1.0, timed=brief, segment_size=256 << 10, evict=evict) for evict in EVICTIONS]
+    return [Point(64, 600, 1.0, timed=SITE, segment_size=MIB, evict=evict) for evict in EVICTIONS]
 
 
 def segment_points():
     """The points that tell which size of a segment misses least."""
-    kinds = ({"memory": 32}, {"memory": 32, "sets": 30}, {"memory": 64, "ttls": True})
+    kinds = ({"memory": 32}, {"memory": 32, "sets": 30}, {"memory": 64, "timed": SHORT})
     return [Point(value=value, zipf=0.99, **kind, segment_size=size) for kind in kinds for value in (100, 1000) for size in SEGMENT_SIZES]
 
 
@@ -176,7 +210,7 @@ class Misses:
         pool = concurrent.futures.ThreadPoolExecutor
         with pool(self.at_once) as busy, pool(len(points)) as timed:
             sizes = dict(zip(stores, busy.map(self.fit, stores)))
-            runs = {it: (timed if it.ttls else busy).submit(run, it, sizes[it.store]) for it in order}
+            runs = {it: (timed if it.timed else busy).submit(run, it, sizes[it.store]) for it in order}
             return {it: ran.result() for it, ran in runs.items()}
 
 
@@ -207,15 +241,15 @@ def table(points, results):
     return rows
 
 
-def least_held(sides):
-    """The least share of the fixed rate that one of these kept."""
-    return f"With TTLs each server kept at least {min(it.rate for it in sides) / RATE:.1%} of the rate of {RATE:,} reads a second."
+def least_held(results):
+    """The least share of its fixed rate that a server kept, of those whose keys have TTLs."""
+    shares = [side.rate / point.timed.reads for point, sides in results.items() if point.timed for side in sides]
+    return f"With TTLs each server kept at least {min(shares):.1%} of the rate that it was asked at."
 
 
 def conditions(results):
     """What the tables don't say of the runs."""
-    held = least_held([side for point, sides in results.items() if point.ttls for side in sides])
-    return f"segcached has segments of {SEGMENT_SIZE >> 10} KiB, and of 1 MiB with TTLs. {held}"
+    return f"segcached has segments of {SEGMENT_SIZE >> 10} KiB, and of 1 MiB with TTLs. {least_held(results)}"
 
 
 def ratios(results):
@@ -236,10 +270,10 @@ def segment_table(points, results):
     for at in range(0, len(points), len(SEGMENT_SIZES)):
         row = points[at : at + len(SEGMENT_SIZES)]
         name = f"{row[0].memory} MiB, {row[0].value:,} bytes" + (f", {row[0].sets} of 100 are writes" if row[0].sets else "")
-        name += ", with TTLs" if row[0].ttls else ""
+        name += f", {row[0].timed.name}" if row[0].timed else ""
         cells = [f"{results[it].missed:.2f} ({results[it].size} segments, {results[it].resident:.1f} MiB)" for it in row]
         rows.append(f"| {name} | " + " | ".join(cells) + " |")
-    return [*rows, "", least_held([results[it] for it in points if it.ttls])]
+    return [*rows, "", least_held({it: [results[it]] for it in points})]
 
 
 def panel(zipf, results, folder):

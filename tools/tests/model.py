@@ -92,7 +92,7 @@ class Cache:
             if self.free == 0:
                 return False
             self.free -= 1
-            tail = Segment(bucket, now)
+            tail = Segment(bucket, self.opening_moment(bucket, now))
             self.order.append(tail)
             self.opens += 1
             if 2 * self.opens >= self.segments:
@@ -102,6 +102,13 @@ class Cache:
         tail.items.append(item)
         item.segment = tail
         return True
+
+    def opening_moment(self, bucket, now):
+        """With the rule of the least read a multiple of half the bucket's width, but for lives below eight seconds or without end."""
+        if not self.is_least_read or bucket in (0, LASTING):
+            return now
+        width, _ = width_and_lower_end(bucket)
+        return now // (width // 2) * (width // 2)
 
     def give_back(self, now):
         dead = [it for it in self.order if not any(self.is_live(item, now) for item in it.items)]
@@ -248,7 +255,9 @@ class Cache:
             return b"NOT_FOUND\r\n"
         if deadline is not None and deadline <= now:
             del self.current[key]
-        elif not may_stand_for(item.segment.deadline, deadline, now):
+        elif may_stand_for(item.segment.deadline, deadline, now):
+            item.segment.hits += 1
+        else:
             self.store(Item(key, item.value, item.flags, item.cas), life_of(deadline, now), now)
         return b"TOUCHED\r\n"
 

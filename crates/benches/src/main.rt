@@ -1,7 +1,8 @@
 //! Sets that merge segments, and requests through the lanes to the plain store and back, measured alone. The figures go to
 //! the standard error, since they differ from run to run.
 //!
-//! - `benches sets N B S V`: sets N keys with values of V bytes in a store of S segments of B bytes;
+//! - `benches sets N B S V [RULE]`: sets N keys with values of V bytes in a store of S segments of B bytes, which evicts by
+//!   the rule `oldest` or `least-read`;
 //! - `benches lanes N`: hands over N requests a run, by single calls and in batches.
 //!
 //! With no word both are short runs. Before them it tries how long an idle thread spins, and whether single calls and
@@ -75,7 +76,7 @@ fn run<R: Threads + Wait + Clock + Sync + AllocGlobal + Print + Eprint>(
 
 fn main(rt: HostRuntime) -> ExitCode {
     let Some(asked) = words_asked(&rt) else {
-        let _ = rt.eprint("expected `sets N B S V`, `lanes N` or no word\n");
+        let _ = rt.eprint("expected `sets N B S V [RULE]`, `lanes N` or no word\n");
         return ExitCode::FAILURE;
     };
     if run(&rt, asked) {

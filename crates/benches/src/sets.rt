@@ -1,19 +1,20 @@
 //! How long sets of ever new keys take in a segmented store. Those that merge segments are counted apart from the others.
 
 use engine::StorageEngine;
-use proto::{ByteString, Geometry, Put, Reply, Request, item_size};
+use proto::{ByteString, Dialect, Eviction, Geometry, Put, Reply, Request, item_size};
 use segcache::Store;
 use std::alloc::{AllocError, Global};
 use std::io::{Eprint, Print};
 use std::time::{Clock, Duration, Instant};
 
-/// Sets of `keys` keys, with values of `value_length` bytes, and the sizes of the store.
+/// Sets of `keys` keys, with values of `value_length` bytes, and the sizes and the rule of the store.
 #[derive(Clone, Copy)]
 pub(crate) struct SetsLoad {
     pub keys: u64,
     pub segment_size: u32,
     pub segments: u32,
     pub value_length: u32,
+    pub eviction: Eviction,
 }
 
 /// A short run, in which the segments are filled once and then merged some times.
@@ -22,6 +23,7 @@ pub(crate) const SHORT_SETS: SetsLoad = SetsLoad {
     segment_size: 65_536,
     segments: 64,
     value_length: 100,
+    eviction: Eviction::Oldest,
 };
 
 /// The bytes of a key.
@@ -171,7 +173,7 @@ pub(crate) fn measure_sets<R: Print + Eprint + Clock>(
     load: SetsLoad,
 ) -> Option<()> {
     let geometry = Geometry::new(load.segment_size, load.segments).ok()?;
-    let mut store = Store::new(alloc, geometry).ok()?;
+    let mut store = Store::evicting(alloc, geometry, false, Dialect::Strict, load.eviction).ok()?;
     let split = time_sets(rt, alloc, &mut store, load);
     drop(store);
     write_split(rt, split?)

@@ -1,6 +1,7 @@
 //! The words after the program's name.
 
 use crate::sets::SetsLoad;
+use proto::Eviction;
 use std::env;
 use std::rt::Env;
 
@@ -29,12 +30,25 @@ fn size<R: Env + AllocGlobal>(rt: &R, place: usize) -> Option<u32> {
     u32::try_from(number(rt, place)?).ok()
 }
 
+/// The rule in the word at this place, or that of the oldest if there is no word.
+fn eviction<R: Env + AllocGlobal>(rt: &R, place: usize) -> Option<Eviction> {
+    let Some(rule) = word(rt, place) else {
+        return Some(Eviction::Oldest);
+    };
+    match rule.as_str() {
+        "oldest" => Some(Eviction::Oldest),
+        "least-read" => Some(Eviction::LeastRead),
+        _ => None,
+    }
+}
+
 fn sets_load<R: Env + AllocGlobal>(rt: &R) -> Option<SetsLoad> {
     Some(SetsLoad {
         keys: number(rt, 2)?,
         segment_size: size(rt, 3)?,
         segments: size(rt, 4)?,
         value_length: size(rt, 5)?,
+        eviction: eviction(rt, 6)?,
     })
 }
 

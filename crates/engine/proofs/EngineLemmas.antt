@@ -120,7 +120,7 @@ reached m way old done (Some key) new s =
             is_dated = subst (λ (asks : Entries). IsDated (m.moment old) done.reply asks (Some key) dated) (sym s.asked_is) is_dated;
             forgotten = [];
             may_forget = inl refl;
-            entries = ap m.entries w.same ∙ sym (insert-same (m.entries old) key left w.there) ∙ sym (without-nil dated);
+            entries = w.entries ∙ sym (insert-same (m.entries old) key left w.there) ∙ sym (without-nil dated);
           }
     ]
 

@@ -31,6 +31,7 @@ members =
       writes = WritesPlainly;
       changes = WritesPlainly;
       reads = ReadsPlainly;
+      touches = ReadsPlainly;
       stays = λ t asked given. same_deadline asked given;
       alike = λ m n. ⊤;
       keeps = λ m items. ⊤;
@@ -57,7 +58,7 @@ exact_entries way found done (Some key) after s = each way found key s.entry don
         let same : e.deadline ≡ left.deadline = same_deadlines e.deadline left.deadline left.stays in
         let there : map.get (plain_entries found) key ≡ Some e =
         left.there ∙ ap (λ (d : Option ℕ). Some (record e { deadline = d })) (sym same) in
-        ap plain_entries left.same ∙ sym (insert-same (plain_entries found) key e there)
+        left.entries ∙ sym (insert-same (plain_entries found) key e there)
     each as_touched found key e answered after (inr w) = w.writes
 
 -- what was handled is a plain step

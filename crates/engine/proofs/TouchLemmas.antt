@@ -1,5 +1,5 @@
 -- What a touch leaves of an entry that is there, and whose new deadline hasn't come.
-use Rattle.std.proofs.Common.{◌≡◌, ℕ, ℤ, Bool, false, true, List, Option, Some, refl, sym, ap, subst, ◌∙◌, inl, inr}
+use Rattle.std.proofs.Common.{◌≡◌, ℕ, ℤ, Bool, false, true, List, ◌++◌, Option, Some, refl, sym, ap, subst, ◌∙◌, inl, inr}
 use Rattle.std.specs.FinMap as map
 use Rattle.proto.specs.declared.message.Reply.TheVariants.{Touched}
 use Rattle.proto.specs.Cache.{Entry, Cache, has_arrived, deadline_of}
@@ -8,7 +8,8 @@ use Rattle.proto.specs.Steps.{MayBeDated}
 use Rattle.engine.specs.declared.commands.Engine.{Engine}
 use Rattle.engine.specs.Members.{MapOf}
 use Rattle.engine.specs.Written.{IsWritten}
-use Rattle.engine.specs.Keeping.{KeepsEntry}
+use Rattle.proto.specs.Stored.{stored_item_of}
+use Rattle.engine.specs.Keeping.{StaysKept, KeepsEntry}
 use Rattle.engine.specs.Engines.{cache_in, as_touched, IsLeftAs, IsStored, Leaves}
 
 -- the entry with the deadline asked for
@@ -55,25 +56,42 @@ leaves_touched m old new key exptime e asked there is waits sizes moment option 
       gives = inl (record { reply_is = refl; last_cas = cas; pending = pending; changes = stored });
     })
 
+-- a map that counted a touch and keeps the entries that it had keeps what it kept
+touched_keeps : {M P : Type 0} (m : MapOf M P) (old new : M) (key : List ℕ) (e : Entry)
+    → KeepsEntry m.sizes m.entries m.moment m.keeps old key e old → m.entries new ≡ m.entries old
+    → StaysKept m.keeps old new → KeepsEntry m.sizes m.entries m.moment m.keeps old key e new
+touched_keeps m old new key e kept entries stays items k adds bound =
+    let r = kept items k adds bound in
+    (entries ∙ r.0, stays (items ++ stored_item_of (m.moment old) key (Some e)) r.1)
+
 -- where the entry is left as it is
-pub leaves_there : {M P : Type 0} (m : MapOf M P) (old : Engine M) (key : List ℕ) (exptime : ℤ) (e : Entry)
+pub leaves_there : {M P : Type 0} (m : MapOf M P) (old new : Engine M) (key : List ℕ) (exptime : ℤ) (e : Entry)
     (asked : Option ℕ) (b : Bool)
     → map.get (m.entries old.map) key ≡ Some e → asked ≡ deadline_of exptime (m.moment old.map)
     → has_arrived asked (m.moment old.map) ≡ false
     → b ≡ true → b ≡ m.stays (m.moment old.map) asked e.deadline → MayBeDated (m.moment old.map) asked e.deadline Touched
     → KeepsEntry m.sizes m.entries m.moment m.keeps old.map key (asking e asked) old.map
-    → Leaves m as_touched old old (touch (map.get (m.entries old.map) key) (cache_in m.entries old) (m.moment old.map) key exptime) Touched
-leaves_there m old key exptime e asked b there is waits holds decides may kept =
-    let left : IsLeftAs m old.map key (asking e asked) Touched old.map =
-    record { deadline = e.deadline; there = there; stays = sym decides ∙ holds; may_stay = may; same = refl } in
-    leaves_touched m old old key exptime e asked there is waits refl refl refl refl refl refl
+    → new.in_place ≡ old.in_place → new.dialect ≡ old.dialect → new.last_cas ≡ old.last_cas → new.pending ≡ old.pending
+    → m.sizes new.map ≡ m.sizes old.map → m.moment new.map ≡ m.moment old.map → m.entries new.map ≡ m.entries old.map
+    → m.touches old.map key new.map → StaysKept m.keeps old.map new.map
+    → Leaves m as_touched old new (touch (map.get (m.entries old.map) key) (cache_in m.entries old) (m.moment old.map) key exptime) Touched
+leaves_there m old new key exptime e asked b there is waits holds decides may kept option dialect cas pending sizes moment entries touched stays =
+    let left : IsLeftAs m old.map key (asking e asked) Touched new.map = record {
+      deadline = e.deadline;
+      there = there;
+      stays = sym decides ∙ holds;
+      may_stay = may;
+      touched = touched;
+      entries = entries;
+    } in
+    leaves_touched m old new key exptime e asked there is waits sizes moment option dialect cas pending
     (record {
       entry = asking e asked;
       asked_is = refl;
       waits = waits;
       written = inr left;
       exactly = inl left;
-      kept = kept;
+      kept = touched_keeps m old.map new.map key (asking e asked) kept entries stays;
     })
 
 -- where it is written anew

@@ -40,14 +40,16 @@ way_of (Decr key amount) in_place = change_way in_place
 way_of (Touch asked) in_place = as_touched
 way_of _ _ = as_written
 
--- the map left the entry of the key as it is, whose deadline may stand for that of the entry asked for
+-- the map left the entry of the key as it is, whose deadline may stand for that of the entry asked for, and counted the
+-- touch
 pub record IsLeftAs {M P : Type 0} (m : MapOf M P) (old : M) (key : List ℕ) (entry : Entry) (reply : Reply)
     (new : M) : Type 0 where
   pub deadline : Option ℕ
   pub there : map.get (m.entries old) key ≡ Some (record entry { deadline = deadline })
   pub stays : IsTrue (m.stays (m.moment old) entry.deadline deadline)
   pub may_stay : MayBeDated (m.moment old) entry.deadline deadline reply
-  pub same : new ≡ old
+  pub touched : m.touches old key new
+  pub entries : m.entries new ≡ m.entries old
 
 -- the map wrote the entry anew, whose deadline may not stay
 pub record IsDatedAnew {M P : Type 0} (m : MapOf M P) (old : M) (key : List ℕ) (entry : Entry) (new : M) : Type 0 where

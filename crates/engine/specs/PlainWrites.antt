@@ -1,4 +1,4 @@
--- How a plain map writes, and what a read of it leaves.
+-- How a plain map writes, and what a read of it, or a touch, leaves.
 use Rattle.std.specs.Prelude.{◌≡◌, ℕ, Bool, true, false, ◌==◌, List, Option, Some, None}
 use Rattle.std.specs.FinMap as map
 use Rattle.proto.specs.Cache.{Entry}
@@ -9,7 +9,7 @@ use Rattle.engine.specs.PlainEntries.{plain_entries}
 abbrev pub WritesPlainly : PlainMap → List ℕ → Entry → PlainMap → Type 0
 WritesPlainly old key entry new = plain_entries new ≡ map.insert (plain_entries old) key entry
 
--- no read is counted
+-- no read or touch is counted
 abbrev pub ReadsPlainly : PlainMap → List ℕ → PlainMap → Type 0
 ReadsPlainly old key new = new ≡ old
 

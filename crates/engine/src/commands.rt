@@ -221,6 +221,7 @@ impl<M: LiveMap> Engine<M> {
             return Reply::Touched;
         }
         if self.map.may_stay(key, place, deadline) {
+            self.map.count_touch(key, place);
             return Reply::Touched;
         }
         self.scratch.put(entry.value, b"", true);

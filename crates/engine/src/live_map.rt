@@ -55,6 +55,9 @@ pub trait LiveMap {
     /// What counting a read of the entry at the key does to this map.
     ghost reads: { Self → List ℕ → Self → Type 0 };
 
+    /// What counting a touch that leaves the entry at the key does to this map.
+    ghost touches: { Self → List ℕ → Self → Type 0 };
+
     /// Whether an entry may keep its deadline at a moment where it is asked to have another one: the moment, the one asked
     /// for, and the one that it has.
     ghost stays: { ℕ → Option ℕ → Option ℕ → Bool };
@@ -116,6 +119,15 @@ pub trait LiveMap {
         ensures counted { reads self.old key.now self.new }
         ensures stands { (other : List ℕ) (there : Self.Place) → stands self.old other there
             → stands self.new other there }
+        ensures entries { entries self.new ≡ entries self.old }
+        ensures sizes { sizes self.new ≡ sizes self.old }
+        ensures moment { moment self.new ≡ moment self.old }
+        ensures kept { StaysKept keeps self.old self.new };
+
+    /// Counts a touch that leaves the entry at the key, which stands at the place.
+    fn count_touch(&mut self, key: &[u8], place: Self::Place)
+        requires { stands self.old key.now place }
+        ensures counted { touches self.old key.now self.new }
         ensures entries { entries self.new ≡ entries self.old }
         ensures sizes { sizes self.new ≡ sizes self.old }
         ensures moment { moment self.new ≡ moment self.old }

@@ -96,6 +96,8 @@ impl LiveMap for PlainMap {
 
     ghost reads = { ReadsPlainly };
 
+    ghost touches = { ReadsPlainly };
+
     ghost stays = { λ t asked given. same_deadline asked given };
 
     ghost alike = { λ m n. ⊤ };
@@ -135,6 +137,9 @@ impl LiveMap for PlainMap {
 
     /// A plain map counts no reads.
     fn count_read(&mut self, _key: &[u8], _place: ()) {}
+
+    /// Nor any touch.
+    fn count_touch(&mut self, _key: &[u8], _place: ()) {}
 
     fn write(&mut self, key: &[u8], entry: EntryRef) -> Result<(), NoMemory> {
         if entry.value.len() > MAX_BLOCK as usize {

@@ -7,7 +7,7 @@ use Rattle.std.proofs.lemmas.Bool.Decides.{leb_tells, eqb_tells}
 use Rattle.std.proofs.Math.ListN.{get_or-eq_default}
 use Rattle.segments.specs.declared.place.Place.{Place}
 use Rattle.segments.specs.Items.{Item, item_at, size_of_item}
-use Rattle.segments.specs.Pools.{PoolState, Used, segment_at, items_of, item_in, IsPool}
+use Rattle.segments.specs.Pools.{PoolState, Used, segment_at, opening_moment, items_of, item_in, IsPool}
 use Rattle.segments.specs.Changes.{with_segment, with_item, IsAddedToTail, IsAddedToFree}
 use Rattle.segments.proofs.WalkLemmas.{item_behind}
 use Rattle.index.specs.Keys.{IsKeyAdded}
@@ -82,7 +82,7 @@ to_free : (p after : PoolState) (bucket t : ℕ) (i : Item) (place : Place) → 
 unfolding key_at
 to_free p after bucket t i place pool h =
     let n = place.segment in
-    let s : Used = record { bucket = bucket; opened = t; items = i ∷ [] } in
+    let s : Used = record { bucket = bucket; opened = opening_moment p.eviction bucket t; items = i ∷ [] } in
     let r : n < length p.segments = (let c = pool.count in let k = h.in_range in omega (arith, c, k)) in
     let at : segment_at after n ≡ Some s = ap (λ (q : PoolState). segment_at q n) h.after_is ∙ written p n (Some s) r in
     record {

@@ -9,10 +9,12 @@ use std::test::Fail;
 use std::thread::Threads;
 use std::time;
 
-/// `writes` keys are written, the first one is read `reads` times before the 65th write, and then all are read.
+/// `writes` keys are written with this TTL, the first one is read `reads` times before the 65th write, and then all are
+/// read.
 #[derive(Clone, Copy)]
 struct Run {
     words: &'static str,
+    ttl: u32,
     writes: u32,
     reads: u32,
     /// The first and the last key that are forgotten.
@@ -22,10 +24,13 @@ struct Run {
 }
 
 /// The first merge takes the first four segments, of 32 keys. With `least-read` the second one takes those behind what
-/// the first one left, with the keys 33 to 64; with `oldest` what it left, and three segments behind it.
-const RUNS: [Run; 9] = [
+/// the first one left, with the keys 33 to 64; with `oldest` what it left, and three segments behind it. With a TTL whose
+/// bucket is 128 seconds wide and a tick of a second, segments are opened eight seconds apart, and `oldest` merges none;
+/// for `least-read` those of 64 seconds are opened at one moment, which end at 1,088.
+const RUNS: [Run; 12] = [
     Run {
         words: "",
+        ttl: 0,
         writes: 64,
         reads: 0,
         forgotten: (0, 0),
@@ -33,6 +38,7 @@ const RUNS: [Run; 9] = [
     },
     Run {
         words: "",
+        ttl: 0,
         writes: 65,
         reads: 0,
         forgotten: (1, 24),
@@ -40,6 +46,7 @@ const RUNS: [Run; 9] = [
     },
     Run {
         words: "",
+        ttl: 0,
         writes: 65,
         reads: 1,
         forgotten: (2, 25),
@@ -47,6 +54,7 @@ const RUNS: [Run; 9] = [
     },
     Run {
         words: "",
+        ttl: 0,
         writes: 89,
         reads: 0,
         forgotten: (1, 48),
@@ -54,6 +62,7 @@ const RUNS: [Run; 9] = [
     },
     Run {
         words: "",
+        ttl: 0,
         writes: 89,
         reads: 2,
         forgotten: (2, 49),
@@ -61,6 +70,7 @@ const RUNS: [Run; 9] = [
     },
     Run {
         words: "--evict oldest",
+        ttl: 0,
         writes: 89,
         reads: 0,
         forgotten: (1, 48),
@@ -68,6 +78,7 @@ const RUNS: [Run; 9] = [
     },
     Run {
         words: "--evict least-read",
+        ttl: 0,
         writes: 65,
         reads: 0,
         forgotten: (1, 24),
@@ -75,6 +86,7 @@ const RUNS: [Run; 9] = [
     },
     Run {
         words: "--evict least-read",
+        ttl: 0,
         writes: 89,
         reads: 0,
         forgotten: (1, 24),
@@ -82,10 +94,35 @@ const RUNS: [Run; 9] = [
     },
     Run {
         words: "--evict least-read",
+        ttl: 0,
         writes: 89,
         reads: 1,
         forgotten: (2, 25),
         also: (33, 56),
+    },
+    Run {
+        words: "--now 1088 --tick 1",
+        ttl: 2100,
+        writes: 65,
+        reads: 0,
+        forgotten: (1, 8),
+        also: (0, 0),
+    },
+    Run {
+        words: "--now 1088 --tick 1 --evict least-read",
+        ttl: 2100,
+        writes: 65,
+        reads: 0,
+        forgotten: (1, 24),
+        also: (0, 0),
+    },
+    Run {
+        words: "--now 1080 --tick 1 --evict least-read",
+        ttl: 2100,
+        writes: 65,
+        reads: 0,
+        forgotten: (9, 32),
+        also: (0, 0),
     },
 ];
 
@@ -121,7 +158,9 @@ fn push_input(alloc: Global, text: &mut String, run: Run, value: &str) -> Result
         if key == 65 {
             push_times(text, "get k001\r\n", run.reads)?;
         }
-        push_key(alloc, text, "set ", key, " 0 0 476\r\n")?;
+        let ttl = run.ttl;
+        let behind = format!(in alloc; " 0 {ttl} 476\r\n")?;
+        push_key(alloc, text, "set ", key, behind.as_str())?;
         push_value(text, value)?;
     }
     for key in 1..=run.writes {
@@ -215,59 +254,81 @@ fn merges_keep_what_was_read(rt: HostRuntime) -> Result<(), Fail> {
 }
 
 /// Nine keys are written, each with a life of its own: eight times its number of seconds. The first one is read before
-/// and after the eighth write.
+/// and after the eighth write, and touched after it.
 #[derive(Clone, Copy)]
 struct Lives {
     words: &'static str,
     before: u32,
     after: u32,
+    touches: u32,
     /// The key that is forgotten.
     forgotten: u32,
 }
 
 /// Of the first quarter, the segments of the first two keys, the first one has fewest hits, unless the first key was
-/// read. The eighth segment that is opened halves all hits.
-const LIVES: [Lives; 7] = [
+/// read or touched. The eighth segment that is opened halves all hits.
+const LIVES: [Lives; 9] = [
     Lives {
         words: "",
         before: 0,
         after: 0,
+        touches: 0,
         forgotten: 1,
     },
     Lives {
         words: "--evict oldest",
         before: 3,
         after: 3,
+        touches: 0,
         forgotten: 1,
     },
     Lives {
         words: "--evict least-read",
         before: 0,
         after: 0,
+        touches: 0,
         forgotten: 1,
     },
     Lives {
         words: "--evict least-read",
         before: 0,
         after: 1,
+        touches: 0,
         forgotten: 2,
     },
     Lives {
         words: "--evict least-read",
         before: 1,
         after: 0,
+        touches: 0,
         forgotten: 1,
     },
     Lives {
         words: "--evict least-read",
         before: 2,
         after: 0,
+        touches: 0,
         forgotten: 2,
     },
     Lives {
         words: "--evict least-read",
         before: 3,
         after: 1,
+        touches: 0,
+        forgotten: 2,
+    },
+    Lives {
+        words: "--lenient --evict oldest",
+        before: 0,
+        after: 0,
+        touches: 1,
+        forgotten: 1,
+    },
+    Lives {
+        words: "--lenient --evict least-read",
+        before: 0,
+        after: 0,
+        touches: 1,
         forgotten: 2,
     },
 ];
@@ -291,6 +352,12 @@ fn push_life(
     output.push_str("STORED\r\n")
 }
 
+/// The first key is touched so many times, and keeps its deadline.
+fn push_touches(input: &mut String, output: &mut String, times: u32) -> Result<(), AllocError> {
+    push_times(input, "touch k1 8\r\n", times)?;
+    push_times(output, "TOUCHED\r\n", times)
+}
+
 fn push_lives(
     alloc: Global,
     input: &mut String,
@@ -303,6 +370,7 @@ fn push_lives(
         }
         if key == 9 {
             push_reads(input, output, lives.after)?;
+            push_touches(input, output, lives.touches)?;
         }
         push_life(alloc, input, output, key)?;
     }
@@ -335,7 +403,7 @@ fn check_lives<H: Abort + Threads + Wait + time::Clock + Sync>(
     let mut output = String::new(alloc);
     push_lives(alloc, &mut input, &mut output, lives)?;
     push_all(alloc, &mut input, &mut output, lives.forgotten)?;
-    let place = (lives.words, lives.before, lives.after);
+    let place = (lives.words, lives.before, lives.after, lives.touches);
     check_texts(
         rt,
         alloc,

@@ -297,7 +297,7 @@ fn lengths_at_their_limits(rt: HostRuntime) -> Result<(), Fail> {
 }
 
 /// The words, what a session sends, and what it is given.
-const LIVES: [(&str, &str, &str); 6] = [
+const LIVES: [(&str, &str, &str); 9] = [
     (
         "--now 1000 --tick 15",
         "set a 0 16 1\r\nx\r\nget a\r\n",
@@ -324,10 +324,25 @@ const LIVES: [(&str, &str, &str); 6] = [
         "set n 0 16 1\r\n1\r\nincr n 1\r\nget n\r\nget n\r\nget n\r\n",
         "STORED\r\n2\r\nVALUE n 0 1\r\n2\r\nEND\r\nVALUE n 0 1\r\n2\r\nEND\r\nEND\r\n",
     ),
+    (
+        "--now 1003 --tick 5",
+        "set n 0 16 1\r\nx\r\nget n\r\nget n\r\nget n\r\n",
+        "STORED\r\nVALUE n 0 1\r\nx\r\nEND\r\nVALUE n 0 1\r\nx\r\nEND\r\nVALUE n 0 1\r\nx\r\nEND\r\n",
+    ),
+    (
+        "--now 1003 --tick 5 --evict least-read",
+        "set n 0 16 1\r\nx\r\nget n\r\nget n\r\nget n\r\n",
+        "STORED\r\nVALUE n 0 1\r\nx\r\nEND\r\nVALUE n 0 1\r\nx\r\nEND\r\nEND\r\n",
+    ),
+    (
+        "--now 1003 --evict least-read",
+        "set n 0 7 1\r\nx\r\nget n\r\n",
+        "STORED\r\nVALUE n 0 1\r\nx\r\nEND\r\n",
+    ),
 ];
 
 /// A deadline is that of the segment: the life asked for cut down to a multiple of 8 seconds, from the moment at which the
-/// segment was opened.
+/// segment was opened; with `least-read` from the last multiple of 4 before, unless the life is shorter than 8 seconds.
 #[test]
 fn lives_end_with_their_segment(rt: HostRuntime) -> Result<(), Fail> {
     check_with_words(&rt, rt.alloc(), &LIVES)

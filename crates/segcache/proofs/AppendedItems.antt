@@ -1,6 +1,6 @@
 -- An item put into a segment: with what deadline, and what is shown then.
 use Rattle.std.proofs.Common.{◌≡◌, ℕ, ◌+◌, ◌-◌, ◌<◌, ◌≤◌, true, false, ◌∷◌, [], Option, Some, None, refl, sym, ap, subst}
-use Rattle.std.proofs.Common.{◌∙◌, inl, inr, arith}
+use Rattle.std.proofs.Common.{◌∙◌, inl, inr, arith, le_trans}
 use Rattle.std.specs.Prelude.{IsSome, ◌⊎◌, ◌==◌, nat_lt, nat_le, max, if◌then◌else◌, not}
 use Rattle.std.specs.Option.{option_map_or}
 use Rattle.std.specs.FinMap as finite
@@ -14,9 +14,11 @@ use Rattle.proto.specs.Buckets.{MayLive, bucket_of, time_to_live, shared_deadlin
 use Rattle.proto.proofs.DeadlineLemmas.{may_be_shared}
 use Rattle.segments.specs.declared.place.Place.{Place}
 use Rattle.segments.specs.Items.{Item, size_of_item}
-use Rattle.segments.specs.Pools.{PoolState, IsPool, Used, Liveness, item_in, place_deadline, deadline_in, bucket_deadline, segment_at, tail, is_sealed, lasting}
+use Rattle.segments.specs.Pools.{PoolState, IsPool, Used, Liveness, item_in, place_deadline, deadline_in, bucket_deadline, segment_at, tail, is_sealed, opening_moment, lasting}
 use Rattle.segments.specs.Changes.{IsAddedToTail, IsAddedToFree, open_tail, if_takes, takes, with_item}
-use Rattle.segments.proofs.Places.{appended, set_at, just_open, takes_open}
+use Rattle.segments.proofs.Places.{appended, set_at, takes_open}
+use Rattle.segments.proofs.OpeningLemmas.{opening_le, opening_open}
+use Rattle.proto.specs.declared.eviction.Eviction.{Eviction}
 use Rattle.segments.proofs.LinkLemmas.{some_within, last_passes, in_chain}
 use Rattle.segments.proofs.InTimeLemmas.{in_time_appended}
 use Rattle.segments.specs.Marks.{Marks}
@@ -34,12 +36,13 @@ use Rattle.segcache.proofs.ShownItems.{shown_insert, shown_remove, entry_is}
 use Rattle.segcache.proofs.TiedParts.{current_item}
 use Rattle.segcache.proofs.AppendNeeds.{appended_here, appended_other}
 
--- the item went to a segment of its bucket that takes items at the moment t and wasn't opened later; the others stay
+-- the item went to a segment of its bucket that takes items at the moment t and could be opened by then; the others stay
 pub record IsIn (p : PoolState) (bucket t : ℕ) (after : PoolState) (place : Place) : Type 0 where
   pub used : Used
   pub is_at : segment_at after place.segment ≡ Some used
   pub of_bucket : used.bucket ≡ bucket
-  pub was : used.opened ≤ t
+  pub was : used.opened ≤ opening_moment p.eviction bucket t
+  pub rule : after.eviction ≡ p.eviction
   pub takes : is_sealed bucket used.opened t ≡ false
   pub others : (n : ℕ) → (n == place.segment) ≡ false → segment_at after n ≡ segment_at p n
 
@@ -69,13 +72,16 @@ in_segment p bucket t i after place pool past (inl a) =
       used = u;
       is_at = at place.segment ∙ (let z = eq-eqb place.segment place.segment refl in rw z refl);
       of_bucket = same;
-      was = past.opened place.segment a.segment a.is_tail;
+      was = subst (λ (b : ℕ). a.segment.opened ≤ opening_moment p.eviction b t) same
+          (past.opened place.segment a.segment a.is_tail);
+      rule = ap (λ (r : PoolState). r.eviction) a.after_is;
       takes = subst (λ b. is_sealed b a.segment.opened t ≡ false) same
           (takes_open p t (size_of_item i) (segment_at p place.segment) a.segment a.is_tail number.1);
       others = λ n e. at n ∙ rw e refl;
     }
 in_segment p bucket t i after place pool past (inr a) =
-    let u : Used = record { bucket = bucket; opened = t; items = i ∷ [] } in
+    let o = opening_moment p.eviction bucket t in
+    let u : Used = record { bucket = bucket; opened = o; items = i ∷ [] } in
     let range = a.in_range in
     let count = pool.count in
     let at : (m : ℕ) → segment_at after m ≡ (if m == place.segment then Some u else segment_at p m) =
@@ -86,7 +92,8 @@ in_segment p bucket t i after place pool past (inr a) =
       is_at = at place.segment ∙ (let z = eq-eqb place.segment place.segment refl in rw z refl);
       of_bucket = refl;
       was = omega arith;
-      takes = just_open bucket t;
+      rule = ap (λ (r : PoolState). r.eviction) a.after_is;
+      takes = opening_open p.eviction bucket t;
       others = λ n e. at n ∙ rw e refl;
     }
 
@@ -103,8 +110,12 @@ past_put p bucket t i after place pool past added x =
                 let same : n ≡ place.segment = eqb-true n place.segment y in
                 let one : Some u ≡ Some x.used = sym e ∙ ap (segment_at after) same ∙ x.is_at in
                 let is : u ≡ x.used = cc in
-                subst (λ (v : Used). v.opened ≤ t) (sym is) x.was
-            | inr f ↦ past.opened n u (sym (x.others n f) ∙ e)
+                let by : x.used.opened ≤ opening_moment after.eviction x.used.bucket t =
+                subst (λ (k : Eviction). x.used.opened ≤ opening_moment k x.used.bucket t) (sym x.rule)
+                (subst (λ (b : ℕ). x.used.opened ≤ opening_moment p.eviction b t) (sym x.of_bucket) x.was) in
+                subst (λ (v : Used). v.opened ≤ opening_moment after.eviction v.bucket t) (sym is) by
+            | inr f ↦ subst (λ (k : Eviction). u.opened ≤ opening_moment k u.bucket t) (sym x.rule)
+                (past.opened n u (sym (x.others n f) ∙ e))
           ];
       in_order = (in_time_appended p bucket t i after place pool added (in_time_past p t pool past)).order;
     }
@@ -176,7 +187,8 @@ pub put_deadline : (p after : PoolState) (marks : Marks) (index : Table) (bucket
 put_deadline p after marks index bucket t i asked place past tied added waits of_bucket =
     let a = appended p bucket t i after place tied.known.pool added in
     let x = in_segment p bucket t i after place tied.known.pool past added in
-    let may = deadline_may t bucket x.used.opened asked waits of_bucket x.was x.takes in
+    let was = le_trans x.was (opening_le p.eviction bucket t) in
+    let may = deadline_may t bucket x.used.opened asked waits of_bucket was x.takes in
     let deadline : place_deadline after place ≡ bucket_deadline bucket x.used.opened =
     ap deadline_in x.is_at ∙ ap (λ b. bucket_deadline b x.used.opened) x.of_bucket in (
       bucket_deadline bucket x.used.opened,

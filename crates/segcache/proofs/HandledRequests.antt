@@ -17,7 +17,7 @@ use Rattle.segcache.specs.declared.segment_map.SegmentMap.{SegmentMap}
 use Rattle.segcache.specs.Shown.{shown_entries}
 use Rattle.segcache.specs.State.{MapState, IsSegmentedMap}
 use Rattle.segcache.specs.StoreState.{sizes_in, segmented_cache}
-use Rattle.segcache.specs.Writes.{StandsAt, WritesToSegments, ChangesSegments, stays_as, IsReadAgain, HasSamePool}
+use Rattle.segcache.specs.Writes.{StandsAt, WritesToSegments, ChangesSegments, stays_as, IsReadAgain, IsTouched, HasSamePool}
 use Rattle.segcache.specs.Keeping.{KeepsStored}
 use Rattle.segcache.specs.Handling.{LeavesSegments, HandlesSegments}
 use Rattle.segcache.specs.Handling.LeavesSegments.{writes, changes, dates, reads, stays, refuses}
@@ -34,6 +34,7 @@ members =
       writes = WritesToSegments;
       changes = ChangesSegments;
       reads = IsReadAgain;
+      touches = IsTouched;
       stays = stays_as;
       alike = HasSamePool;
       keeps = KeepsStored;
@@ -60,7 +61,14 @@ stored_by as_written found done after key e stored asked s = writes key e stored
 stored_by as_changed found done after key e stored asked s = changes key e stored refl asked s
 stored_by as_touched found done after key e stored asked (inl s) =
     dates key e stored refl asked
-    (inl (record { deadline = s.deadline; there = s.there; stays = s.stays; may_stay = s.may_stay; same = s.same }))
+    (inl (record {
+      deadline = s.deadline;
+      there = s.there;
+      stays = s.stays;
+      may_stay = s.may_stay;
+      touched = s.touched;
+      entries = ap (shown_entries after.pool after.index) (sym (ap (λ (m : MapState). m.moment) s.touched.new_is)) ∙ s.entries;
+    }))
 stored_by as_touched found done after key e stored asked (inr s) =
     dates key e stored refl asked (inr (record { deadline = s.deadline; there = s.there; stays_not = s.stays_not; writes = s.writes }))
 

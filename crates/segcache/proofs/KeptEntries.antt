@@ -18,7 +18,7 @@ use Rattle.segments.specs.declared.place.Place.{Place}
 use Rattle.segments.specs.Items.{Item, IsStorable}
 use Rattle.segments.specs.Pools.{PoolState, IsPool, Used, Liveness, item_in, place_deadline, deadline_in, segment_at, lasting}
 use Rattle.proto.specs.declared.eviction.Eviction.{Eviction}
-use Rattle.segments.specs.Changes.{with_change, with_eviction, new_pool}
+use Rattle.segments.specs.Changes.{with_change, with_eviction, with_segment_hit, new_pool}
 use Rattle.segments.specs.Filling.{IsFilled, held_size}
 use Rattle.segments.proofs.ItemChanges.{KeepsSize, some_kept}
 use Rattle.segments.proofs.Places.{appended, changed_segment}
@@ -187,6 +187,16 @@ keeps_changed change old new place k is items keeps =
           ]);
       undated = keeps.undated;
       held = omega arith;
+    }
+
+-- where only a hit of a segment is counted, all is kept
+pub keeps_touched : (old new : MapState) (n : ℕ) → new.pool ≡ with_segment_hit old.pool n → StaysKept KeepsStored old new
+keeps_touched old new n is items keeps =
+    record {
+      filled = subst IsFilled (sym is) keeps.filled;
+      all_last = subst AllLast (sym is) keeps.all_last;
+      undated = keeps.undated;
+      held = subst (λ (q : PoolState). held_size q ≤ written items) (sym is) keeps.held;
     }
 
 -- where the pool stays, all is kept

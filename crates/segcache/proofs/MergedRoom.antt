@@ -15,7 +15,7 @@ use Rattle.segments.specs.declared.place.Move.{Move}
 use Rattle.segments.specs.Items.{Item, with_reads_halved}
 use Rattle.segments.specs.Changes.{with_items}
 use Rattle.proto.specs.Counts.{times}
-use Rattle.segments.specs.Pools.{PoolState, Plan, IsPool, Used, Standing, segment_at, item_in, place_deadline, standing, live_standing}
+use Rattle.segments.specs.Pools.{PoolState, Plan, IsPool, Used, opening_moment, Standing, segment_at, item_in, place_deadline, standing, live_standing}
 use Rattle.segments.specs.Places.{same_place, moved_by}
 use Rattle.segments.specs.Merges.{qualifies, front, merged_segments, merged_into, live_items, contains_number, carried_out, carried_items}
 use Rattle.segments.proofs.MovedPlaces.{moved_other, moved_live, live_source, sources_live, same_place_is, merged_front, merged_in_chain, merged_segment}
@@ -27,6 +27,8 @@ use Rattle.segcache.specs.Shown.{current, entry_at, kept_entry}
 use Rattle.segcache.specs.Kept.{IsTied, IsPast}
 use Rattle.segcache.specs.Room.{IsCrowded, IsRoomMade}
 use Rattle.segcache.proofs.ShownItems.{entry_is}
+use Rattle.segcache.proofs.OpeningMoments.{earlier}
+use Rattle.proto.specs.declared.eviction.Eviction.{Eviction}
 use Rattle.segcache.proofs.TiedParts.{current_item}
 use Rattle.segcache.proofs.LeftPlaces.{is_left, standing_all}
 use Rattle.segcache.proofs.EvictedKeys.{IsCurrent, HaveStayed, size_in, segment_sizes, evicted_kept, current_among}
@@ -34,24 +36,26 @@ use Rattle.segcache.proofs.MergedMarks.{IsMergeRelocated}
 
 -- ---- when segments were opened
 
--- a segment with other items has its moment
+-- a segment with other items has its moment and its bucket
 filled_opened : (items : List Item) (o : Option Used) (u : Used) → option_map (with_items items) o ≡ Some u
-    → (s : Used) × (o ≡ Some s) × (u.opened ≡ s.opened)
+    → (s : Used) × (o ≡ Some s) × (u.opened ≡ s.opened) × (u.bucket ≡ s.bucket)
 filled_opened items None u e = absurd (none-some u e)
 filled_opened items (Some s) u e = (
   s,
   refl,
   (let f : with_items items s ≡ u = cc in sym (ap (λ (x : Used). x.opened) f)),
+  (let f : with_items items s ≡ u = cc in sym (ap (λ (x : Used). x.bucket) f)),
 )
 
 -- a segment that stays, or becomes another one with other items, unless it is freed, was opened by a moment by which both were
-opened_by : (c e : Bool) (items : List Item) (f o : Option Used) (t : ℕ) (u : Used)
+opened_by : (rule : Eviction) (c e : Bool) (items : List Item) (f o : Option Used) (t : ℕ) (u : Used)
     → (if c then None else (if e then option_map (with_items items) f else o)) ≡ Some u
-    → ((s : Used) → f ≡ Some s → s.opened ≤ t) → ((s : Used) → o ≡ Some s → s.opened ≤ t) → u.opened ≤ t
-opened_by true e items f o t u h a b = absurd (none-some u h)
-opened_by false true items f o t u h a b = let r = filled_opened items f u h in
-    subst (λ (x : ℕ). x ≤ t) (sym r.2) (a r.0 r.1)
-opened_by false false items f o t u h a b = b u h
+    → ((s : Used) → f ≡ Some s → s.opened ≤ opening_moment rule s.bucket t)
+    → ((s : Used) → o ≡ Some s → s.opened ≤ opening_moment rule s.bucket t) → u.opened ≤ opening_moment rule u.bucket t
+opened_by rule true e items f o t u h a b = absurd (none-some u h)
+opened_by rule false true items f o t u h a b = let r = filled_opened items f u h in
+    earlier rule t r.0 u r.2 r.3 (a r.0 r.1)
+opened_by rule false false items f o t u h a b = b u h
 
 -- no segment gets another moment
 past_merged : (p : PoolState) (plan : Plan) (after : PoolState) (t : ℕ) → IsTrue (qualifies p plan.choice)
@@ -70,13 +74,15 @@ past_merged p plan after t qualifying is past =
     let used = merged_in_chain p plan.choice first some in
     let now : after ≡ merged_into p plan.choice (first ∷ others) items =
     is ∙ ap (λ (xs : List ℕ). merged_into p plan.choice xs items) whole in
+    let rule : after.eviction ≡ p.eviction = ap (λ (r : PoolState). r.eviction) now in
     record {
       within = past.within;
       opened = λ n u e.
-          opened_by (contains_number others n) (n == first) items (segment_at p first) (segment_at p n) t u
+          subst (λ (k : Eviction). u.opened ≤ opening_moment k u.bucket t) (sym rule)
+          (opened_by p.eviction (contains_number others n) (n == first) items (segment_at p first) (segment_at p n) t u
           (sym (ap (λ (r : PoolState). segment_at r n) now
           ∙ merged_segment p plan.choice first others items n used.within) ∙ e) (past.opened first)
-          (past.opened n);
+          (past.opened n));
       in_order = subst IsInTimeOrder (sym is)
           (order_part p (carried_out p plan) (part_merged p plan.choice items qualifying) past.in_order);
     }

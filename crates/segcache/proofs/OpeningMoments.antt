@@ -7,11 +7,13 @@ use Rattle.std.proofs.lemmas.List.Elements.{All-nil, All-cons}
 use Rattle.std.proofs.lemmas.Bool.{cases_Bool}
 use Rattle.std.proofs.lemmas.Option.{none-some}
 use Rattle.segments.specs.declared.place.Place.{Place}
-use Rattle.segments.specs.Pools.{PoolState, IsPool, Used, Liveness, segment_at, has_live}
+use Rattle.segments.specs.Pools.{PoolState, IsPool, Used, Liveness, segment_at, has_live, opening_moment, lasting}
 use Rattle.segments.specs.Items.{Item}
-use Rattle.segments.specs.Changes.{with_change, change_in, without_segment, IsGivenBack}
+use Rattle.segments.specs.Changes.{with_change, with_segment_hit, change_in, without_segment, IsGivenBack}
 use Rattle.segments.specs.Merges.{opened_at}
-use Rattle.segments.specs.Filling.{IsInTime}
+use Rattle.proto.specs.declared.eviction.Eviction.{Eviction}
+use Rattle.segments.specs.Filling.{IsInTime, IsOpenedBy, bucket_in}
+use Rattle.segments.proofs.OpeningLemmas.{opening_later}
 use Rattle.segments.proofs.Places.{changed_segment, cleared_segment}
 use Rattle.segments.proofs.GroupLemmas.{AreUsed, order_used}
 use Rattle.segments.proofs.InTimeLemmas.{order_changed, order_part, part_given, part_cleared}
@@ -22,7 +24,7 @@ use Rattle.segcache.specs.Kept.{IsPast}
 pub past_later : (p : PoolState) (t u : ℕ) → IsPast p t → t ≤ u → u ≤ 4611686018427387904 → IsPast p u
 past_later p t u past le within = record {
   within = within;
-  opened = λ n s e. le_trans (past.opened n s e) le;
+  opened = λ n s e. le_trans (past.opened n s e) (opening_later p.eviction s.bucket t u le);
   in_order = past.in_order;
 }
 
@@ -35,6 +37,13 @@ was_opened change (Some s) offset u e =
     let f : change_in change offset s ≡ u = cc in
     (s, refl, sym (ap (λ (x : Used). x.opened) f), sym (ap (λ (x : Used). x.bucket) f))
 
+-- of two segments of one bucket with one opening moment both could be opened by a moment, or none
+pub earlier : (e : Eviction) (t : ℕ) (s u : Used) → u.opened ≡ s.opened → u.bucket ≡ s.bucket
+    → s.opened ≤ opening_moment e s.bucket t → u.opened ≤ opening_moment e u.bucket t
+earlier e t s u moment bucket le =
+    subst (λ (x : ℕ). x ≤ opening_moment e u.bucket t) (sym moment)
+    (subst (λ (b : ℕ). s.opened ≤ opening_moment e b t) (sym bucket) le)
+
 -- where an item is changed, segments still stand in order, and none was opened after the moment
 pub past_changed : (change : Item → Item) (p : PoolState) (t : ℕ) (place : Place) → IsPast p t → IsSome (item_in p place)
     → IsPast (with_change change p place) t
@@ -46,11 +55,17 @@ past_changed change p t place past some =
           elim (cases_Bool (n == place.segment)) [
             | inl y ↦
                 let r = was_opened change (segment_at p place.segment) place.offset u (sym (at ∙ rw y refl) ∙ e) in
-                subst (λ x. x ≤ t) (sym r.2) (past.opened place.segment r.0 r.1)
+                earlier p.eviction t r.0 u r.2 r.3 (past.opened place.segment r.0 r.1)
             | inr f ↦ past.opened n u (sym (at ∙ rw f refl) ∙ e)
           ]);
       in_order = order_changed change p place some past.in_order;
     }
+
+-- where only a hit of a segment is counted, nothing changes of that
+pub past_hit : (p after : PoolState) (t n : ℕ) → after ≡ with_segment_hit p n → IsPast p t → IsPast after t
+past_hit p after t n is past =
+    subst (λ (q : PoolState). IsPast q t) (sym is)
+    (record { within = past.within; opened = past.opened; in_order = past.in_order })
 
 -- a segment that is kept where a test holds, and is there, is the one that was there
 part_of : (b : Bool) (o : Option Used) (u : Used) → (if b then o else None) ≡ Some u → o ≡ Some u
@@ -63,7 +78,8 @@ pub past_given : (lives : Liveness) (p after : PoolState) (t : ℕ) → IsPast p
 past_given lives p after t past g =
     record {
       within = past.within;
-      opened = λ n u e. past.opened n u (part_of (has_live lives p n) (segment_at p n) u (sym (g.segments n) ∙ e));
+      opened = λ n u e. subst (λ (k : Eviction). u.opened ≤ opening_moment k u.bucket t) (sym g.eviction)
+          (past.opened n u (part_of (has_live lives p n) (segment_at p n) u (sym (g.segments n) ∙ e)));
       in_order = order_part p after (part_given lives p after g) past.in_order;
     }
 
@@ -83,12 +99,16 @@ past_cleared p t n past some =
 
 -- the segments of chains were opened in time
 opened_all : (p : PoolState) (t : ℕ) (numbers : List ℕ) → AreUsed p numbers → IsPast p t
-    → All (λ m. opened_at p m ≤ t) numbers
-opened_all p t [] used past = All-nil (λ m. opened_at p m ≤ t)
+    → All (IsOpenedBy p.eviction p t) numbers
+opened_all p t [] used past = All-nil (IsOpenedBy p.eviction p t)
 opened_all p t (n ∷ later) used past =
     let u = used.0.0 in
     let is : opened_at p n ≡ u.opened = ap (λ (o : Option Used). option_map_or (λ (s : Used). s.opened) o 0) used.0.1 in
-    All-cons (λ m. opened_at p m ≤ t) n later (subst (λ (x : ℕ). x ≤ t) (sym is) (past.opened n u used.0.1))
+    let of : bucket_in p n ≡ u.bucket =
+    ap (λ (o : Option Used). option_map_or (λ (s : Used). s.bucket) o lasting) used.0.1 in
+    All-cons (IsOpenedBy p.eviction p t) n later
+    (subst (λ (x : ℕ). x ≤ opening_moment p.eviction (bucket_in p n) t) (sym is)
+    (subst (λ (b : ℕ). u.opened ≤ opening_moment p.eviction b t) (sym of) (past.opened n u used.0.1)))
     (opened_all p t later used.1 past)
 
 -- where no segment was opened after a moment, none that the pool's order names was, and they stand in the order of opening

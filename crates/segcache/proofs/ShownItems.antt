@@ -14,13 +14,13 @@ use Rattle.proto.proofs.CacheLemmas.{contains_bytes, is_live, same_entries, get-
 use Rattle.segments.specs.declared.place.Place.{Place}
 use Rattle.segments.specs.Items.{Item, read_again}
 use Rattle.segments.specs.Pools.{PoolState, item_in, place_deadline}
-use Rattle.segments.specs.Changes.{with_change, with_read}
+use Rattle.segments.specs.Changes.{with_change, with_read, with_segment_hit}
 use Rattle.segments.specs.Places.{same_place}
 use Rattle.segments.proofs.ItemChanges.{KeepsSize, keeps_read, some_kept}
 use Rattle.segments.proofs.Places.{changed_item, changed_deadline}
-use Rattle.index.specs.Table.{Places}
+use Rattle.index.specs.Table.{Table, Places}
 use Rattle.index.proofs.SlotsAsMap as mapping
-use Rattle.segcache.specs.Shown.{kept_entry, dead_entry, entry_at, entries_at, live_entries}
+use Rattle.segcache.specs.Shown.{kept_entry, dead_entry, entry_at, entries_at, live_entries, current, shown_entries}
 use Rattle.segcache.specs.Leaving.{HaveExpiredLeft}
 
 -- to look up a key among the entries at places is to look up its place and take the entry there
@@ -202,6 +202,18 @@ read_entry : (d : Option ℕ) (o : Option Item)
     → option_map_or (kept_entry d) (option_map read_again o) dead_entry ≡ option_map_or (kept_entry d) o dead_entry
 read_entry d None = refl
 read_entry d (Some i) = refl
+
+-- a hit of a segment changes no entry
+hit_entry : (p : PoolState) (n : ℕ) (r : Place) → entry_at (with_segment_hit p n) r ≡ entry_at p r
+unfolding entry_at
+hit_entry p n r = refl
+
+-- so all is shown that was
+pub shown_hit : (p after : PoolState) (index : Table) (t n : ℕ) → after ≡ with_segment_hit p n
+    → current after index ≡ current p index → shown_entries after index t ≡ shown_entries p index t
+shown_hit p after index t n is same =
+    ap (λ (m : Places). live_entries after m t) same
+    ∙ shown_same p after (current p index) t (λ q r h. ap (λ (x : PoolState). entry_at x r) is ∙ hit_entry p n r)
 
 -- a read changes no entry
 pub touched_entry : (p : PoolState) (place r : Place) → IsSome (item_in p place)

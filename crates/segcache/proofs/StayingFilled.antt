@@ -152,14 +152,14 @@ dated_filled found after done key e stored asked w items filled =
     let exact : IsDated t done.reply (finite.insert shown key e) (Some key) (finite.insert shown key left) =
     dated-insert t done.reply shown key e w.deadline w.may_stay in
     let now : shown_entries after.pool after.index t ≡ finite.insert shown key left =
-    ap (λ (m : MapState). shown_entries m.pool m.index t) w.same ∙ sym (insert-same shown key left w.there) in
-    let held : held_size after.pool ≡ held_size p = ap (λ (m : MapState). held_size m.pool) w.same in
+    w.entries ∙ sym (insert-same shown key left w.there) in
+    let held : held_size after.pool ≡ held_size p = ap (λ (m : MapState). held_size m.pool) w.touched.new_is in
     record {
       dated = inr (inr (subst (λ (o : Option (List ℕ)). IsDated t done.reply done.entries o
           (shown_entries after.pool after.index t)) (sym stored)
           (subst (λ (m : Entries). IsDated t done.reply m (Some key) (shown_entries after.pool after.index t)) (sym asked)
           (subst (λ (m : Entries). IsDated t done.reply (finite.insert shown key e) (Some key) m) (sym now) exact))));
-      filled = subst (λ (m : MapState). IsFilled m.pool) (sym w.same) filled;
+      filled = subst (λ (m : MapState). IsFilled m.pool) (sym w.touched.new_is) filled;
       held = omega arith;
     }
 

@@ -1,6 +1,6 @@
 -- What ties pool, index and marks together, and what changes of them leave of that.
 use Rattle.std.proofs.Common.{◌≡◌, ℕ, ◌/◌, Bool, true, false, cond, List, Option, Some, None, refl, sym, ap, subst, ◌∙◌, inl, inr}
-use Rattle.std.specs.Prelude.{bytes_eq, option_map, IsSome, IfSome, ◌⊎◌, ◌*◌, ◌≤◌, if◌then◌else◌}
+use Rattle.std.specs.Prelude.{bytes_eq, option_map, IsSome, IfSome, ◌⊎◌, ◌*◌, ◌≤◌, ◌<◌, if◌then◌else◌}
 use Rattle.std.specs.FinMap as finite
 use Rattle.std.specs.FinMap.{slice_cmp-IsAntisymmetric, nat_cmp-IsAntisymmetric}
 use Rattle.std.specs.Cmp.Lexicographic.{nat_list_cmp_total}
@@ -11,7 +11,7 @@ use Rattle.segments.specs.declared.place.Place.{Place}
 use Rattle.segments.specs.Items.{Item}
 use Rattle.segments.specs.Pools.{PoolState, IsPool, item_in, has_live}
 use Rattle.proto.specs.Sizes.{Sizes}
-use Rattle.segments.specs.Changes.{with_change, IsGivenBack}
+use Rattle.segments.specs.Changes.{with_change, with_segment_hit, IsGivenBack}
 use Rattle.segments.specs.Places.{same_place, IsAppended}
 use Rattle.segments.proofs.ItemChanges.{KeepsSize}
 use Rattle.segments.proofs.Places.{own_marks, changed_item, given_item, live_given}
@@ -259,6 +259,24 @@ tied_changed change p after index t place tied k pool is =
     (tied_same p (with_change change p place) index t tied
     (knows_changed change t p place tied.known (subst IsPool is pool) k.sized) refl (λ r _. changed_key change p place r k))
 
+-- where only a hit of a segment is counted, a place has the key that it had
+hit_key : (p : PoolState) (n : ℕ) (r : Place) → key_at (with_segment_hit p n) r ≡ key_at p r
+unfolding key_at
+hit_key p n r = refl
+
+-- and all stays tied
+pub tied_hit : (p after : PoolState) (index : Table) (t : Marks) (n : ℕ) → IsTied p index t → IsPool after
+    → after ≡ with_segment_hit p n → IsTied after index t × (current after index ≡ current p index)
+tied_hit p after index t n tied pool is =
+    tied_same p after index t tied
+    (subst (KnowsPool t) (sym is) (record {
+      pool = subst IsPool is pool;
+      sizes = tied.known.sizes;
+      sized = tied.known.sized;
+      each = tied.known.each;
+    }))
+    (ap (λ (q : PoolState). q.sizes) is) (λ r _. ap (λ (q : PoolState). key_at q r) is ∙ hit_key p n r)
+
 -- where segments without a marked item are given back, a marked place keeps its key, or still has none
 given_key : (t : Marks) (p after : PoolState) (r : Place) (o : Option Item) → IsGivenBack (lives_by t) p after
     → item_in p r ≡ o → is_marked t r ≡ true
@@ -445,3 +463,10 @@ removed_none m key none =
 pub current_some : (p : PoolState) (index : Table) (q : List ℕ) (r : Place) → finite.get (current p index) q ≡ Some r
     → IsSome (item_in p r)
 current_some p index q r h = let x = current_item p index q r h in some_item p r x.0 x.1
+
+-- and is that of one of the pool's segments
+pub current_within : (p : PoolState) (index : Table) (t : Marks) (q : List ℕ) (r : Place) → KnowsPool t p
+    → finite.get (current p index) q ≡ Some r → r.segment < p.sizes.segments
+current_within p index t q r known h =
+    subst (λ (s : Sizes). r.segment < s.segments) known.sizes
+    (item_within t p r known (current_some p index q r h)).segment

@@ -14,7 +14,7 @@ use Rattle.proto.specs.Stored.{StoredItem, written, spread}
 use Rattle.proto.proofs.CacheLemmas.{without-nil}
 use Rattle.segments.specs.declared.place.Place.{Place}
 use Rattle.segments.specs.Items.{Item, size_of_item, IsStorable}
-use Rattle.segments.specs.Pools.{PoolState, IsPool, Used, Liveness, segment_at, lasting}
+use Rattle.segments.specs.Pools.{PoolState, IsPool, Used, Liveness, segment_at, opening_moment, lasting}
 use Rattle.segments.specs.Changes.{HasNoRoom, IsAddedToTail, IsAddedToFree}
 use Rattle.segments.specs.Filling.{IsFilled, HoldsLittle, held_size, Group, group_for, group_of, same_group, groups_among, groups_with}
 use Rattle.segments.proofs.FilledLemmas.{keeps_append}
@@ -115,8 +115,9 @@ groups_last p t (n ∷ later) used all =
 
 -- where all is of that bucket, an item of it goes to the one group
 pub one_group : (p : PoolState) (t : ℕ) → IsPool p → AllLast p → groups_with p lasting t ≡ 1
-one_group p t pool all = groups_of_one (group_for lasting t) (map (group_of p) p.order)
-    (groups_last p t p.order (order_used p pool) all)
+one_group p t pool all =
+    let k = opening_moment p.eviction lasting t in
+    groups_of_one (group_for lasting k) (map (group_of p) p.order) (groups_last p k p.order (order_used p pool) all)
 
 -- ---- items without deadlines
 

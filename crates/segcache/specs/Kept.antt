@@ -4,7 +4,7 @@ use Rattle.std.specs.FinMap as finite
 use Rattle.proto.specs.History.{max_moment}
 use Rattle.segments.specs.declared.place.Place.{Place}
 use Rattle.segments.specs.Items.{Item}
-use Rattle.segments.specs.Pools.{PoolState, Used, segment_at, item_in}
+use Rattle.segments.specs.Pools.{PoolState, Used, segment_at, item_in, opening_moment}
 use Rattle.segments.specs.Filling.{IsInTimeOrder}
 use Rattle.segments.specs.Marks.{Marks, KnowsPool, is_marked}
 use Rattle.index.specs.Layouts.{IsLayoutOf}
@@ -24,9 +24,9 @@ pub record IsTied (p : PoolState) (index : Table) (marks : Marks) : Type 0 where
   pub roomy : 2 * (p.sizes.segments * (p.sizes.segment_size / 32)) ≤ index.room
   pub layout : IsLayoutOf p.sizes index.layout
 
--- no segment was opened after the moment t, which is within its limit, and those of chains stand in the order of their
--- opening moments
+-- no segment has a later opening moment than one that is opened for a write at the moment t, which is within its limit,
+-- and those of chains stand in the order of their opening moments, as far as the pool's rule keeps it
 pub record IsPast (p : PoolState) (t : ℕ) : Type 0 where
   pub within : t ≤ max_moment
-  pub opened : (n : ℕ) (u : Used) → segment_at p n ≡ Some u → u.opened ≤ t
+  pub opened : (n : ℕ) (u : Used) → segment_at p n ≡ Some u → u.opened ≤ opening_moment p.eviction u.bucket t
   pub in_order : IsInTimeOrder p

@@ -9,7 +9,7 @@ use Rattle.proto.specs.Buckets.{bucket_of, time_to_live, life_width, MayLive}
 use Rattle.segments.specs.declared.place.Place.{Place}
 use Rattle.segments.specs.Items.{Item, IsStorable, fits_over}
 use Rattle.segments.specs.Pools.{item_in, place_deadline}
-use Rattle.segments.specs.Changes.{with_read, with_item_at}
+use Rattle.segments.specs.Changes.{with_read, with_item_at, with_segment_hit}
 use Rattle.segcache.specs.State.{MapState, IsSegmentedMap}
 use Rattle.segcache.specs.Shown.{current, entry_at, shown_entries}
 use Rattle.segcache.specs.Living.{live_others}
@@ -72,13 +72,20 @@ stays_as t (Some asked) (Some given) =
     && (nat_lt (min asked (t + 8388608)) (given + 2 * life_width (asked - t)) || nat_le (asked - given) ((asked - t) / 8))
 stays_as t _ _ = false
 
--- the key's entry was left as it is, whose deadline may stand for the one asked for
+-- a hit of the segment of the key's item was counted, and nothing else changed
+pub record IsTouched (old : MapState) (key : List ℕ) (new : MapState) : Type 0 where
+  pub place : Place
+  pub stands : StandsAt old key place
+  pub new_is : new ≡ record old { pool = with_segment_hit old.pool place.segment }
+
+-- the key's entry was left as it is, whose deadline may stand for the one asked for, and the touch was counted
 pub record StaysDated (old : MapState) (key : List ℕ) (entry : Entry) (reply : Reply) (new : MapState) : Type 0 where
   pub deadline : Option ℕ
   pub there : finite.get (shown_entries old.pool old.index old.moment) key ≡ Some (record entry { deadline = deadline })
   pub stays : IsTrue (stays_as old.moment entry.deadline deadline)
   pub may_stay : MayBeDated old.moment entry.deadline deadline reply
-  pub same : new ≡ old
+  pub touched : IsTouched old key new
+  pub entries : shown_entries new.pool new.index old.moment ≡ shown_entries old.pool old.index old.moment
 
 -- it was written anew, since it may not
 pub record IsDatedAnew (old : MapState) (key : List ℕ) (entry : Entry) (new : MapState) : Type 0 where

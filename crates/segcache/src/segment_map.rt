@@ -101,7 +101,7 @@ fn entry_at<'a>(pool: &'a Pool, place: Place) -> EntryRef<'a>
 impl LiveMap for SegmentMap {
     ghost use Rattle.std.specs.Prelude.{false};
     ghost use Rattle.segcache.specs.Shown.{shown_entries};
-    ghost use Rattle.segcache.specs.Writes.{StandsAt, WritesToSegments, ChangesSegments, stays_as, IsReadAgain, HasSamePool};
+    ghost use Rattle.segcache.specs.Writes.{StandsAt, WritesToSegments, ChangesSegments, stays_as, IsReadAgain, IsTouched, HasSamePool};
     ghost use Rattle.segcache.specs.Keeping.{KeepsStored};
 
     type Place = Place;
@@ -121,6 +121,8 @@ impl LiveMap for SegmentMap {
     ghost changes = { ChangesSegments };
 
     ghost reads = { IsReadAgain };
+
+    ghost touches = { IsTouched };
 
     ghost stays = { stays_as };
 
@@ -164,6 +166,10 @@ impl LiveMap for SegmentMap {
 
     fn count_read(&mut self, _key: &[u8], place: Place) {
         self.pool.touch(place);
+    }
+
+    fn count_touch(&mut self, _key: &[u8], place: Place) {
+        self.pool.count_hit(place.segment);
     }
 
     fn write(&mut self, key: &[u8], entry: EntryRef) -> Result<(), NoMemory> {

@@ -12,13 +12,16 @@ use Rattle.std.proofs.lemmas.Bool.{cases_lt, cases_Bool, cases_eq, eq-eqb, ne_eq
 use Rattle.std.proofs.lemmas.Bool.{false≢true, and_parts, and_from, le-ltb, or_cases, or_left, or_right, or_parts}
 use Rattle.segments.specs.Items.{Item, size_of_item, size_of_all, IsStorable}
 use Rattle.proto.specs.Counts.{times}
-use Rattle.segments.specs.Pools.{PoolState, IsPool, Used, segment_at, in_bucket, tail, items_of, is_sealed, lasting}
+use Rattle.segments.specs.Pools.{PoolState, IsPool, Used, segment_at, in_bucket, tail, items_of, is_sealed, lasting, opening_moment}
+use Rattle.proto.specs.declared.eviction.Eviction.{Eviction}
+use Rattle.proto.specs.declared.eviction.Eviction.TheVariants.{Oldest, LeastRead}
 use Rattle.segments.specs.Changes.{takes, if_takes, open_tail, IsPoolFull, HasNoRoom}
 use Rattle.segments.specs.Merges.{opened_at}
+use Rattle.segments.specs.Filling.{bucket_in, IsInOrder, IsOpenedBy}
 use Rattle.segments.specs.Filling.{goes_with, AreFilled, IsFilled, AreInTime, IsInTime, Group, group_for, group_of, same_group}
 use Rattle.segments.specs.Filling.{groups_among, held_in, held_among, held_size, groups_with, filled_size, HoldsLittle}
 use Rattle.proto.specs.Sizes.{item_limit}
-use Rattle.segments.proofs.Places.{just_open}
+use Rattle.segments.proofs.OpeningLemmas.{opening_open}
 use Rattle.segments.proofs.LinkLemmas.{times_range, length_range, same_length, used_if}
 
 -- ---- counting groups
@@ -175,29 +178,46 @@ any_group p n u (m ∷ later) e used h =
 
 -- ---- an item's group: the last segment of it is its tail
 
--- where none goes with a segment that was opened at t, none is after it in the bucket
+-- a segment of a bucket has that bucket
+bucket_of_in : (o : Option Used) (b : ℕ) → option_map_or (λ (s : Used). s.bucket == b) o false ≡ true
+    → option_map_or (λ (s : Used). s.bucket) o lasting ≡ b
+bucket_of_in None b h = absurd (false≢true h)
+bucket_of_in (Some u) b h = eqb-true u.bucket b h
+
+-- segments in order that are of one bucket were opened in that order, whatever the rule
+ordered : (e : Eviction) (p : PoolState) (n m : ℕ) → bucket_in p n ≡ bucket_in p m → IsInOrder e p n m
+    → opened_at p n ≤ opened_at p m
+ordered Oldest p n m same h = h
+ordered LeastRead p n m same h = h same
+
+-- where none goes with a segment that could be opened at t, none is after it in the bucket
 none_behind : (p : PoolState) (b t n : ℕ) (u : Used) (later : List ℕ) → segment_at p n ≡ Some u → u.bucket ≡ b
-    → ((b == lasting) || (u.opened == t)) ≡ true
-    → AreUsed p later → All (λ m. opened_at p n ≤ opened_at p m) later → All (λ m. opened_at p m ≤ t) later
+    → ((b == lasting) || (u.opened == opening_moment p.eviction b t)) ≡ true
+    → AreUsed p later → All (IsInOrder p.eviction p n) later → All (IsOpenedBy p.eviction p t) later
     → list_any (goes_with p b n) later ≡ false → filter (in_bucket p.segments b) later ≡ []
 none_behind p b t n u [] e same moment used order past h = refl
 none_behind p b t n u (m ∷ later) e same moment used order past h =
+    let k = opening_moment p.eviction b t in
     let parts = or_parts (goes_with p b n m) (list_any (goes_with p b n) later) h in
     let rest = none_behind p b t n u later e same moment used.1
-    (All-tail (λ x. opened_at p n ≤ opened_at p x) m later order)
-    (All-tail (λ x. opened_at p x ≤ t) m later past) parts.1 in
+    (All-tail (IsInOrder p.eviction p n) m later order)
+    (All-tail (IsOpenedBy p.eviction p t) m later past) parts.1 in
     elim (cases_Bool (in_bucket p.segments b m)) [
       | inl y ↦
           let here : in_bucket p.segments b n ≡ true = in_bucket_is p n b u e ∙ eq-eqb u.bucket b same in
-          let le : opened_at p n ≤ opened_at p m = All-head (λ x. opened_at p n ≤ opened_at p x) m later order in
-          let pt : opened_at p m ≤ t = All-head (λ x. opened_at p x ≤ t) m later past in
+          let of_n : bucket_in p n ≡ b = bucket_of_in (segment_at p n) b here in
+          let of_m : bucket_in p m ≡ b = bucket_of_in (segment_at p m) b y in
+          let le : opened_at p n ≤ opened_at p m = ordered p.eviction p n m (of_n ∙ sym of_m)
+          (All-head (IsInOrder p.eviction p n) m later order) in
+          let pt : opened_at p m ≤ k = subst (λ (c : ℕ). opened_at p m ≤ opening_moment p.eviction c t) of_m
+          (All-head (IsOpenedBy p.eviction p t) m later past) in
           let is : opened_at p n ≡ u.opened = opened_is p n u e in
           let both : ((b == lasting) || (opened_at p n == opened_at p m)) ≡ true =
           elim (cases_Bool (b == lasting)) [
             | inl l ↦ or_left _ _ l
             | inr l ↦
-                let now : (u.opened == t) ≡ true = rw l at moment in
-                let at = eqb-true u.opened t now in
+                let now : (u.opened == k) ≡ true = rw l at moment in
+                let at = eqb-true u.opened k now in
                 or_right (b == lasting) _ (eq-eqb (opened_at p n) (opened_at p m) (omega arith))
           ] in
           absurd (false≢true (sym parts.0 ∙ and_from (in_bucket p.segments b n && in_bucket p.segments b m) _
@@ -206,19 +226,19 @@ none_behind p b t n u (m ∷ later) e same moment used order past h =
     ]
 
 -- a segment that was opened at the moment at which a new one would be open is open
-closed_by : (l : Bool) (b t : ℕ) → (b == lasting) ≡ l → is_sealed b t t ≡ false → (o : ℕ) → (l || (o == t)) ≡ true
+closed_by : (l : Bool) (b k t : ℕ) → (b == lasting) ≡ l → is_sealed b k t ≡ false → (o : ℕ) → (l || (o == k)) ≡ true
     → is_sealed b o t ≡ false
-closed_by true b t e f o h = rw e refl
-closed_by false b t e f o h = ap (λ x. is_sealed b x t) (eqb-true o t h) ∙ f
+closed_by true b k t e f o h = rw e refl
+closed_by false b k t e f o h = ap (λ x. is_sealed b x t) (eqb-true o k h) ∙ f
 
 -- a tail that is open and doesn't take an item is filled
 tail_filled : (p : PoolState) (b t n : ℕ) (u : Used) (i : Item) → IsStorable (item_limit p.sizes) i → tail p b ≡ Some n
     → open_tail p b t (size_of_item i) ≡ None → segment_at p n ≡ Some u → u.bucket ≡ b
-    → ((b == lasting) || (u.opened == t)) ≡ true → filled_size p < held_in p n
+    → ((b == lasting) || (u.opened == opening_moment p.eviction b t)) ≡ true → filled_size p < held_in p n
 tail_filled p b t n u i s tail_is none e same moment =
     let small = s.small in
     let open_now : is_sealed u.bucket u.opened t ≡ false = ap (λ x. is_sealed x u.opened t) same
-    ∙ closed_by (b == lasting) b t refl (just_open b t) u.opened moment in
+    ∙ closed_by (b == lasting) b (opening_moment p.eviction b t) t refl (opening_open p.eviction b t) u.opened moment in
     let passes : if_takes p t (size_of_item i) n ≡ None =
     ap (option_and_then (if_takes p t (size_of_item i))) (sym tail_is) ∙ none in
     let full : option_map_or (takes p.sizes t (size_of_item i)) (segment_at p n) false ≡ false =
@@ -240,8 +260,8 @@ tail_filled p b t n u i s tail_is none e same moment =
 pub group_filled : (p : PoolState) (b t n : ℕ) (u : Used) (later : List ℕ) (o : Option ℕ) (i : Item)
     → IsStorable (item_limit p.sizes) i → open_tail p b t (size_of_item i) ≡ None
     → last_or o (filter (in_bucket p.segments b) (n ∷ later)) ≡ tail p b → segment_at p n ≡ Some u → u.bucket ≡ b
-    → ((b == lasting) || (u.opened == t)) ≡ true
-    → AreUsed p later → All (λ m. opened_at p n ≤ opened_at p m) later → All (λ m. opened_at p m ≤ t) later
+    → ((b == lasting) || (u.opened == opening_moment p.eviction b t)) ≡ true
+    → AreUsed p later → All (IsInOrder p.eviction p n) later → All (IsOpenedBy p.eviction p t) later
     → ((c : ℕ) → IsTrue (list_any (goes_with p c n) later) → filled_size p < held_in p n) → filled_size p < held_in p n
 group_filled p b t n u later o i s none at e same moment used order past f =
     elim (cases_Bool (list_any (goes_with p b n) later)) [
@@ -300,14 +320,15 @@ group_moment p b t n u e h =
 -- where no tail takes an item, each segment is full or the last of its group, the item's own group among them
 full_by : (p : PoolState) (b t : ℕ) (i : Item) (numbers : List ℕ) (o : Option ℕ) → IsStorable (item_limit p.sizes) i
     → open_tail p b t (size_of_item i) ≡ None
-    → last_or o (filter (in_bucket p.segments b) numbers) ≡ tail p b → AreUsed p numbers → AreInTime p numbers
-    → All (λ m. opened_at p m ≤ t) numbers → AreFilled p numbers
-    → AreFull (filled_size p) (with_new p numbers (group_for b t))
+    → last_or o (filter (in_bucket p.segments b) numbers) ≡ tail p b → AreUsed p numbers
+    → AreInTime p.eviction p numbers → All (IsOpenedBy p.eviction p t) numbers → AreFilled p numbers
+    → AreFull (filled_size p) (with_new p numbers (group_for b (opening_moment p.eviction b t)))
 unfolding with_new
 full_by p b t i [] o s none at used order past filled = (λ h. absurd (false≢true h), tt)
 full_by p b t i (n ∷ later) o s none at used order past filled =
-    let g = group_for b t in
-    let rest = All-tail (λ m. opened_at p m ≤ t) n later past in (
+    let k = opening_moment p.eviction b t in
+    let g = group_for b k in
+    let rest = All-tail (IsOpenedBy p.eviction p t) n later past in (
       λ h. (let split : (list_any (same_group (group_of p n)) (map (group_of p) later)
           || (same_group (group_of p n) g || false)) ≡ true =
           sym (list_any-append (same_group (group_of p n)) (map (group_of p) later) (g ∷ []))
@@ -321,7 +342,7 @@ full_by p b t i (n ∷ later) o s none at used order past filled =
                   | inl x ↦ x
                   | inr x ↦ absurd (false≢true x)
                 ] in
-                let m = group_moment p b t n used.0.0 used.0.1 here in
+                let m = group_moment p b k n used.0.0 used.0.1 here in
                 let lt = group_filled p b t n used.0.0 later o i s none at used.0.1 m.0 m.1 used.1 order.0 rest
                 filled.0 in
                 omega arith
@@ -382,7 +403,7 @@ too_much s d held gw pos a b = let e : suc s * d ≡ s * d + d = grind arith in 
 pub has_space : (p : PoolState) (b t : ℕ) (i : Item) → IsPool p → IsInTime p t → IsFilled p → HoldsLittle p b t
     → IsStorable (item_limit p.sizes) i → HasNoRoom p b t i → ⊥
 has_space p b t i k time filled little s none =
-    let g = group_for b t in
+    let g = group_for b (opening_moment p.eviction b t) in
     let full = full_by p b t i p.order None s none.no_tail refl (order_used p k) time.order time.past filled in
     let c = count_full (filled_size p) (with_new p p.order g) full in
     let len : length (with_new p p.order g) ≡ suc p.sizes.segments =

@@ -12,7 +12,7 @@ use Rattle.segments.specs.declared.merge.Choice.{Choice}
 use Rattle.segments.specs.declared.place.Place.{Place}
 use Rattle.segments.specs.Items.{Item}
 use Rattle.proto.specs.Counts.{times}
-use Rattle.segments.specs.Pools.{PoolState, IsPool, Used, Liveness, segment_at, item_in, has_live, oldest}
+use Rattle.segments.specs.Pools.{PoolState, IsPool, Used, Liveness, segment_at, item_in, has_live, oldest, lasting}
 use Rattle.segments.specs.Changes.{IsGivenBack, IsAddedToTail, IsAddedToFree, without_segment, with_items, with_change}
 use Rattle.proto.specs.declared.eviction.Eviction.{Eviction}
 use Rattle.proto.specs.declared.eviction.Eviction.TheVariants.{Oldest, LeastRead}
@@ -21,79 +21,69 @@ use Rattle.segments.proofs.FrontLemmas.{times-take, times-drop}
 use Rattle.segments.specs.Hits.{HitCounts, IsFewest}
 use Rattle.segments.specs.Merges.{IsVictim, IsVictimBy, Evicts, qualifies, merged_segments, merged_into, contains_number, kept_items, opened_at}
 use Rattle.segments.specs.Merges.{looked_from, looked_to, looked_at, quarter}
-use Rattle.segments.specs.Filling.{AreInTime, IsInTimeOrder, IsInTime}
+use Rattle.segments.specs.Filling.{bucket_in, IsInOrder, AreInTime, IsInTimeOrder, IsInTime}
 use Rattle.segments.proofs.LinkLemmas.{used_if}
 use Rattle.segments.proofs.Places.{cleared_segment}
 use Rattle.segments.proofs.MovedPlaces.{merged_front, merged_in_chain, merged_segment}
 use Rattle.segments.proofs.FilledLemmas.{opened_new, not_free, same_all, alike_same, alike_all}
-use Rattle.segments.proofs.FilledLemmas.{in_time_alike, past_alike, in_time_push, in_time_tail, change_alike}
+use Rattle.segments.proofs.FilledLemmas.{in_time_alike, in_order_by, in_time_new, in_time_tail, change_alike}
 
 -- The segments of chains are some of those that were, with the opening moments that they had.
 pub record IsPart (p q : PoolState) : Type 0 where
   pub stays : ℕ → Bool
   pub order : q.order ≡ filter stays p.order
   pub opened : (n : ℕ) → stays n ≡ true → opened_at q n ≡ opened_at p n
+  pub of : (n : ℕ) → stays n ≡ true → bucket_in q n ≡ bucket_in p n
+  pub eviction : q.eviction ≡ p.eviction
 
 -- of a list of numbers those that pass a test
 abbrev passing : (ℕ → Bool) → ℕ → List ℕ → Bool → List ℕ
 passing test n later b = if b then n ∷ filter test later else filter test later
 
--- none of the numbers that stay was opened before x, where none was
-from_part : (p q : PoolState) (k : IsPart p q) (x : ℕ) (numbers : List ℕ) → All (λ m. x ≤ opened_at p m) numbers
-    → All (λ m. x ≤ opened_at q m) (filter k.stays numbers)
-from_part p q k x [] all = All-nil (λ m. x ≤ opened_at q m)
-from_part p q k x (n ∷ later) all =
-    let rest = from_part p q k x later (All-tail (λ m. x ≤ opened_at p m) n later all) in
-    elim (cases_Bool (k.stays n)) [
-      | inl y ↦
-          let le : x ≤ opened_at p n = All-head (λ m. x ≤ opened_at p m) n later all in
-          let same = k.opened n y in
-          subst (λ (b : Bool). All (λ m. x ≤ opened_at q m) (passing k.stays n later b)) (sym y)
-          (All-cons (λ m. x ≤ opened_at q m) n (filter k.stays later) (omega arith) rest)
-      | inr f ↦ subst (λ (b : Bool). All (λ m. x ≤ opened_at q m) (passing k.stays n later b)) (sym f) rest
-    ]
+-- two numbers that stay are in order where they were
+part_ordered : (e : Eviction) (p q : PoolState) (k : IsPart p q) (n m : ℕ) → k.stays n ≡ true → k.stays m ≡ true
+    → IsInOrder e p n m → IsInOrder e q n m
+part_ordered Oldest p q k n m y z h =
+    let a = k.opened n y in
+    let b = k.opened m z in
+    omega (arith, h, a, b)
+part_ordered LeastRead p q k n m y z h = λ same.
+    let a = k.opened n y in
+    let b = k.opened m z in
+    let le = h (sym (k.of n y) ∙ same ∙ k.of m z) in
+    omega (arith, le, a, b)
 
--- none of the numbers that stay was opened after t, where none was
-until_part : (p q : PoolState) (k : IsPart p q) (t : ℕ) (numbers : List ℕ) → All (λ m. opened_at p m ≤ t) numbers
-    → All (λ m. opened_at q m ≤ t) (filter k.stays numbers)
-until_part p q k t [] all = All-nil (λ m. opened_at q m ≤ t)
-until_part p q k t (n ∷ later) all =
-    let rest = until_part p q k t later (All-tail (λ m. opened_at p m ≤ t) n later all) in
+-- the numbers that stay are in order behind one that stays, where all were
+from_part : (e : Eviction) (p q : PoolState) (k : IsPart p q) (x : ℕ) (numbers : List ℕ) → k.stays x ≡ true
+    → All (IsInOrder e p x) numbers → All (IsInOrder e q x) (filter k.stays numbers)
+from_part e p q k x [] here all = All-nil (IsInOrder e q x)
+from_part e p q k x (n ∷ later) here all =
+    let rest = from_part e p q k x later here (All-tail (IsInOrder e p x) n later all) in
     elim (cases_Bool (k.stays n)) [
       | inl y ↦
-          let le : opened_at p n ≤ t = All-head (λ m. opened_at p m ≤ t) n later all in
-          let same = k.opened n y in
-          subst (λ (b : Bool). All (λ m. opened_at q m ≤ t) (passing k.stays n later b)) (sym y)
-          (All-cons (λ m. opened_at q m ≤ t) n (filter k.stays later) (omega arith) rest)
-      | inr f ↦ subst (λ (b : Bool). All (λ m. opened_at q m ≤ t) (passing k.stays n later b)) (sym f) rest
+          subst (λ (b : Bool). All (IsInOrder e q x) (passing k.stays n later b)) (sym y)
+          (All-cons (IsInOrder e q x) n (filter k.stays later)
+          (part_ordered e p q k x n here y (All-head (IsInOrder e p x) n later all)) rest)
+      | inr f ↦ subst (λ (b : Bool). All (IsInOrder e q x) (passing k.stays n later b)) (sym f) rest
     ]
 
 -- the numbers that stay are in the order in which they were
-in_order_of : (p q : PoolState) (k : IsPart p q) (numbers : List ℕ) → AreInTime p numbers
-    → AreInTime q (filter k.stays numbers)
-in_order_of p q k [] f = tt
-in_order_of p q k (n ∷ later) f =
-    let rest = in_order_of p q k later f.1 in
+in_order_of : (e : Eviction) (p q : PoolState) (k : IsPart p q) (numbers : List ℕ) → AreInTime e p numbers
+    → AreInTime e q (filter k.stays numbers)
+in_order_of e p q k [] f = tt
+in_order_of e p q k (n ∷ later) f =
+    let rest = in_order_of e p q k later f.1 in
     elim (cases_Bool (k.stays n)) [
       | inl y ↦
-          let here : All (λ m. opened_at q n ≤ opened_at p m) later =
-          subst (λ (x : ℕ). All (λ m. x ≤ opened_at p m) later) (sym (k.opened n y)) f.0 in
-          let both : AreInTime q (n ∷ filter k.stays later) = (from_part p q k (opened_at q n) later here, rest) in
-          subst (λ (b : Bool). AreInTime q (passing k.stays n later b)) (sym y) both
-      | inr g ↦ subst (λ (b : Bool). AreInTime q (passing k.stays n later b)) (sym g) rest
+          let both : AreInTime e q (n ∷ filter k.stays later) = (from_part e p q k n later y f.0, rest) in
+          subst (λ (b : Bool). AreInTime e q (passing k.stays n later b)) (sym y) both
+      | inr g ↦ subst (λ (b : Bool). AreInTime e q (passing k.stays n later b)) (sym g) rest
     ]
 
 -- a part of what is in order is in order
 pub order_part : (p q : PoolState) → IsPart p q → IsInTimeOrder p → IsInTimeOrder q
-order_part p q k f = subst (AreInTime q) (sym k.order) (in_order_of p q k p.order f)
-
--- a part of what is in time is in time
-pub in_time_part : (p q : PoolState) (t : ℕ) → IsPart p q → IsInTime p t → IsInTime q t
-in_time_part p q t k f =
-    record {
-      order = order_part p q k f.order;
-      past = subst (All (λ m. opened_at q m ≤ t)) (sym k.order) (until_part p q k t p.order f.past);
-    }
+order_part p q k f = in_order_by p q k.eviction
+    (subst (AreInTime p.eviction q) (sym k.order) (in_order_of p.eviction p q k p.order f))
 
 -- ---- what leaves a part
 
@@ -106,6 +96,10 @@ part_given lives p after g =
       opened = λ n y.
           (let same : segment_at after n ≡ segment_at p n = g.segments n ∙ rw y refl in
           ap (λ o. option_map_or (λ (s : Used). s.opened) o 0) same);
+      of = λ n y.
+          (let same : segment_at after n ≡ segment_at p n = g.segments n ∙ rw y refl in
+          ap (λ o. option_map_or (λ (s : Used). s.bucket) o lasting) same);
+      eviction = g.eviction;
     }
 
 -- a segment that is cleared leaves the others
@@ -118,6 +112,11 @@ part_cleared p n some =
           (let f = not-true (m == n) y in
           let same : segment_at (without_segment p n) m ≡ segment_at p m = cleared_segment p n m some ∙ rw f refl in
           ap (λ o. option_map_or (λ (s : Used). s.opened) o 0) same);
+      of = λ m y.
+          (let f = not-true (m == n) y in
+          let same : segment_at (without_segment p n) m ≡ segment_at p m = cleared_segment p n m some ∙ rw f refl in
+          ap (λ o. option_map_or (λ (s : Used). s.bucket) o lasting) same);
+      eviction = refl;
     }
 
 -- other items leave the moment at which a segment was opened
@@ -127,6 +126,13 @@ filled_opened : (items : List Item) (o : Option Used)
 filled_opened items None = refl
 filled_opened items (Some u) = refl
 
+-- and its bucket
+filled_bucket : (items : List Item) (o : Option Used)
+    → option_map_or (λ (s : Used). s.bucket) (option_map (with_items items) o) lasting
+    ≡ option_map_or (λ (s : Used). s.bucket) o lasting
+filled_bucket items None = refl
+filled_bucket items (Some u) = refl
+
 -- a merge leaves the moments of the segments that stay
 merged_opened : (items : List Item) (p : PoolState) (first n : ℕ) (b : Bool) → (n == first) ≡ b
     → option_map_or (λ (s : Used). s.opened)
@@ -134,6 +140,14 @@ merged_opened : (items : List Item) (p : PoolState) (first n : ℕ) (b : Bool) �
 merged_opened items p first n true e = filled_opened items (segment_at p first)
     ∙ ap (opened_at p) (sym (eqb-true n first e))
 merged_opened items p first n false e = refl
+
+-- and their buckets
+merged_bucket : (items : List Item) (p : PoolState) (first n : ℕ) (b : Bool) → (n == first) ≡ b
+    → option_map_or (λ (s : Used). s.bucket)
+    (if b then option_map (with_items items) (segment_at p first) else segment_at p n) lasting ≡ bucket_in p n
+merged_bucket items p first n true e = filled_bucket items (segment_at p first)
+    ∙ ap (bucket_in p) (sym (eqb-true n first e))
+merged_bucket items p first n false e = refl
 
 -- segments that are merged leave the first of them, and the others
 pub part_merged : (p : PoolState) (b : Choice) (items : List Item) → IsTrue (qualifies p b)
@@ -148,16 +162,19 @@ part_merged p b items qualifying =
     (let e : times first (merged_segments p b) ≡ 1 + times first others = ap (times first) whole ∙ rw z refl in
     omega (arith, e)) in
     let used = merged_in_chain p b first some in
+    let now : (n : ℕ) → not (contains_number others n) ≡ true → segment_at (merged_into p b (first ∷ others) items) n
+    ≡ (if n == first then option_map (with_items items) (segment_at p first) else segment_at p n) =
+    λ n y. (let none = not-true (contains_number others n) y in
+    merged_segment p b first others items n used.within ∙ rw none refl) in
     subst (λ (xs : List ℕ). IsPart p (merged_into p b xs items)) (sym whole)
     (record {
       stays = λ n. not (contains_number others n);
       order = refl;
-      opened = λ n y.
-          (let none = not-true (contains_number others n) y in
-          let now : segment_at (merged_into p b (first ∷ others) items) n
-          ≡ (if n == first then option_map (with_items items) (segment_at p first) else segment_at p n) =
-          merged_segment p b first others items n used.within ∙ rw none refl in
-          ap (λ o. option_map_or (λ (s : Used). s.opened) o 0) now ∙ merged_opened items p first n (n == first) refl);
+      opened = λ n y. ap (λ o. option_map_or (λ (s : Used). s.opened) o 0) (now n y)
+          ∙ merged_opened items p first n (n == first) refl;
+      of = λ n y. ap (λ o. option_map_or (λ (s : Used). s.bucket) o lasting) (now n y)
+          ∙ merged_bucket items p first n (n == first) refl;
+      eviction = refl;
     })
 
 -- ---- what an eviction leaves
@@ -255,15 +272,7 @@ in_time_free p b t i after place k a time =
     let new = opened_new p b t i after place k a in
     let alike = alike_same p after p.order
     (same_all p after p.order (λ m h. new.others m (not_free p n m k a.free h))) in
-    let past = past_alike p after t p.order alike time.past in
-    let opened = new.opened in
-    record {
-      order = subst (AreInTime after) (sym new.order)
-          (in_time_push after t n p.order (in_time_alike p after p.order alike time.order) past opened);
-      past = subst (All (λ m. opened_at after m ≤ t)) (sym new.order)
-          (All-append (λ m. opened_at after m ≤ t) p.order (n ∷ []) past
-          (All-cons (λ m. opened_at after m ≤ t) n [] (omega arith) (All-nil (λ m. opened_at after m ≤ t))));
-    }
+    in_time_new p after b t n i new alike time
 
 -- an item that was appended at t
 pub in_time_appended : (p : PoolState) (b t : ℕ) (i : Item) (after : PoolState) (place : Place) → IsPool p
@@ -275,5 +284,5 @@ in_time_appended p b t i after place k (inr a) time = in_time_free p b t i after
 -- a change of an item changes no order
 pub order_changed : (change : Item → Item) (p : PoolState) (place : Place) → IsSome (item_in p place) → IsInTimeOrder p
     → IsInTimeOrder (with_change change p place)
-order_changed change p place some f = in_time_alike p (with_change change p place) p.order
+order_changed change p place some f = in_time_alike p.eviction p (with_change change p place) p.order
     (alike_all p (with_change change p place) p.order (λ n _. change_alike change p place n some)) f

@@ -25,11 +25,14 @@ returns-then-may_stay g c =
     ∙ ap (deadline_of exptime) c.last_moment.ensures in
     let waits : has_arrived asked (m.moment old.map) ≡ false =
     ap (has_arrived asked) (sym c.last_moment-2.ensures) ∙ sym c.has_arrived.ensures ∙ c.if-has_arrived.false in
-    subst (λ (k : List ℕ). Leaves m as_touched old old
+    let new = record old { map = c.count_touch.new.self } in
+    subst (λ (k : List ℕ). Leaves m as_touched old new
     (touch (map.get (m.entries old.map) k) (cache_in m.entries old) (m.moment old.map) k exptime) Touched) c.as_slice-key.ensures
-    (leaves_there m old key exptime e asked c.may_stay.result there is waits
+    (leaves_there m old new key exptime e asked c.may_stay.result there is waits
     c.if-may_stay.true (c.may_stay.ensures.decides e there) (c.may_stay.ensures.may_stay c.if-may_stay.true e there)
-    (c.may_stay.ensures.kept c.if-may_stay.true e there))
+    (c.may_stay.ensures.kept c.if-may_stay.true e there) refl refl refl refl
+    c.count_touch.ensures.sizes c.count_touch.ensures.moment c.count_touch.ensures.entries c.count_touch.ensures.counted
+    c.count_touch.ensures.kept)
 
 pub returns-in-Ok : goal.returns-in-Ok
 returns-in-Ok g c =

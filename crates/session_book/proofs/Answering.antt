@@ -171,6 +171,8 @@ silent_local (Local local.BadLine) ms e none = absurd (let l = ap length none in
 silent_local (Local local.Version) ms e none = absurd (let l = ap length none in omega (arith, l))
 silent_local (Local local.Verbosity) ms e none = absurd (let l = ap length none in omega (arith, l))
 silent_local (Local local.Silent) ms e none = refl
+silent_local (Local (local.TooLarge false)) ms e none = absurd (let l = ap length none in omega (arith, l))
+silent_local (Local (local.TooLarge true)) ms e none = refl
 silent_local Quit ms e none = refl
 silent_local (Fatal fatal.BadLine) ms e none = absurd (let l = ap length none in omega (arith, l))
 silent_local (Fatal fatal.LongLine) ms e none = absurd (let l = ap length none in omega (arith, l))

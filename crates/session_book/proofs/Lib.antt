@@ -2,6 +2,7 @@ pub mod Answering
 pub mod Reading
 pub mod AccountLaws
 pub mod Needing
+pub mod Inputs
 pub mod Steps
 pub mod Books
 pub mod Asking

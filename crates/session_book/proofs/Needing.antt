@@ -28,12 +28,11 @@ spells_none d b need h fewer =
     let none : SpellsNone d (b ++ []) = h [] (rw append-nil fewer) in
     rw append-nil at none
 
--- a session that has fewer bytes than it needs has read all
-pub read_all : (now : SessionState) → NeedsMore now.dialect now.unread now.need → length now.unread < now.need
-    → (cause : Option EndCause) → HasReadAll (Some now) cause
-read_all now h fewer cause is s same none =
+-- a session whose unread bytes spell nothing has read all
+pub read_all : (now : SessionState) → SpellsNone now.dialect now.unread → (cause : Option EndCause) → HasReadAll (Some now) cause
+read_all now nothing cause is s same none =
     let e : now ≡ s = some_is now s same in
-    subst (λ (x : SessionState). SpellsNone x.dialect x.unread) e (spells_none now.dialect now.unread now.need h fewer)
+    subst (λ (x : SessionState). SpellsNone x.dialect x.unread) e nothing
 
 -- a session that has fewer bytes than it needs reads no further
 pub stops_short : (s : SessionState) → NeedsMore s.dialect s.unread s.need → OnFalse (nat_le s.need (length s.unread)) (Stops s)

@@ -7,7 +7,9 @@ use Rattle.std.proofs.lemmas.Bool.{both_ways}
 use Rattle.proto.specs.declared.message.Request.{Request}
 use Rattle.proto.specs.declared.message.Message.{Message}
 use Rattle.proto.specs.declared.message.Message.TheVariants.{Ask, Local, Quit, Fatal}
+use Rattle.proto.specs.declared.dialect.Dialect.{Dialect}
 use Rattle.proto.specs.Grammar.{Spells}
+use Rattle.session_book.specs.Input.{InputState, Begins}
 use Rattle.proto.specs.Needs.{IsUnfinished}
 use Rattle.proto.specs.Reading.{asks}
 use Rattle.proto.specs.Answers.{said, is_ask}
@@ -167,38 +169,51 @@ pub record HasReadLocals (before : SessionState) (looks : ℕ) (now : SessionSta
   pub most_looks : looks_now ≤ looks + length messages
   pub nothing : length before.unread < before.need → (now ≡ before) × (looks_now ≡ looks)
 
--- the parser found a message, which the first n bytes spell: they are taken
-pub read_found : (now view : SessionState) (b unread out : List ℕ) (n : ℕ) (m seen : Message) (queue : List Message)
-    (ended : Option EndCause) → view ≡ now → now.ended ≡ None → b ≡ view.unread → Spells view.dialect (take n b) seen
-    → m ≡ seen → unread ≡ drop n view.unread → ended ≡ ended_by None (m ∷ [])
+-- The parser found a message, which the first n bytes spell: they are taken.
+pub read_found : (now view : SessionState) (i seen left : InputState) (n : ℕ) (m : Message) (queue : List Message) (out : List ℕ)
+    (ended : Option EndCause) → view ≡ now → now.ended ≡ None → view.dialect ≡ i.dialect → view.unread ≡ i.unread → Begins i m n
+    → seen ≡ i → left ≡ record seen { unread = drop n seen.unread; need = 1 } → ended ≡ ended_by None (m ∷ [])
     → queue ≡ messages_left (view.queue ++ m ∷ []) [] → out ≡ view.out ++ said (view.queue ++ m ∷ []) []
-    → ReadsMessage now m (record view { unread = unread; queue = queue; out = out; ended = ended; need = 1 })
-read_found now view b unread out n m seen queue ended same open_yet b_is spelled m_is unread_is ended_is queue_is out_is =
+    → ReadsMessage now m
+    (record view { dialect = left.dialect; unread = left.unread; need = left.need; queue = queue; out = out; ended = ended })
+read_found now view i seen left n m queue out ended same open_yet dialect_is unread_is begins seen_is left_is ended_is queue_is out_is =
     let none : view.ended ≡ None = ap (λ (s : SessionState). s.ended) same ∙ open_yet in
+    let taken : left ≡ record i { unread = drop n i.unread; need = 1 } =
+    left_is ∙ ap (λ (x : InputState). record x { unread = drop n x.unread; need = 1 }) seen_is in
     subst (λ (s : SessionState).
-    ReadsMessage s m (record view { unread = unread; queue = queue; out = out; ended = ended; need = 1 })) same (record {
-      piece = take n b;
-      spells = rw m_is spelled;
-      dialect = refl;
-      unread = sym (take-append-drop n view.unread)
-          ∙ ap (λ (x : List ℕ). take n x ++ drop n view.unread) (sym b_is)
-          ∙ ap (λ (x : List ℕ). take n b ++ x) (sym unread_is);
+    ReadsMessage s m
+    (record view { dialect = left.dialect; unread = left.unread; need = left.need; queue = queue; out = out; ended = ended })) same
+    (record {
+      piece = take n i.unread;
+      spells = subst (λ (d : Dialect). Spells d (take n i.unread) m) (sym dialect_is) begins.spells;
+      dialect = ap (λ (x : InputState). x.dialect) taken ∙ sym dialect_is;
+      unread = unread_is ∙ sym (take-append-drop n i.unread)
+          ∙ ap (λ (x : InputState). take n i.unread ++ x.unread) (sym taken);
       ended = ended_is ∙ ap (λ (e : Option EndCause). ended_by e (m ∷ [])) (sym none);
       queue = queue_is;
       out = out_is;
-      need = refl;
+      need = ap (λ (x : InputState). x.need) taken;
       held = refl;
       over = refl;
     })
 
 -- the parser found none, and says what it needs
-pub read_more : (now view : SessionState) (b : List ℕ) (need : ℕ) → view ≡ now → b ≡ view.unread
-    → IsUnfinished view.dialect b need → TakesNothing now (record view { need = need })
-read_more now view b need same b_is unfinished =
-    subst (λ (s : SessionState). TakesNothing s (record view { need = need })) same (record {
-      unfinished = subst (λ (x : List ℕ). IsUnfinished view.dialect x need) b_is unfinished;
-      rest = refl;
+pub read_more : (now view : SessionState) (i left : InputState) → view ≡ now → view.dialect ≡ i.dialect → view.unread ≡ i.unread
+    → IsUnfinished i.dialect i.unread left.need → left ≡ record i { need = left.need }
+    → TakesNothing now (record view { dialect = left.dialect; unread = left.unread; need = left.need })
+read_more now view i left same dialect_is unread_is unfinished left_is =
+    let dialect : left.dialect ≡ view.dialect = ap (λ (x : InputState). x.dialect) left_is ∙ sym dialect_is in
+    let unread : left.unread ≡ view.unread = ap (λ (x : InputState). x.unread) left_is ∙ sym unread_is in
+    subst (λ (s : SessionState). TakesNothing s (record view { dialect = left.dialect; unread = left.unread; need = left.need })) same
+    (record {
+      unfinished = subst (λ (d : Dialect). IsUnfinished d left.unread left.need) (sym dialect_is)
+          (subst (λ (b : List ℕ). IsUnfinished i.dialect b left.need) (unread_is_of i left left_is) unfinished);
+      rest = ap (λ (d : Dialect). record view { dialect = d; unread = left.unread; need = left.need }) dialect
+          ∙ ap (λ (b : List ℕ). record view { unread = b; need = left.need }) unread;
     })
+  where
+    unread_is_of : (i left : InputState) → left ≡ record i { need = left.need } → i.unread ≡ left.unread
+    unread_is_of i left e = sym (ap (λ (x : InputState). x.unread) e)
 
 -- a message that isn't a request
 pub not_ask : (m : Message) → ((q : Request) (quiet : Bool) → m ≡ Ask q quiet → ⊥) → is_ask m ≡ false

@@ -51,11 +51,14 @@ impl Buffer {
         &self.bytes.as_slice()[self.start..]
     }
 
-    /// Puts input after the others.
+    /// Puts input after the others. None at all needs no memory.
     pub fn append(&mut self, piece: &[u8], spares: &mut SpareBuffers) -> Result<(), NoMemory>
         ensures ok { OnOk result (self.new ≡ self.old ++ piece.now) }
         ensures err { OnErr result (self.new ≡ self.old) }
     {
+        if piece.is_empty() {
+            return Ok(());
+        }
         spares.lend(Use::Input, &mut self.bytes);
         self.bytes.extend_from_slice(piece)?;
         Ok(())

@@ -1,6 +1,6 @@
 //! The unread bytes of a session, and what they begin with. Those of a message whose block is too large are dropped as they come.
 
-ghost use Rattle.std.specs.Prelude.{◌≡◌, ◌≤◌, ◌<◌, ◌++◌, ◌×◌, length, drop, OnOk, OnErr};
+ghost use Rattle.std.specs.Prelude.{◌≡◌, ◌≤◌, ◌<◌, [], ◌++◌, length, drop, OnOk, OnErr};
 ghost use Rattle.std.specs.Bool.{OnTrue, OnFalse};
 ghost use Rattle.proto.specs.declared.message.Message.{Message};
 ghost use Rattle.proto.specs.Grammar.{SpellsNone};
@@ -30,7 +30,7 @@ pub(crate) struct Input {
 }
 
 impl Model for Input {
-    ghost use Rattle.std.specs.Prelude.{◌≡◌, ◌++◌, ◌×◌, length};
+    ghost use Rattle.std.specs.Prelude.{◌≡◌, ◌++◌, length};
     ghost use Rattle.proto.specs.Lines.{IsSearched};
     ghost use Rattle.proto.specs.Needs.{NeedsMore};
     ghost use Rattle.session_book.specs.Input.{InputState, MayDrop};
@@ -91,9 +91,7 @@ impl Input {
             return self.kept.append(piece, spares);
         }
         let (front, behind) = piece.split_at((self.need - self.dropped).min(piece.len()));
-        if !behind.is_empty() {
-            self.kept.append(behind, spares)?;
-        }
+        self.kept.append(behind, spares)?;
         self.gone.note(front);
         self.dropped += front.len();
         Ok(())
@@ -136,12 +134,9 @@ impl Input {
         requires { (m : Message) × Begins self.old m n }
         ensures { self.new ≡ record self.old { unread = drop n self.old.unread; need = 1 } }
     {
-        if self.need > MAX_KEPT {
-            self.gone = Trace::new();
-            self.dropped = 0;
-        } else {
-            self.kept.discard(n, Use::Input, spares);
-        }
+        self.kept.discard(n - self.dropped, Use::Input, spares);
+        self.gone = Trace::new();
+        self.dropped = 0;
         self.searched = 0;
         self.need = 1;
     }

@@ -9,6 +9,7 @@ use Rattle.proto.specs.Cache.{Entries, has_arrived}
 use Rattle.segments.specs.Merges.{IsPlan, with_merge_planned}
 use Rattle.segments.specs.Marks.{Marks, lives_by}
 use Rattle.segments.proofs.MarkedPlaces.{knows_after}
+use Rattle.segments.proofs.InTimeLemmas.{order_same}
 use Rattle.segments.specs.Pools.{key_at}
 use Rattle.index.specs.Table.{Table, Places}
 use Rattle.segcache.specs.Shown.{current, shown_entries, live_entries, entry_at}
@@ -64,7 +65,11 @@ swept_replanned p after o index marks t tied pool is crowded =
     record {
       sizes = ap (λ (a : PoolState). a.sizes) is;
       past = subst (λ (a : PoolState). IsPast a t) (sym is)
-          (record { within = crowded.past.within; opened = crowded.past.opened; in_order = crowded.past.in_order });
+          (record {
+            within = crowded.past.within;
+            opened = crowded.past.opened;
+            in_order = order_same p (with_plan p o) refl refl refl crowded.past.in_order;
+          });
       tied = same.0;
       absent = λ q none. ap (λ (m : Places). finite.get m q) same.1 ∙ none;
       waiting = λ q r e.

@@ -16,7 +16,7 @@ use Rattle.segments.specs.Filling.{IsInTime, IsOpenedBy, bucket_in}
 use Rattle.segments.proofs.OpeningLemmas.{opening_later}
 use Rattle.segments.proofs.Places.{changed_segment, cleared_segment}
 use Rattle.segments.proofs.GroupLemmas.{AreUsed, order_used}
-use Rattle.segments.proofs.InTimeLemmas.{order_changed, order_part, part_given, part_cleared}
+use Rattle.segments.proofs.InTimeLemmas.{order_changed, order_same, order_part, part_given, part_cleared}
 use Rattle.segments.specs.Pools.{item_in}
 use Rattle.segcache.specs.Kept.{IsPast}
 
@@ -65,7 +65,11 @@ past_changed change p t place past some =
 pub past_hit : (p after : PoolState) (t n : ℕ) → after ≡ with_segment_hit p n → IsPast p t → IsPast after t
 past_hit p after t n is past =
     subst (λ (q : PoolState). IsPast q t) (sym is)
-    (record { within = past.within; opened = past.opened; in_order = past.in_order })
+    (record {
+      within = past.within;
+      opened = past.opened;
+      in_order = order_same p (with_segment_hit p n) refl refl refl past.in_order;
+    })
 
 -- a segment that is kept where a test holds, and is there, is the one that was there
 part_of : (b : Bool) (o : Option Used) (u : Used) → (if b then o else None) ≡ Some u → o ≡ Some u

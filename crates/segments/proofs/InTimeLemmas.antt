@@ -1,7 +1,7 @@
 -- The segments of chains stand in the order of their opening moments, whatever is written and whatever becomes free.
 use Rattle.std.proofs.Common.{◌≡◌, ℕ, ◌+◌, ◌-◌, ◌<◌, ◌≤◌, Bool, true, false, List, [], ◌∷◌, length, Option, Some, None, refl, sym, ap, subst, ◌∙◌}
 use Rattle.std.proofs.Common.{inl, inr, arith, add-one}
-use Rattle.std.specs.Prelude.{◌==◌, ◌⊎◌, if◌then◌else◌, All, IfSome, IsSome, IsTrue, MatchOption, filter, not, option_map, take, drop, min, nat_le}
+use Rattle.std.specs.Prelude.{◌==◌, ◌⊎◌, if◌then◌else◌, All, IfSome, IsSome, IsTrue, MatchOption, filter, not, option_map, take, drop, min, nat_le, slice_index_or}
 use Rattle.std.specs.Option.{option_map_or}
 use Rattle.std.proofs.lemmas.Bool.{cases_Bool, eq-eqb, eqb-true, leb-true, not-true}
 use Rattle.std.proofs.lemmas.List.{length-take, length-drop}
@@ -25,7 +25,7 @@ use Rattle.segments.specs.Filling.{bucket_in, IsInOrder, AreInTime, IsInTimeOrde
 use Rattle.segments.proofs.LinkLemmas.{used_if}
 use Rattle.segments.proofs.Places.{cleared_segment}
 use Rattle.segments.proofs.MovedPlaces.{merged_front, merged_in_chain, merged_segment}
-use Rattle.segments.proofs.FilledLemmas.{opened_new, not_free, same_all, alike_same, alike_all}
+use Rattle.segments.proofs.FilledLemmas.{opened_new, not_free, same_all, alike_same, alike_all, alike_at}
 use Rattle.segments.proofs.FilledLemmas.{in_time_alike, in_order_by, in_time_new, in_time_tail, change_alike}
 
 -- The segments of chains are some of those that were, with the opening moments that they had.
@@ -280,6 +280,14 @@ pub in_time_appended : (p : PoolState) (b t : ℕ) (i : Item) (after : PoolState
     → IsInTime p t → IsInTime after t
 in_time_appended p b t i after place k (inl a) time = in_time_tail p b t t i after place a time
 in_time_appended p b t i after place k (inr a) time = in_time_free p b t i after place k a time
+
+-- where neither segments nor their order nor the rule change, they stand in order as before
+pub order_same : (p q : PoolState) → q.segments ≡ p.segments → q.order ≡ p.order → q.eviction ≡ p.eviction
+    → IsInTimeOrder p → IsInTimeOrder q
+order_same p q segments order rule f =
+    in_order_by p q rule (subst (AreInTime p.eviction q) (sym order)
+    (in_time_alike p.eviction p q p.order
+    (alike_all p q p.order (λ n _. alike_at p q n (ap (λ us. slice_index_or us n None) segments))) f))
 
 -- a change of an item changes no order
 pub order_changed : (change : Item → Item) (p : PoolState) (place : Place) → IsSome (item_in p place) → IsInTimeOrder p

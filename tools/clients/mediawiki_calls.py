@@ -93,6 +93,8 @@ def main():
     calls.check("delete", lambda: (client.delete(key), client.delete(key), client.get(key)), (True, True, None))
     calls.check("touch", lambda: client.touch(other, 60), True)
     calls.check("after_touch", lambda: client.get(other), 0)
+    calls.check("large", lambda: client.store(b"set", other, b"z" * 200_000), False)
+    calls.check("after_large", lambda: (client.get(other), client.store(b"set", other, 8), client.get(other)), (0, True, 8))
     calls.report()
 
 

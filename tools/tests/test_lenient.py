@@ -5,6 +5,7 @@ If a `touch` with `noreply` were answered, each later answer of a connection tha
 clients would then return other keys' values.
 """
 import random
+import socket
 import subprocess
 import sys
 import threading
@@ -23,6 +24,8 @@ STORED, TOO_LARGE = b"STORED\r\n", b"SERVER_ERROR object too large for cache\r\n
 BAD_LINE = b"CLIENT_ERROR bad command line format\r\n"
 HIT = hit(b"a", b"x")
 BLOCK = b"z" * 131_072
+# (a block may have the bytes of requests)
+LARGE_BLOCK = b"get a\r\nb\r\n" * 20_000
 BINARY_GET = b"\x80\x00\x00\x01" + bytes(7) + b"\x01" + bytes(12) + b"a"
 # By name: what is sent, what it is answered, and whether the session is closed. The key `a` has the value x.
 ROWS = {
@@ -48,7 +51,15 @@ ROWS = {
     "verbosity noreply": (b"verbosity 1 noreply\r\nget a\r\n", HIT, False),
     "cache_memlimit noreply": (b"cache_memlimit 64 noreply\r\nget a\r\n", HIT, False),
     "cache_memlimit": (b"cache_memlimit 64\r\nget a\r\n", b"ERROR\r\n" + HIT, False),
-    "append of a larger block": (b"append a 0 0 131073\r\nget b\r\n", TOO_LARGE, True),
+    "append of a larger block": (b"append a 0 0 131073\r\n" + BLOCK + b"z\r\nget a\r\n", TOO_LARGE + HIT, False),
+    "set of a large block": (b"set a 0 0 200000\r\n" + LARGE_BLOCK + b"\r\nget a\r\n", TOO_LARGE + HIT, False),
+    "set of a large block noreply": (b"set a 0 0 200000 noreply\r\n" + LARGE_BLOCK + b"\r\nget a\r\n", HIT, False),
+    "set of a large block with another end": (b"set a 0 0 200000\r\n" + LARGE_BLOCK + b"xyget a\r\n", TOO_LARGE + HIT, False),
+    "set of large blocks between gets": (
+        b"get a\r\n" + 2 * (b"add b 0 0 200000\r\n" + LARGE_BLOCK + b"\r\nget b\r\n"), HIT + 2 * (TOO_LARGE + b"END\r\n"), False),
+    "set of the largest block that is read": (b"set a 0 0 8388608\r\n" + 64 * BLOCK + b"\r\nget a\r\n", TOO_LARGE + HIT, False),
+    "set of a block that isn't read": (b"set a 0 0 8388609\r\nget b\r\n", TOO_LARGE, True),
+    "append of a block that isn't read": (b"append a 0 0 9999999999 noreply\r\nget b\r\n", TOO_LARGE, True),
     "append of another length": (b"append a 0 0 1\r\nxyz\r\nget b\r\n", b"CLIENT_ERROR bad data chunk\r\n", True),
     "append without a length": (b"append a 0 0\r\nget b\r\n", BAD_LINE, True),
     "delete 0": (b"delete a 0\r\nget a\r\n", b"DELETED\r\nEND\r\n", False),
@@ -116,6 +127,29 @@ def test_a_touch_shortens_a_life_and_lengthens_it(server):
         ask(stream, b"set a 0 0 1\r\nx\r\nset b 0 9 1\r\ny\r\ntouch a 8\r\ntouch b 100\r\n", STORED * 2 + b"TOUCHED\r\n" * 2)
         time.sleep(9.2)
         ask(stream, b"get a b\r\n", hit(b"b", b"y"))
+
+
+def test_input_that_ends_within_a_large_block_is_not_answered(server):
+    with server.connect() as stream:
+        stream.sendall(b"get none\r\nset a 0 0 200000\r\n" + BLOCK)
+        stream.shutdown(socket.SHUT_WR)
+        assert read_to_end(stream) == b"END\r\n"
+
+
+def test_a_large_block_takes_no_memory(program):
+    """50 connections send all but the last byte of 8 MiB each, and are then answered."""
+    with served.Server(program, "--lenient", "--workers", "1") as server:
+        streams = [server.connect() for _ in range(50)]
+        for stream in streams:
+            ask(stream, b"get none\r\n", b"END\r\n")
+        before = server.kilobytes("VmRSS")
+        for stream in streams:
+            stream.sendall(b"set a 0 0 8388608\r\n" + 64 * BLOCK + b"\r")
+        grown = server.kilobytes("VmRSS") - before
+        for stream in streams:
+            ask(stream, b"\nget none\r\n", TOO_LARGE + b"END\r\n")
+            stream.close()
+    assert grown < 50 * 262, f"memory grew by {grown} kB"
 
 
 STRICT = b"touch a 5\r\ntouch a 5 noreply\r\nversion\r\nverbosity 1\r\nverbosity 1 noreply\r\ncache_memlimit 1 noreply\r\n"

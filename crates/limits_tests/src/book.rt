@@ -66,6 +66,43 @@ fn unread_bytes_end_at_their_limit(rt: HostRuntime) -> Result<(), Fail> {
     check_pieces(&rt, rt.alloc(), &PIECES)
 }
 
+/// A block of 8 MiB comes to session 1, all but its last bytes, in pieces of 131,072 bytes: each of them fits.
+fn drop_block(rt: &impl Abort, alloc: Global, book: &mut Book) -> Result<(), Fail> {
+    book.open(1)?;
+    let line = Bytes::from_static(b"set a 0 0 8388608\r\n");
+    check_same(rt, book.receive(1, line), Received::Fed, "the line");
+    for place in 0..64 {
+        let is_read = book.next_ask(1)?.is_some();
+        let taken = send_piece(alloc, book, 131_072)?;
+        check_same(rt, (is_read, taken), (false, Received::Fed), place);
+    }
+    Ok(())
+}
+
+/// What comes behind is kept as if the block had never come: of these pieces the first two bytes still belong to it.
+const BEHIND: [(usize, Received); 3] = [
+    (262_144, Received::Fed),
+    (2, Received::Fed),
+    (1, Received::Held),
+];
+
+fn check_dropped(rt: &impl Abort, alloc: Global, book: &mut Book) -> Result<(), Fail> {
+    drop_block(rt, alloc, book)?;
+    for (length, wanted) in &BEHIND {
+        let taken = send_piece(alloc, book, *length)?;
+        check_same(rt, taken, *wanted, *length);
+    }
+    Ok(())
+}
+
+#[test]
+fn a_dropped_block_is_no_unread_input(rt: HostRuntime) -> Result<(), Fail> {
+    let mut book = Book::new(rt.alloc(), 0, Dialect::Lenient);
+    let checked = check_dropped(&rt, rt.alloc(), &mut book);
+    drop(book);
+    checked
+}
+
 /// Sends a session's `get a`, and tells the number of the request that the book gives then.
 fn ask(book: &mut Book, session: u64) -> Result<Option<u64>, Fail> {
     let _ = book.receive(session, Bytes::from_static(b"get a\r\n"));

@@ -177,6 +177,52 @@ fn the_longest_line(rt: HostRuntime) -> Result<(), Fail> {
     check_lengths(&rt, rt.alloc(), &LENGTHS)
 }
 
+const TOO_LARGE: &str = "STORED\r\nSERVER_ERROR object too large for cache\r\n";
+
+/// A line for a block, how many bytes of it are sent behind the value `x` of `a`, and what a session is then given leniently that asks
+/// for `a` at its end. Strictly each of these lines ends it.
+const BLOCKS: [(&str, usize, &str); 4] = [
+    (
+        "set a 0 0 131073\r\n",
+        131_075,
+        "STORED\r\nSERVER_ERROR object too large for cache\r\nVALUE a 0 1\r\nx\r\nEND\r\n",
+    ),
+    (
+        "set a 0 0 200000 noreply\r\n",
+        200_002,
+        "STORED\r\nVALUE a 0 1\r\nx\r\nEND\r\n",
+    ),
+    (
+        "replace a 0 0 300000 \r\n",
+        300_002,
+        "STORED\r\nSERVER_ERROR object too large for cache\r\nVALUE a 0 1\r\nx\r\nEND\r\n",
+    ),
+    ("set a 0 0 8388609\r\n", 0, TOO_LARGE),
+];
+
+fn check_blocks<H: Abort + Threads + Wait + time::Clock + Sync>(
+    rt: &H,
+    alloc: Global,
+    rows: &[(&str, usize, &str)],
+) -> Result<(), Fail> {
+    for (line, length, leniently) in rows {
+        let mut input = Vec::from_slice(alloc, b"set a 0 0 1\r\nx\r\n")?;
+        input.extend_from_slice(line.as_bytes())?;
+        let block = vec![in alloc; b'z'; *length]?;
+        input.extend_from_slice(block.as_slice())?;
+        input.extend_from_slice(b"get a\r\n")?;
+        let bytes = input.as_slice();
+        check_session(rt, alloc, "--lenient", bytes, leniently.as_bytes(), *line)?;
+        check_session(rt, alloc, "", bytes, TOO_LARGE.as_bytes(), *line)?;
+    }
+    Ok(())
+}
+
+#[test]
+fn a_large_block_leaves_the_session_open(rt: HostRuntime) -> Result<(), Fail> {
+    check_blocks(&rt, rt.alloc(), &BLOCKS)
+}
+
 /// A key of 24 bytes.
 fn push_key(alloc: Global, all: &mut Vec<u8>, number: u64) -> Result<(), AllocError> {
     let digits = number.saturating_add(100_000_000).to_string(alloc)?;

@@ -2,7 +2,7 @@
 
 ghost use Rattle.std.specs.Prelude.{◌≡◌, ◌≤◌, ◌+◌, ◌*◌, length};
 ghost use Rattle.proto.specs.declared.hits.Hit.{Hit};
-ghost use Rattle.proto.specs.declared.limits.TheConstants.{WINDOW, MAX_ANSWER, MAX_SESSIONS, MAX_POSTS};
+ghost use Rattle.proto.specs.declared.limits.TheConstants.{WINDOW, MAX_ANSWER, MAX_KEPT, MAX_SESSIONS, MAX_POSTS};
 ghost use Rattle.proto.specs.Hits.{hit_room};
 ghost use Rattle.session_book.specs.declared.session.TheConstants.{MAX_UNREAD, MAX_WAITING};
 ghost use Rattle.session_book.specs.declared.book.TheConstants.{MAX_KEYS, MAX_HIT, MAX_OUTPUT};
@@ -31,6 +31,7 @@ pub fn beginnings()
 pub fn limits()
     ensures unsettled { WINDOW ≡ 64 }
     ensures unread { MAX_UNREAD ≡ 262144 }
+    ensures kept { MAX_KEPT ≡ 163842 }
     ensures waiting { MAX_WAITING ≡ 1048576 }
     ensures keys { MAX_KEYS ≡ 255 }
     ensures hit { (h : Hit) → 24 + length h.key + length h.value ≤ 131072 → hit_room h ≤ MAX_HIT }

@@ -10,6 +10,8 @@ mod cuttings;
 #[cfg(test)]
 mod lanes;
 #[cfg(test)]
+mod large_blocks;
+#[cfg(test)]
 mod list_cache;
 #[cfg(test)]
 mod messages;

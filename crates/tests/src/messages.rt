@@ -197,7 +197,7 @@ const LENIENT_FAULTS: [(&[u8], &[u8]); 26] = [
     ),
     (b"append a 0 0 1\r\nxyz", b"CLIENT_ERROR bad data chunk\r\n"),
     (
-        b"prepend a 0 0 131073\r\n",
+        b"prepend a 0 0 8388609\r\n",
         b"SERVER_ERROR object too large for cache\r\n",
     ),
     (
@@ -602,7 +602,7 @@ fn lines_end_within_32768_bytes_leniently(rt: HostRuntime) -> Result<(), Fail> {
 fn need_of(view: NextView) -> Option<usize> {
     match view {
         NextView::Found(..) => None,
-        NextView::More(need) => Some(need),
+        NextView::More(need) | NextView::Drop(need, _) => Some(need),
     }
 }
 
@@ -617,13 +617,16 @@ const NEEDS: [(&[u8], usize); 6] = [
 ];
 
 /// The same where the lines end in spaces.
-const LENIENT_NEEDS: [(&[u8], usize); 6] = [
+const LENIENT_NEEDS: [(&[u8], usize); 9] = [
     (b"get a ", 7),
     (b"set a 0 0 1 \r", 14),
     (b"set a 0 0 1 \r\n", 17),
     (b"set a 0 0 2  \r\nx ", 19),
     (b"append a 0 0 100000\r\n", 100_023),
     (b"prepend a 0 0 1 noreply\r\nx", 28),
+    (b"set a 0 0 131073\r\n", 131_093),
+    (b"set a 0 0 163822\r\n", 163_842),
+    (b"cas a 0 0 8388608 1 noreply\r\nget b\r\n", 8_388_639),
 ];
 
 fn check_needs(rt: &impl Abort, rows: &[(&[u8], usize)]) {
@@ -636,6 +639,31 @@ fn check_lenient_needs(rt: &impl Abort, rows: &[(&[u8], usize)]) {
     for (input, need) in rows {
         let view = next_view_in(Dialect::Lenient, input);
         check_same(rt, need_of(view), Some(*need), *input);
+    }
+}
+
+/// Whether the bytes of the message that these begin are to be dropped, and whether it has `noreply`.
+const DROPS: [(&[u8], Option<bool>); 5] = [
+    (b"set a 0 0 131072\r\n", None),
+    (b"set a 0 0 163822\r\n", None),
+    (b"set a 0 0 163823\r\n", Some(false)),
+    (b"append a 0 0 200000 noreply \r\nx", Some(true)),
+    (b"set a 0 0 8388608\r\n", Some(false)),
+];
+
+fn is_dropped(view: NextView) -> Option<bool> {
+    match view {
+        NextView::Drop(_, noreply) => Some(noreply),
+        NextView::Found(..) | NextView::More(_) => None,
+    }
+}
+
+#[test]
+fn a_line_says_whether_its_block_is_dropped(rt: HostRuntime) {
+    for (input, wanted) in &DROPS {
+        let lenient = is_dropped(next_view_in(Dialect::Lenient, input));
+        check_same(&rt, lenient, *wanted, *input);
+        check_same(&rt, is_dropped(next_view(input)), None, *input);
     }
 }
 

@@ -6,14 +6,13 @@
 
 memcached (of Debian) with 1, 2 and 4 threads stands beside `segcached serve` with 1, 2 and 3 workers. tools/speed.py measures how
 fast each is, by tools/load.c, which checks each answer; tools/beside_redis.py how many requests redis answers to a load of its own;
-then tools/misses.py measures misses at equal memory, and tools/hot_keys.py which keys in use are lost. --write puts the figures of all between the marks in docs/PERFORMANCE.md,
-pictures into docs/performance.svg and docs/misses.svg, and the tables of misses into out/bench.md. --quick runs each load once and
-briefly, with 2 workers. --only takes loads whose names have a WORD, and no misses, pauses or redis. --speed takes all but the
-misses, --misses these alone. In no other run are --segments, the misses of segcached by the size of its segments, and --site, those of
-a site, which take two hours (or with --quick a minute). --program names
-another build to measure, --against one of segcached that takes memcached's place: a change for speed is judged by that, and ratios
-above 1 say that the program does more, or takes longer, than the one it is against. Loads with an option that the other build hasn't
-got are left out. --tunables gives the program that is measured another GLIBC_TUNABLES than huge pages alone.
+then tools/misses.py measures misses at equal memory, and tools/hot_keys.py which keys in use are lost. --write puts the figures of
+all between the marks in docs/PERFORMANCE.md, pictures into docs/performance.svg and docs/misses.svg, and the tables of misses into
+out/bench.md. --quick runs each load once and briefly, with 2 workers. --only takes loads whose names have a WORD, and no misses,
+pauses or redis. --speed takes all but the misses, --misses these alone. In no other run are --segments, the misses of segcached by the
+size of its segments, and --site, those of a site, which take two hours (or with --quick a minute). --program names another build to
+measure, --against one of segcached that takes memcached's place: a change for speed is judged by that, and ratios above 1 say that the
+program does more, or takes longer, than the one it is against. Loads with an option that the other build hasn't got are left out. --tunables gives the program that is measured another GLIBC_TUNABLES than huge pages alone.
 """
 import argparse
 import datetime

@@ -101,7 +101,8 @@ fn entry_at<'a>(pool: &'a Pool, place: Place) -> EntryRef<'a>
 impl LiveMap for SegmentMap {
     ghost use Rattle.std.specs.Prelude.{false};
     ghost use Rattle.segcache.specs.Shown.{shown_entries};
-    ghost use Rattle.segcache.specs.Writes.{StandsAt, WritesToSegments, ChangesSegments, stays_as, IsReadAgain, IsTouched, HasSamePool};
+    ghost use Rattle.segcache.specs.Writes.{StandsAt, WritesToSegments, ChangesSegments, stays_as};
+    ghost use Rattle.segcache.specs.Writes.{IsReadAgain, IsTouched, HasSamePool};
     ghost use Rattle.segcache.specs.Keeping.{KeepsStored};
 
     type Place = Place;

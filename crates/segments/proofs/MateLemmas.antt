@@ -1,10 +1,10 @@
 -- What chains have from a place of the order on, and whose segment can be merged there.
-use Rattle.std.proofs.Common.{◌≡◌, ℕ, suc, ◌+◌, ◌-◌, ◌<◌, ◌≤◌, Bool, true, false, cond, eqb, List, [], ◌∷◌, length}
-use Rattle.std.proofs.Common.{get_or, take, drop, Option, Some, None, refl, sym, ap, subst, ◌∙◌, arith, inl, inr, add-one}
-use Rattle.std.specs.Prelude.{filter, ◌||◌, ◌==◌, if◌then◌else◌, IsFalse, IsTrue, MatchOption, nat_le}
+use Rattle.std.proofs.Common.{◌≡◌, ℕ, suc, ◌+◌, ◌<◌, ◌≤◌, Bool, true, false, cond, List, [], ◌∷◌, length}
+use Rattle.std.proofs.Common.{get_or, drop, Option, Some, None, refl, sym, ap, subst, ◌∙◌, arith, inl, inr}
+use Rattle.std.specs.Prelude.{filter, if◌then◌else◌, IsFalse, IsTrue, MatchOption, nat_le}
 use Rattle.std.proofs.Math.ListN.{set}
 use Rattle.std.proofs.Math.Seq.{drop-cons}
-use Rattle.std.proofs.lemmas.Bool.{cases_lt, cases_Bool, cases_eq, eq-eqb, ne_eqb, eqb-true, false≢true, leb-true}
+use Rattle.std.proofs.lemmas.Bool.{cases_eq, eq-eqb, ne_eqb, eqb-true, false≢true, leb-true}
 use Rattle.std.proofs.lemmas.List.{get_or-set_same, get_or-set_other, length-take, length-drop}
 use Rattle.std.proofs.lemmas.List.Sums.{length-filter, count_by-le-length}
 use Rattle.proto.specs.declared.eviction.Eviction.{Eviction}
@@ -17,7 +17,7 @@ use Rattle.segments.specs.declared.merge.Rest.TheVariants.{Nothing}
 use Rattle.segments.specs.declared.merge.Start.TheVariants.{One, Apart, Mergeable}
 use Rattle.segments.specs.Pools.{Used, bucket_count, in_bucket, chain_in}
 use Rattle.segments.specs.Inside.{shown_segments}
-use Rattle.segments.specs.Merges.{opened_in, front_of, front_in, go_together, qualifies_in, number_at, HasNoMate, NoneBetween}
+use Rattle.segments.specs.Merges.{opened_in, front_of, front_in, go_together, qualifies_in, HasNoMate, NoneBetween}
 use Rattle.segments.specs.Merges.{IsFirstBetween, IsNextBy}
 use Rattle.segments.specs.Starts.{rest_of, with_front, has_mate, AreRests}
 use Rattle.segments.proofs.LinkLemmas.{of_opened, of_free}

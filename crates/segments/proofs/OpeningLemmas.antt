@@ -1,9 +1,9 @@
 -- Opening moments: how far they are rounded down, and that a segment that was just opened takes items.
-use Rattle.std.proofs.Common.{◌≡◌, ℕ, zero, suc, ◌+◌, ◌-◌, ◌*◌, ◌/◌, ◌%◌, ◌<◌, ◌≤◌, Bool, true, false, refl, sym, ap, subst, ◌∙◌, arith, inl, inr}
+use Rattle.std.proofs.Common.{◌≡◌, ℕ, zero, suc, ◌+◌, ◌-◌, ◌*◌, ◌/◌, ◌%◌, ◌<◌, ◌≤◌, Bool, true, false, refl, arith, inl, inr}
 use Rattle.std.specs.Prelude.{◌==◌, ◌||◌, if◌then◌else◌, max, nat_le, nat_lt}
 use Rattle.std.proofs.lemmas.Bool.{cases_Bool, or_from, or_parts, lt-leb, eqb-false}
 use Rattle.std.proofs.lemmas.Nat.{div-add-mod', le-div, mul-le}
-use Rattle.proto.specs.Buckets.{width_of, lower_end, shared_deadline}
+use Rattle.proto.specs.Buckets.{width_of, lower_end}
 use Rattle.proto.specs.declared.eviction.Eviction.{Eviction}
 use Rattle.proto.specs.declared.eviction.Eviction.TheVariants.{Oldest, LeastRead}
 use Rattle.segments.specs.Pools.{is_sealed, lasting, opening_moment}

@@ -1,5 +1,5 @@
 -- How often the items of each segment were read.
-use Rattle.std.specs.Prelude.{◌≡◌, ℕ, ◌+◌, ◌*◌, ◌/◌, ◌<◌, ◌≤◌, List, [], ◌∷◌, ◌++◌, length, map, replicate, min, All}
+use Rattle.std.specs.Prelude.{◌≡◌, ℕ, ◌+◌, ◌*◌, ◌/◌, ◌<◌, ◌≤◌, List, ◌∷◌, ◌++◌, length, map, replicate, min, All}
 use Rattle.std.specs.Prelude.{sum_by, nat_le, slice_index_or, slice_set, if◌then◌else◌}
 use Rattle.segments.specs.Items.{Item}
 

@@ -1,9 +1,8 @@
-use Rattle.std.proofs.Common.{◌≡◌, ◌<◌, Some, refl, sym, ap, subst, ◌∙◌, arith}
+use Rattle.std.proofs.Common.{◌≡◌, Some, ap}
 use Rattle.std.specs.FinMap as finite
-use Rattle.index.specs.Table.{Places}
 use Rattle.segments.specs.Pools.{PoolState}
 use Rattle.segcache.specs.State.{MapState}
-use Rattle.segcache.specs.Shown.{current, live_entries}
+use Rattle.segcache.specs.Shown.{current}
 use Rattle.segcache.proofs.KeptEntries.{keeps_touched}
 use Rattle.segcache.proofs.TiedParts.{current_within, tied_hit}
 use Rattle.segcache.proofs.OpeningMoments.{past_hit}

@@ -11,7 +11,7 @@ pub enum Dialect {
     /// All of a line counts, and with its end it has at most 2,048 bytes.
     Strict,
     /// Spaces before a line's end don't count, nor does a zero after the key of a `delete`, and with its end a line has at
-    /// most 32,768 bytes. It has `append`, `prepend`, `touch`, `version` and `verbosity` too, doesn't answer `cache_memlimit` with
+    /// most 32,768 bytes. It has `append`, `prepend`, `touch`, `stats`, `version` and `verbosity` too, doesn't answer `cache_memlimit` with
     /// `noreply`, and refuses the binary protocol by its first byte.
     Lenient,
 }

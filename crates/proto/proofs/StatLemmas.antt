@@ -1,17 +1,21 @@
 -- The lines of `stats`.
-use Rattle.std.proofs.Common.{◌≡◌, ℕ, ◌^◌, ◌<◌, ◌≤◌, ◌&&◌, Bool, true, false, List, [], ◌∷◌, ◌++◌, length, refl, sym, ap, ◌∙◌, append_assoc}
-use Rattle.std.specs.Prelude.{IsTrue, decimal, nat_le, flat_map, All}
-use Rattle.std.specs.Char.{is_ascii_digit}
+use Rattle.std.proofs.Common.{◌≡◌, ℕ, ◌^◌, ◌<◌, ◌≤◌, ◌&&◌, ◌||◌, Bool, true, false, List, [], ◌∷◌, ◌++◌, length, refl, sym, ap, ◌∙◌, append_assoc}
+use Rattle.std.specs.Prelude.{◌==◌, IsTrue, decimal, nat_le, flat_map}
+use Rattle.std.specs.Char.{is_ascii_digit, is_ascii_alphanumeric}
 use Rattle.std.specs.List.{list_all}
 use Rattle.std.specs.Str.{all_ascii_digits}
 use Rattle.std.proofs.lemmas.Bool.{and_parts, and_from, le-leb}
 use Rattle.std.proofs.lemmas.Fmt.{digits_decimal, decimal_nonempty}
 use Rattle.std.proofs.lemmas.Grind.{flat_map-append}
 use Rattle.std.proofs.lemmas.List.{append-nil}
-use Rattle.std.proofs.lemmas.List.Elements.{All-nil, All-cons, All-append}
+use Rattle.std.proofs.lemmas.List.Folds.{list_all-append}
 use Rattle.std.proofs.lemmas.Str.Parse.{numerals_by_value, tells_all_ascii_digits}
 use Rattle.proto.specs.declared.counts.Counts.{Counts}
-use Rattle.proto.specs.StatTexts.{stat_bytes, counts_text, is_plain_byte, is_plain, is_count, IsGauge, IsStats}
+use Rattle.proto.specs.StatTexts.{stat_bytes, number_bytes, count_lines, is_plain, names_gauge, IsStats}
+
+-- a byte of a plain word
+abbrev is_plain_byte : ℕ → Bool
+is_plain_byte b = is_ascii_alphanumeric b || b == 95 || b == 46 || b == 45
 
 -- a digit is a plain byte
 digit_plain : (c : ℕ) → is_ascii_digit c ≡ true → is_plain_byte c ≡ true
@@ -31,19 +35,22 @@ decimal_plain n small =
     and_from (nat_le 1 (length (decimal n))) (list_all is_plain_byte (decimal n))
     (le-leb 1 (length (decimal n)) (decimal_nonempty n small)) (digits_plain (decimal n) digits)
 
+-- a line of a gauge
+abbrev is_line : Counts → List ℕ × List ℕ → Bool
+is_line c gauge = names_gauge c gauge.0 && is_plain gauge.1
+
 -- one more line of a gauge
-pub gauge_more : (c : Counts) (lines name value : List ℕ) → IsStats c lines → IsTrue (is_plain name) → IsTrue (is_plain value)
-    → is_count c name ≡ false → IsStats c (lines ++ stat_bytes (name, value))
-gauge_more c lines name value is plain word new =
+pub gauge_more : (c : Counts) (lines name value : List ℕ) → IsStats c lines → IsTrue (names_gauge c name)
+    → IsTrue (is_plain value) → IsStats c (lines ++ stat_bytes (name, value))
+gauge_more c lines name value is plain word =
     let line : List ℕ × List ℕ = (name, value) in
     let one : flat_map stat_bytes (line ∷ []) ≡ stat_bytes line = append-nil (stat_bytes line) in
-    let all : flat_map stat_bytes (is.gauges ++ line ∷ []) ≡ flat_map stat_bytes is.gauges ++ stat_bytes line =
-    flat_map-append stat_bytes is.gauges (line ∷ []) ∙ ap (λ (l : List ℕ). flat_map stat_bytes is.gauges ++ l) one in
-    record {
-      gauges = is.gauges ++ (name, value) ∷ [];
-      plain = All-append (IsGauge c) is.gauges ((name, value) ∷ []) is.plain
-          (All-cons (IsGauge c) (name, value) [] (record { name = plain; value = word; new = new }) (All-nil (IsGauge c)));
-      lines_are = ap (λ (l : List ℕ). l ++ stat_bytes (name, value)) is.lines_are
-          ∙ append_assoc (counts_text c) (flat_map stat_bytes is.gauges) (stat_bytes (name, value))
-          ∙ ap (λ (l : List ℕ). counts_text c ++ l) (sym all);
-    }
+    let all : flat_map stat_bytes (is.0 ++ line ∷ []) ≡ flat_map stat_bytes is.0 ++ stat_bytes line =
+    flat_map-append stat_bytes is.0 (line ∷ []) ∙ ap (λ (l : List ℕ). flat_map stat_bytes is.0 ++ l) one in
+    let last : list_all (is_line c) (line ∷ []) ≡ true = and_from (is_line c line) true (and_from _ _ plain word) refl in (
+      is.0 ++ line ∷ [],
+      list_all-append (is_line c) is.0 (line ∷ []) ∙ and_from (list_all (is_line c) is.0) (list_all (is_line c) (line ∷ [])) is.1 last,
+      ap (λ (l : List ℕ). l ++ stat_bytes line) is.2
+          ∙ append_assoc (flat_map number_bytes (count_lines c)) (flat_map stat_bytes is.0) (stat_bytes line)
+          ∙ ap (λ (l : List ℕ). flat_map number_bytes (count_lines c) ++ l) (sym all),
+    )

@@ -1,6 +1,6 @@
 -- Worked examples, whose theorems stand in proofs/. Each is the contract of a function of the module
 -- `examples`.
-use Rattle.std.specs.Prelude.{◌≡◌, ℕ, ℤ, pos, negsuc, true, false, List, [], ◌∷◌, ◌++◌, codes, replicate, map, Option, Some, None}
+use Rattle.std.specs.Prelude.{◌≡◌, ℕ, ℤ, pos, negsuc, true, false, List, [], ◌∷◌, ◌++◌, codes, replicate, map, flat_map, Option, Some, None}
 use Rattle.std.specs.List.{AllByRecursion}
 use Rattle.std.specs.FinMap as finite
 use Rattle.proto.specs.declared.dialect.Dialect.TheVariants.{Strict, Lenient}
@@ -24,7 +24,7 @@ use Rattle.proto.specs.Commands.{Outcome, act}
 use Rattle.proto.specs.declared.history.Answered.{Answered}
 use Rattle.proto.specs.ClockAnswers.{GivenAnswer}
 use Rattle.proto.specs.declared.counts.Counts.{Counts}
-use Rattle.proto.specs.StatTexts.{counts_text}
+use Rattle.proto.specs.StatTexts.{number_bytes, count_lines}
 use Rattle.proto.specs.Tallies.{no_counts, counted, CountsFrom}
 use Rattle.proto.specs.History.{Legal, session_share, had, asked}
 use Rattle.proto.specs.Buckets.{bucket_of, width_of, life_width, lower_end, shared_deadline, MayLive}
@@ -459,10 +459,12 @@ CountsDo =
     (count_one (Get (a ∷ b ∷ a ∷ []) false) (reply.Values (hit_with a 0 [] None ∷ hit_with a 0 [] None ∷ []))
     ≡ record no_counts { gets = record { hits = 2; misses = 1 } })
     × (count_one (Get (a ∷ b ∷ []) false) reply.NoMemory ≡ record no_counts { refused = 1 })
-    × (count_one (set_a (pos 0)) reply.Stored ≡ record no_counts { sets = 1; stored = 1 })
+    × (count_one (set_a (pos 0)) reply.Stored ≡ record no_counts { sets = record { hits = 1; misses = 0 } })
     × (count_one (set_a (pos 0)) reply.NoMemory ≡ record no_counts { refused = 1 })
-    × (count_one (Append (put_with a 0 (pos 0) [])) reply.NotStored ≡ record no_counts { sets = 1 })
-    × (count_one (Cas (put_with a 0 (pos 0) []) 2) reply.Exists ≡ record no_counts { sets = 1; cas_badval = 1 })
+    × (count_one (Append (put_with a 0 (pos 0) [])) reply.NotStored
+    ≡ record no_counts { sets = record { hits = 0; misses = 1 } })
+    × (count_one (Cas (put_with a 0 (pos 0) []) 2) reply.Exists
+    ≡ record no_counts { sets = record { hits = 0; misses = 1 }; badvals = 1 })
     × (count_one (Delete b) reply.NotFound ≡ record no_counts { deletes = record { hits = 0; misses = 1 } })
     × (count_one (Incr a 1) (reply.Number 8) ≡ record no_counts { incrs = record { hits = 1; misses = 0 } })
     × (count_one (Decr a 1) reply.NotNumber ≡ no_counts)
@@ -485,15 +487,15 @@ told_counts history lines = CountsFrom no_counts (history ++ record {
 -- the lines of counts of which some are 0
 abbrev pub some_counts : List ℕ → List ℕ → List ℕ → List ℕ
 some_counts gets hits misses =
-    codes "STAT cmd_get " ++ gets ++ codes "\r\nSTAT get_hits " ++ hits ++ codes "\r\nSTAT get_misses " ++ misses
-    ++ codes "\r\nSTAT cmd_set 1\r\nSTAT total_items 1\r\nSTAT cas_hits 0\r\nSTAT cas_misses 0\r\nSTAT cas_badval 0\r\n"
-    ++ codes "STAT delete_hits 0\r\nSTAT delete_misses 0\r\nSTAT incr_hits 0\r\nSTAT incr_misses 0\r\nSTAT decr_hits 0\r\n"
-    ++ codes "STAT decr_misses 0\r\nSTAT cmd_touch 0\r\nSTAT touch_hits 0\r\nSTAT touch_misses 0\r\nSTAT cmd_flush 0\r\n"
-    ++ codes "STAT out_of_memory 0\r\n"
+    codes "STAT cmd_get " ++ gets ++ codes "\r\nSTAT cmd_set 1\r\nSTAT cmd_touch 0\r\nSTAT cmd_flush 0\r\nSTAT total_items 1\r\n"
+    ++ codes "STAT cas_badval 0\r\nSTAT out_of_memory 0\r\nSTAT get_hits " ++ hits ++ codes "\r\nSTAT get_misses " ++ misses
+    ++ codes "\r\nSTAT delete_hits 0\r\nSTAT delete_misses 0\r\nSTAT incr_hits 0\r\nSTAT incr_misses 0\r\nSTAT decr_hits 0\r\n"
+    ++ codes "STAT decr_misses 0\r\nSTAT touch_hits 0\r\nSTAT touch_misses 0\r\nSTAT cas_hits 0\r\nSTAT cas_misses 0\r\n"
 
 pub record StatsAre : Type 0 where
-  pub before : told_counts session_history (some_counts (codes "1") (codes "1") (codes "0") ++ codes "STAT uptime 5\r\n")
-  pub text : counts_text (record no_counts { gets = record { hits = 2; misses = 1 }; sets = 1; stored = 1 })
+  pub told : told_counts session_history (some_counts (codes "1") (codes "1") (codes "0") ++ codes "STAT uptime 5\r\n")
+  pub text : flat_map number_bytes
+      (count_lines (record no_counts { gets = record { hits = 2; misses = 1 }; sets = record { hits = 1; misses = 0 } }))
       ≡ some_counts (codes "3") (codes "2") (codes "1")
 
 -- ---- buckets

@@ -2,8 +2,9 @@
 
 ghost use Rattle.std.specs.Prelude.{◌≡◌};
 ghost use Rattle.proto.specs.Stored.{is_no_memory};
-ghost use Rattle.proto.specs.Tallies.{conflicts_in, counted, counted_by, counted_put, hits_in, misses_in, more};
-ghost use Rattle.proto.specs.Tallies.{no_counts, no_tally, tallied};
+ghost use Rattle.proto.specs.StatTexts.{more};
+ghost use Rattle.proto.specs.Tallies.{conflicts_in, counted, counted_by, counted_put, hits_in, misses_in};
+ghost use Rattle.proto.specs.Tallies.{no_counts, tallied};
 
 use crate::message::{Reply, Request};
 
@@ -20,13 +21,11 @@ pub struct Tally {
 pub struct Counts {
     /// The keys that `get` and `gets` asked for.
     pub gets: Tally,
-    /// The storage commands, `cas` among them.
-    pub sets: u64,
-    /// Those that were answered as stored.
-    pub stored: u64,
+    /// The storage commands, `cas` among them: a hit is what was stored.
+    pub sets: Tally,
     pub cas: Tally,
-    /// Those whose entry had another cas number.
-    pub cas_badval: u64,
+    /// Each `cas` whose entry had another cas number.
+    pub badvals: u64,
     pub deletes: Tally,
     pub incrs: Tally,
     pub decrs: Tally,
@@ -55,14 +54,14 @@ fn hits_in(reply: &Reply) -> u64
     }
 }
 
-/// How many of the keys that were asked for it says not to be there.
-fn misses_in(asked: u64, reply: &Reply) -> u64
-    ensures { result ≡ misses_in asked reply.now }
+/// Whether the reply says that the key isn't there, as a number.
+fn misses_in(reply: &Reply) -> u64
+    ensures { result ≡ misses_in reply.now }
 {
-    match reply {
-        Reply::Values(hits) => asked.saturating_sub(hits.len() as u64),
-        Reply::NotFound => asked,
-        _ => 0,
+    if matches!(reply, Reply::NotFound) {
+        1
+    } else {
+        0
     }
 }
 
@@ -75,21 +74,27 @@ fn conflicts_in(reply: &Reply) -> u64
 
 impl Tally {
     const fn new() -> Tally
-        ensures { result ≡ no_tally }
+        ensures { result ≡ record { hits = 0; misses = 0 } }
     {
         Tally { hits: 0, misses: 0 }
     }
 
-    /// Counts the keys that were asked for.
-    fn count(&mut self, asked: u64, reply: &Reply)
-        ensures { self.new ≡ tallied self.old asked reply.now }
+    fn add(&mut self, hits: u64, misses: u64)
+        ensures { self.new ≡ tallied self.old hits misses }
     {
-        self.hits = self.hits.wrapping_add(hits_in(reply));
-        self.misses = self.misses.wrapping_add(misses_in(asked, reply));
+        self.hits = self.hits.wrapping_add(hits);
+        self.misses = self.misses.wrapping_add(misses);
+    }
+
+    /// Counts a key, by the reply.
+    fn count(&mut self, reply: &Reply)
+        ensures { self.new ≡ tallied self.old (hits_in reply.now) (misses_in reply.now) }
+    {
+        self.add(hits_in(reply), misses_in(reply));
     }
 
     /// Hits and misses together.
-    pub fn sum(&self) -> u64
+    pub fn total(&self) -> u64
         ensures { result ≡ more self.now.hits self.now.misses }
     {
         self.hits.wrapping_add(self.misses)
@@ -102,10 +107,9 @@ impl Counts {
     {
         Counts {
             gets: Tally::new(),
-            sets: 0,
-            stored: 0,
+            sets: Tally::new(),
             cas: Tally::new(),
-            cas_badval: 0,
+            badvals: 0,
             deletes: Tally::new(),
             incrs: Tally::new(),
             decrs: Tally::new(),
@@ -119,8 +123,8 @@ impl Counts {
     fn count_put(&mut self, reply: &Reply)
         ensures { self.new ≡ counted_put self.old reply.now }
     {
-        self.sets = self.sets.wrapping_add(1);
-        self.stored = self.stored.wrapping_add(hits_in(reply));
+        let stored = hits_in(reply);
+        self.sets.add(stored, 1u64.saturating_sub(stored));
     }
 
     /// Counts a request that wasn't refused memory.
@@ -128,7 +132,11 @@ impl Counts {
         ensures { self.new ≡ counted_by self.old request.now reply.now }
     {
         match request {
-            Request::Get { keys, .. } => self.gets.count(keys.len() as u64, reply),
+            Request::Get { keys, .. } => {
+                let hits = hits_in(reply);
+                self.gets
+                    .add(hits, (keys.len() as u64).saturating_sub(hits));
+            }
             Request::Set(_)
             | Request::Add(_)
             | Request::Replace(_)
@@ -136,13 +144,13 @@ impl Counts {
             | Request::Prepend(_) => self.count_put(reply),
             Request::Cas(..) => {
                 self.count_put(reply);
-                self.cas.count(1, reply);
-                self.cas_badval = self.cas_badval.wrapping_add(conflicts_in(reply));
+                self.cas.count(reply);
+                self.badvals = self.badvals.wrapping_add(conflicts_in(reply));
             }
-            Request::Delete { .. } => self.deletes.count(1, reply),
-            Request::Incr { .. } => self.incrs.count(1, reply),
-            Request::Decr { .. } => self.decrs.count(1, reply),
-            Request::Touch(_) => self.touches.count(1, reply),
+            Request::Delete { .. } => self.deletes.count(reply),
+            Request::Incr { .. } => self.incrs.count(reply),
+            Request::Decr { .. } => self.decrs.count(reply),
+            Request::Touch(_) => self.touches.count(reply),
             Request::FlushAll { .. } => self.flushes = self.flushes.wrapping_add(1),
             Request::Stats => {}
         }
@@ -156,8 +164,7 @@ impl Counts {
         match (request, reply) {
             (Request::Get { keys, .. }, Reply::Values(hits)) => {
                 let (asked, shown) = (keys.len() as u64, hits.len() as u64);
-                self.gets.hits = self.gets.hits.wrapping_add(shown);
-                self.gets.misses = self.gets.misses.wrapping_add(asked.saturating_sub(shown));
+                self.gets.add(shown, asked.saturating_sub(shown));
             }
             (_, Reply::NoMemory) => self.refused = self.refused.wrapping_add(1),
             _ => self.count_by(request, reply),

@@ -1,10 +1,10 @@
 //! The lines of a `stats`, as text.
 
-ghost use Rattle.std.specs.Prelude.{◌≡◌, ◌++◌, false, IsTrue, IfOk, OnOk, decimal};
-ghost use Rattle.proto.specs.StatTexts.{stat_bytes, numbers_text, read_lines, other_lines, last_lines, counts_text, is_plain, is_count, IsStats};
+ghost use Rattle.std.specs.Prelude.{◌≡◌, ◌++◌, IsTrue, IfOk, OnOk, decimal, flat_map};
+ghost use Rattle.proto.specs.StatTexts.{stat_bytes, number_bytes, total_lines, tally_lines, count_lines, is_plain, names_gauge, IsStats};
 
 use crate::byte_string::ByteString;
-use crate::counts::Counts;
+use crate::counts::{Counts, Tally};
 use crate::no_memory::NoMemory;
 use itoa::Buffer;
 use std::alloc::Global;
@@ -27,61 +27,62 @@ fn push_line(text: &mut Vec<u8>, name: &[u8], value: &[u8]) -> Result<(), NoMemo
     Ok(())
 }
 
-/// Appends the line of a number.
-fn push_number(text: &mut Vec<u8>, name: &[u8], n: u64) -> Result<(), NoMemory>
-    ensures { OnOk result (text.new.items ≡ text.old.items ++ stat_bytes (name.now, decimal n)) }
+/// Appends the line of a count.
+#[tactic(auto, unfolding(crate::specs::StatTexts::number_bytes))]
+fn push_count(text: &mut Vec<u8>, name: &[u8], n: u64) -> Result<(), NoMemory>
+    ensures { OnOk result (text.new.items ≡ text.old.items ++ number_bytes (name.now, n)) }
 {
     push_line(text, name, Buffer::new().format(n).as_bytes())
 }
 
-/// Appends the counts of reads and stores.
-fn push_reads(text: &mut Vec<u8>, counts: &Counts) -> Result<(), NoMemory>
-    ensures { OnOk result (text.new.items ≡ text.old.items ++ numbers_text (read_lines counts.now)) }
+/// Appends the line of a count whose name has two parts.
+fn push_part(text: &mut Vec<u8>, name: &[u8], part: &[u8], n: u64) -> Result<(), NoMemory>
+    ensures { OnOk result (text.new.items ≡ text.old.items ++ number_bytes (name.now ++ part.now, n)) }
 {
-    push_number(text, b"cmd_get", counts.gets.sum())?;
-    push_number(text, b"get_hits", counts.gets.hits)?;
-    push_number(text, b"get_misses", counts.gets.misses)?;
-    push_number(text, b"cmd_set", counts.sets)?;
-    push_number(text, b"total_items", counts.stored)?;
-    push_number(text, b"cas_hits", counts.cas.hits)?;
-    push_number(text, b"cas_misses", counts.cas.misses)?;
-    push_number(text, b"cas_badval", counts.cas_badval)?;
+    text.extend_from_slice(b"STAT ")?;
+    text.extend_from_slice(name)?;
+    text.extend_from_slice(part)?;
+    text.extend_from_slice(b" ")?;
+    text.extend_from_slice(Buffer::new().format(n).as_bytes())?;
+    text.extend_from_slice(b"\r\n")?;
     Ok(())
 }
 
-/// Appends those of the other requests for a key.
-fn push_others(text: &mut Vec<u8>, counts: &Counts) -> Result<(), NoMemory>
-    ensures { OnOk result (text.new.items ≡ text.old.items ++ numbers_text (other_lines counts.now)) }
+/// Appends the lines of counts that aren't hits or misses.
+fn push_totals(text: &mut Vec<u8>, counts: &Counts) -> Result<(), NoMemory>
+    ensures { OnOk result (text.new.items ≡ text.old.items ++ flat_map number_bytes (total_lines counts.now)) }
 {
-    push_number(text, b"delete_hits", counts.deletes.hits)?;
-    push_number(text, b"delete_misses", counts.deletes.misses)?;
-    push_number(text, b"incr_hits", counts.incrs.hits)?;
-    push_number(text, b"incr_misses", counts.incrs.misses)?;
-    push_number(text, b"decr_hits", counts.decrs.hits)?;
-    push_number(text, b"decr_misses", counts.decrs.misses)?;
+    push_count(text, b"cmd_get", counts.gets.total())?;
+    push_count(text, b"cmd_set", counts.sets.total())?;
+    push_count(text, b"cmd_touch", counts.touches.total())?;
+    push_count(text, b"cmd_flush", counts.flushes)?;
+    push_count(text, b"total_items", counts.sets.hits)?;
+    push_count(text, b"cas_badval", counts.badvals)?;
+    push_count(text, b"out_of_memory", counts.refused)?;
     Ok(())
 }
 
-/// Appends the last ones.
-fn push_last(text: &mut Vec<u8>, counts: &Counts) -> Result<(), NoMemory>
-    ensures { OnOk result (text.new.items ≡ text.old.items ++ numbers_text (last_lines counts.now)) }
+/// Appends the lines of hits and misses.
+fn push_tally(text: &mut Vec<u8>, name: &[u8], tally: Tally) -> Result<(), NoMemory>
+    ensures { OnOk result (text.new.items ≡ text.old.items ++ flat_map number_bytes (tally_lines name.now tally)) }
 {
-    push_number(text, b"cmd_touch", counts.touches.sum())?;
-    push_number(text, b"touch_hits", counts.touches.hits)?;
-    push_number(text, b"touch_misses", counts.touches.misses)?;
-    push_number(text, b"cmd_flush", counts.flushes)?;
-    push_number(text, b"out_of_memory", counts.refused)?;
+    push_part(text, name, b"_hits", tally.hits)?;
+    push_part(text, name, b"_misses", tally.misses)?;
     Ok(())
 }
 
 /// Appends the lines of counts.
-#[tactic(auto, unfolding(crate::specs::StatTexts::counts_text))]
 fn push_counts(text: &mut Vec<u8>, counts: &Counts) -> Result<(), NoMemory>
-    ensures { OnOk result (text.new.items ≡ text.old.items ++ counts_text counts.now) }
+    ensures { OnOk result (text.new.items ≡ text.old.items ++ flat_map number_bytes (count_lines counts.now)) }
 {
-    push_reads(text, counts)?;
-    push_others(text, counts)?;
-    push_last(text, counts)
+    push_totals(text, counts)?;
+    push_tally(text, b"get", counts.gets)?;
+    push_tally(text, b"delete", counts.deletes)?;
+    push_tally(text, b"incr", counts.incrs)?;
+    push_tally(text, b"decr", counts.decrs)?;
+    push_tally(text, b"touch", counts.touches)?;
+    push_tally(text, b"cas", counts.cas)?;
+    Ok(())
 }
 
 /// The lines of counts, and then those of gauges, of which no clause says more than that they are lines of plain words. Contracts
@@ -116,9 +117,8 @@ impl StatsText {
 
     /// The same with a line more, of a gauge whose value is a word.
     pub fn with_word(self, name: &[u8], value: &[u8]) -> Result<StatsText, NoMemory>
-        requires name { IsTrue (is_plain name.now) }
+        requires name { IsTrue (names_gauge self name.now) }
         requires value { IsTrue (is_plain value.now) }
-        requires no_count { is_count self name.now ≡ false }
         ensures { IfOk result (λ text. text ≡ self) }
     {
         let mut text = self.text;
@@ -131,8 +131,7 @@ impl StatsText {
 
     /// The same, of a gauge whose value is a number.
     pub fn with(self, name: &[u8], n: u64) -> Result<StatsText, NoMemory>
-        requires name { IsTrue (is_plain name.now) }
-        requires no_count { is_count self name.now ≡ false }
+        requires name { IsTrue (names_gauge self name.now) }
         ensures { IfOk result (λ text. text ≡ self) }
     {
         let mut buffer = Buffer::new();

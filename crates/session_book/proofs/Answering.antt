@@ -3,7 +3,6 @@ use Rattle.std.proofs.Common.{◌≡◌, ℕ, ◌+◌, ◌<◌, ◌≤◌, true,
 use Rattle.std.proofs.Common.{ap, ◌∙◌, arith}
 use Rattle.std.specs.Prelude.{IsTrue, codes, decimal, flat_map}
 use Rattle.proto.specs.Hits.{hit_bytes}
-use Rattle.proto.specs.StatTexts.{stat_bytes, stats_bytes, first_lines, more_lines}
 use Rattle.proto.specs.Lines.{line_end}
 use Rattle.proto.specs.declared.message.Reply.{Reply}
 use Rattle.proto.specs.declared.message.Message.{Message}
@@ -135,7 +134,6 @@ some (x ∷ xs) ys lt = omega arith
 
 -- each reply has bytes
 shown : (r : Reply) → 0 < length (reply_bytes r)
-unfolding stats_bytes
 shown replies.Stored = omega arith
 shown replies.NotStored = omega arith
 shown replies.Exists = omega arith
@@ -149,9 +147,7 @@ shown replies.TooLarge = omega arith
 shown replies.NoMemory = omega arith
 shown replies.NotNumber = omega arith
 shown replies.NoCas = omega arith
-shown (replies.Stats stats) = some
-    (flat_map stat_bytes (first_lines stats.counts) ++ flat_map stat_bytes (more_lines stats.counts) ++ stats.more)
-    (codes "END\r\n") (omega arith)
+shown (replies.Stats lines) = some lines (codes "END\r\n") (omega arith)
 
 -- of two lists that are nothing together the first is nothing
 none_front : (xs ys : List ℕ) → xs ++ ys ≡ [] → length xs ≡ 0
@@ -175,6 +171,7 @@ silent_local (Local local.Unknown) ms e none = absurd (let l = ap length none in
 silent_local (Local local.BadLine) ms e none = absurd (let l = ap length none in omega (arith, l))
 silent_local (Local local.Version) ms e none = absurd (let l = ap length none in omega (arith, l))
 silent_local (Local local.Verbosity) ms e none = absurd (let l = ap length none in omega (arith, l))
+silent_local (Local local.End) ms e none = absurd (let l = ap length none in omega (arith, l))
 silent_local (Local local.Silent) ms e none = refl
 silent_local Quit ms e none = refl
 silent_local (Fatal fatal.BadLine) ms e none = absurd (let l = ap length none in omega (arith, l))

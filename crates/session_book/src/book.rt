@@ -114,16 +114,6 @@ impl Book {
         }
     }
 
-    /// How many sessions were opened so far.
-    pub fn opened(&self) -> u64 {
-        self.opened
-    }
-
-    /// How many sessions are open.
-    pub fn open_sessions(&self) -> u64 {
-        self.sessions.len() as u64
-    }
-
     /// For tests alone: a worker asks its end.
     pub fn worker(&self) -> usize
         ensures { result ≡ self.now.worker }

@@ -38,6 +38,7 @@ impl<'a, R: Clock> Telling<'a, R> {
     }
 
     // These counts, and the gauges.
+    #[tactic(auto, unfolding(proto::specs::StatTexts::is_count))]
     fn text<S: StorageEngine>(&self, counts: &Counts, store: &S) -> Result<StatsText, NoMemory>
         ensures { IfOk result (λ text. text ≡ counts.now) }
     {

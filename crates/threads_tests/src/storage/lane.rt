@@ -1,10 +1,6 @@
 //! One lane, by the single calls of its ends.
 
-<<<<<<< ours
-ghost use Rattle.std.specs.Prelude.{◌≡◌, ◌+◌, [], length, true, false, Some, None};
-=======
-ghost use Rattle.std.specs.Prelude.{◌⊎◌, ◌≡◌, ◌+◌, [], length, false, Some, None};
->>>>>>> theirs
+ghost use Rattle.std.specs.Prelude.{◌⊎◌, ◌≡◌, ◌+◌, [], length, true, false, Some, None};
 ghost use Rattle.proto.specs.History.{answers_by, worker_share};
 ghost use Rattle.engine.specs.Reaching.{Reaches};
 ghost use Rattle.segcache.specs.StoreState.{sizes_in, segmented_cache, last_moment};

@@ -130,7 +130,7 @@ fn entry_at<'a>(pool: &'a Pool, place: Place) -> EntryRef<'a>
 
 impl SegmentMap {
     /// The lines with those of the map's gauges.
-    #[tactic(auto, unfolding(proto::specs::StatTexts::is_count))]
+    #[tactic(auto, unfolding(proto::specs::StatTexts::names_gauge, proto::specs::StatTexts::count_lines, proto::specs::StatTexts::total_lines, proto::specs::StatTexts::tally_lines))]
     fn with_gauges(&self, text: StatsText) -> Result<StatsText, NoMemory>
         ensures { IfOk result (λ told. told ≡ text) }
     {

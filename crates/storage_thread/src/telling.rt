@@ -38,7 +38,7 @@ impl<'a, R: Clock> Telling<'a, R> {
     }
 
     // These counts, and the gauges.
-    #[tactic(auto, unfolding(proto::specs::StatTexts::is_count))]
+    #[tactic(auto, unfolding(proto::specs::StatTexts::names_gauge, proto::specs::StatTexts::count_lines, proto::specs::StatTexts::total_lines, proto::specs::StatTexts::tally_lines))]
     fn text<S: StorageEngine>(&self, counts: &Counts, store: &S) -> Result<StatsText, NoMemory>
         ensures { IfOk result (λ text. text ≡ counts.now) }
     {

@@ -15,7 +15,7 @@ use Rattle.storage_thread.specs.Keeping.{LeadsKeeping}
 use Rattle.engine.proofs.ReachingLemmas.{reaches_more, legal_of, counted_more}
 use Rattle.engine.proofs.Refusals.{refused_get}
 use Rattle.storage_thread.proofs.Turns.{read_more}
-use Rattle.storage_thread.proofs.Kept.{KeepsStep, keeps_told, refused_told, leads_more}
+use Rattle.storage_thread.proofs.Kept.{KeepsStep, keeps_told, needs_none, refused_told, leads_more}
 use Rattle.storage_thread.proofs.serving.execute.Goals as goal
 
 -- what an entry tells, by the counts before it
@@ -124,7 +124,8 @@ returns-clause-kept g c l = let p = c.args.posted in let m = g.S.StorageEngine i
     )
     (keeps_told c.args.end.now.end.terms.geometry old e c.handle-stored.result after (m.keeps c.args.store.now)
     (m.keeps c.handle-stored.new.self) c.reply-reply.ensures.same
-    (λ is. c.handle-stored.ensures.succeeds (rw (request ∙ is) refl))
+    (λ is. c.handle-stored.ensures.succeeds (needs_none m.may_refuse (m.sizes c.args.store.now) old
+    c.next_moment-moment.result p.request (request ∙ is)))
     (subst (λ (z : Sizes × Request). KeepsStep z.0 old (record e { request = z.1; reply = c.handle-stored.result }) after
     (m.keeps c.args.store.now) (m.keeps c.handle-stored.new.self)) (λ i. (sizes i, request i)) c.handle-stored.ensures.kept)) in
     subst (λ (z : StorageView). LeadsKeeping z.terms.geometry z.history after (m.keeps c.handle-stored.new.self))

@@ -8,6 +8,7 @@ use Rattle.proto.specs.declared.message.Request.{Request}
 use Rattle.proto.specs.declared.message.Reply.{Reply}
 use Rattle.proto.specs.declared.message.Reply.TheVariants.{Stored, NotStored, Exists, NotFound, Values, Deleted, Number, Touched, Flushed, TooLarge, NoMemory}
 use Rattle.proto.specs.declared.message.Reply.TheVariants.{NotNumber, NoCas}
+use Rattle.proto.specs.declared.message.Reply.TheVariants as replies
 use Rattle.proto.specs.Sizes.{Sizes, item_limit}
 use Rattle.proto.specs.Cache.{Entry, Entries, Cache, found_at}
 use Rattle.proto.specs.Commands.{Outcome, act}
@@ -155,6 +156,7 @@ wants_memory None TooLarge e = absurd (true≢false (sym e))
 wants_memory None NoMemory e = absurd (true≢false (sym e))
 wants_memory None NotNumber e = absurd (true≢false (sym e))
 wants_memory None NoCas e = absurd (true≢false (sym e))
+wants_memory None (replies.Stats stats) e = absurd (true≢false (sym e))
 
 -- where memory was refused, the cache stays
 denied_same : {M P : Type 0} (m : MapOf M P) (old new : Engine M) (done : Outcome) (reply : Reply)

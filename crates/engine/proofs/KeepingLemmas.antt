@@ -5,6 +5,7 @@ use Rattle.std.specs.FinMap as map
 use Rattle.proto.specs.declared.message.Request.{Request}
 use Rattle.proto.specs.declared.message.Reply.{Reply}
 use Rattle.proto.specs.declared.message.Reply.TheVariants.{Stored, NotStored, Exists, NotFound, Values, Deleted, Number, Touched, Flushed, TooLarge, NoMemory}
+use Rattle.proto.specs.declared.message.Reply.TheVariants as replies
 use Rattle.proto.specs.declared.message.Reply.TheVariants.{NotNumber, NoCas}
 use Rattle.proto.specs.Sizes.{Sizes, item_limit}
 use Rattle.proto.specs.Cache.{Entries, Cache, found_at}
@@ -34,6 +35,7 @@ answered_item Touched items other = refl
 answered_item Flushed items other = refl
 answered_item TooLarge items other = refl
 answered_item NoMemory items other = absurd (other refl)
+answered_item (replies.Stats stats) items other = refl
 answered_item NotNumber items other = refl
 answered_item NoCas items other = refl
 

@@ -8,7 +8,7 @@ use Rattle.std.specs.FinMap as map
 use Rattle.std.proofs.lemmas.Slice.Eq.{bytes_eq-Decides}
 use Rattle.proto.specs.declared.message.Put.{Put}
 use Rattle.proto.specs.declared.message.Request.{Request}
-use Rattle.proto.specs.declared.message.Request.TheVariants.{Get, Set, Add, Replace, Cas, Append, Prepend, Delete, Incr, Decr, Touch, FlushAll}
+use Rattle.proto.specs.declared.message.Request.TheVariants.{Get, Set, Add, Replace, Cas, Append, Prepend, Delete, Incr, Decr, Touch, FlushAll, Stats}
 use Rattle.proto.specs.declared.message.Reply.{Reply}
 use Rattle.proto.specs.declared.message.Reply.TheVariants.{Stored, Exists, NotFound, Number}
 use Rattle.proto.specs.Cache.{Entry, Entries, no_entries, Cache, has_arrived, deadline_of}
@@ -158,3 +158,4 @@ none_act limit cache t (Prepend p) sets =
 none_act limit cache t (Touch asked) sets = none_touch (map.get cache.entries asked.key) cache t asked.key asked.exptime sets
 none_act limit cache t (FlushAll delay) sets =
     none_if cache.entries (delay == 0) _ _ (none_empty cache.entries) (none_stay cache.entries)
+none_act limit cache t Stats sets = none_stay cache.entries

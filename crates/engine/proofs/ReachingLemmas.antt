@@ -3,6 +3,11 @@ use Rattle.std.proofs.Common.{◌≡◌, ℕ, ◌+◌, ◌≤◌, max, min, map,
 use mathlib.Core.Logic.{dite}
 use mathlib.Core.List.{map-append}
 use native.Mathlib.Decide.{ℕ_discrete}
+use Rattle.std.specs.Prelude.{◌⊎◌}
+use Rattle.proto.specs.declared.message.Reply.{Reply}
+use Rattle.proto.specs.declared.message.Request.TheVariants.{Stats}
+use Rattle.proto.specs.declared.counts.Counts.{Counts}
+use Rattle.proto.specs.Tallies.{no_counts, counted, TellsCounts, CountsFrom, counts_after}
 use Rattle.proto.specs.declared.history.Answered.{Answered}
 use Rattle.proto.specs.ClockAnswers.{GivenAnswer}
 use Rattle.proto.specs.Sizes.{Sizes}
@@ -13,15 +18,20 @@ use Rattle.engine.specs.Reaching.{moments_after, last_or, last_cache, Reaches}
 use Rattle.proto.proofs.CountLemmas.{share_mine, share_other}
 use Rattle.proto.proofs.HistoryLemmas.{numbered}
 
+-- the step of an entry, whatever a `stats` was answered
+abbrev pub IsStepOf : Sizes → Cache → Answered → Cache → Type 0
+IsStepOf sizes before e after =
+    (reply : Reply) × ((reply ≡ e.reply) ⊎ (e.request ≡ Stats)) × Step sizes before e.moment e.request reply after
+
 -- a chain with one step more
 pub chain_more : (sizes : Sizes) (before : Cache) (h : List Answered) (caches : List Cache) (e : Answered)
     (after : Cache)
-    → Chain sizes before h caches → Step sizes (last_cache before caches) e.moment e.request e.reply after
+    → Chain sizes before h caches → IsStepOf sizes (last_cache before caches) e after
     → Chain sizes before (h ++ e ∷ []) (caches ++ after ∷ [])
-chain_more sizes before [] [] e after c s = (s, tt)
+chain_more sizes before [] [] e after c s = (s.0, s.1, s.2, tt)
 chain_more sizes before [] (x ∷ caches) e after c s = absurd c
 chain_more sizes before (b ∷ h) [] e after c s = absurd c
-chain_more sizes before (b ∷ h) (x ∷ caches) e after c s = (c.0, chain_more sizes x h caches e after c.1 s)
+chain_more sizes before (b ∷ h) (x ∷ caches) e after c s = (c.0, c.1, c.2, chain_more sizes x h caches e after c.3 s)
 
 -- the cache after that step is the last one
 pub last_more : (before : Cache) (caches : List Cache) (after : Cache)
@@ -58,6 +68,18 @@ pub answers_more : (told : List GivenAnswer) (h : List Answered) (e : Answered) 
 answers_more told [] e = refl
 answers_more told (b ∷ h) e = answers_more b.clock h e
 
+-- counts that each `stats` tells, and one request more
+counts_more : (c : Counts) (h : List Answered) (e : Answered) → CountsFrom c h
+    → TellsCounts (counts_after c h) e.request e.reply → CountsFrom c (h ++ e ∷ [])
+counts_more c [] e r tells = (tells, tt)
+counts_more c (b ∷ h) e r tells = (r.0, counts_more (counted c b.request b.reply) h e r.1 tells)
+
+-- the counts after one request more
+pub counted_more : (c : Counts) (h : List Answered) (e : Answered)
+    → counts_after c (h ++ e ∷ []) ≡ counted (counts_after c h) e.request e.reply
+counted_more c [] e = refl
+counted_more c (b ∷ h) e = counted_more (counted c b.request b.reply) h e
+
 -- numbers that count on by one, and the next one
 numbers_more : (n : ℕ) (h : List Answered) (e : Answered) → NumbersFrom n h → e.number ≡ n + length h
     → NumbersFrom n (h ++ e ∷ [])
@@ -66,13 +88,13 @@ numbers_more n (b ∷ h) e r is = (r.0, numbers_more (n + 1) h e r.1 (is ∙ (om
 
 -- a history with one request more leads to the cache and the moment of that request
 pub reaches_more : (sizes : Sizes) (h : List Answered) (c after : Cache) (m : ℕ) (e : Answered) → Reaches sizes h c m
-    → Step sizes c e.moment e.request e.reply after → e.moment ≤ max_moment
+    → IsStepOf sizes c e after → TellsCounts (counts_after no_counts h) e.request e.reply → e.moment ≤ max_moment
     → (answer : GivenAnswer) → e.clock ≡ answers_by [] h ++ answer ∷ [] → e.moment ≡ moment_after m answer.seconds
     → e.number ≡ length (worker_share h e.worker) + 1 → Reaches sizes (h ++ e ∷ []) after e.moment
-reaches_more sizes h c after m e r s high answer by at next = record {
+reaches_more sizes h c after m e r s tells high answer by at next = record {
   caches = r.caches ++ after ∷ [];
   chain = chain_more sizes (empty_cache 0) h r.caches e after r.chain
-      (subst (λ (z : Cache). Step sizes z e.moment e.request e.reply after) (sym r.cache_is) s);
+      (subst (λ (z : Cache). IsStepOf sizes z e after) (sym r.cache_is) s);
   cache_is = last_more (empty_cache 0) r.caches after;
   moments_are = timed_on [] 0 h e answer r.moments_are by
       (at ∙ ap (λ (z : ℕ). moment_after z answer.seconds) (sym r.moment_is));
@@ -83,6 +105,7 @@ reaches_more sizes h c after m e r s high answer by at next = record {
       let next_is = next ∙ (ap (λ (z : ℕ). length (worker_share h z) + 1) mine ∙ (omega arith)) in
       subst (NumbersFrom 1) (sym (share_mine h e w mine)) (numbers_more 1 (worker_share h w) e (r.numbers w) next_is))
       (λ other. subst (NumbersFrom 1) (sym (share_other h e w other)) (r.numbers w));
+  counts = counts_more no_counts h e r.counts tells;
 }
 
 -- a history that leads somewhere is legal
@@ -92,6 +115,7 @@ legal_of sizes h c m r = record {
   caches = r.caches;
   chain = r.chain;
   numbers = λ worker. numbered (worker_share h worker) (r.numbers worker);
+  counts = r.counts;
 }
 
 -- the moment of one more request is that of the clock's next answer

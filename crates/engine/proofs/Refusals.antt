@@ -7,7 +7,7 @@ use Rattle.std.specs.Str.Parse.{digits_value}
 use Rattle.std.specs.FinMap as map
 use Rattle.proto.specs.declared.message.Put.{Put}
 use Rattle.proto.specs.declared.message.Request.{Request}
-use Rattle.proto.specs.declared.message.Request.TheVariants.{Get, Set, Add, Replace, Cas, Append, Prepend, Delete, Incr, Decr, Touch, FlushAll}
+use Rattle.proto.specs.declared.message.Request.TheVariants.{Get, Set, Add, Replace, Cas, Append, Prepend, Delete, Incr, Decr, Touch, FlushAll, Stats}
 use Rattle.proto.specs.declared.message.Reply.{Reply}
 use Rattle.proto.specs.declared.message.Reply.TheVariants.{NoMemory, Stored, Exists, NotFound, Number}
 use Rattle.proto.specs.Sizes.{Sizes}
@@ -101,6 +101,7 @@ kind_of limit cache t (Prepend p) =
     inr (answers_join (λ value. p.value ++ value) (map.get cache.entries p.key) limit cache p)
 kind_of limit cache t (Touch asked) = inr (answers_touch (map.get cache.entries asked.key) cache t asked.key asked.exptime)
 kind_of limit cache t (FlushAll delay) = inr (answers_if (delay == 0) _ _ (λ e. cc, refl) (λ e. cc, refl))
+kind_of limit cache t Stats = inr (λ e. cc, refl)
 
 -- no outcome is out of memory
 pub answers_act : (limit : ℕ) (cache : Cache) (t : ℕ) (q : Request) → (act limit cache t q).reply ≢ NoMemory

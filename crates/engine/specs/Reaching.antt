@@ -3,6 +3,7 @@ use Rattle.std.specs.Prelude.{◌≡◌, ℕ, ◌≤◌, max, min, List, [], ◌
 use Rattle.proto.specs.declared.history.Answered.{Answered}
 use Rattle.proto.specs.Sizes.{Sizes}
 use Rattle.proto.specs.Cache.{Cache, empty_cache}
+use Rattle.proto.specs.Tallies.{no_counts, CountsFrom}
 use Rattle.proto.specs.History.{max_moment, MomentsFrom, Chain, NumbersFrom, worker_share}
 
 -- the moments of requests: each is the clock's answer, up to the greatest moment, or the moment before where that is
@@ -31,3 +32,4 @@ pub record Reaches (sizes : Sizes) (history : List Answered) (cache : Cache) (mo
   pub moment_is : last_or 0 (map (λ e. e.moment) history) ≡ moment
   pub small : moment ≤ max_moment
   pub numbers : (worker : ℕ) → NumbersFrom 1 (worker_share history worker)
+  pub counts : CountsFrom no_counts history

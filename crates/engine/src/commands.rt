@@ -411,6 +411,8 @@ impl<M: LiveMap> Engine<M> {
             Request::Incr { key, amount } => self.change(key.as_slice(), Change::Add(*amount)),
             Request::Decr { key, amount } => self.change(key.as_slice(), Change::Subtract(*amount)),
             Request::FlushAll { delay } => self.flush(*delay),
+            // Who counts requests answers it.
+            Request::Stats => Reply::NotFound,
         }
     }
 }

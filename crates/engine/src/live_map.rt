@@ -1,6 +1,6 @@
 //! What an engine asks of the map that has its entries.
 
-ghost use Rattle.std.specs.Prelude.{◌≡◌, ℕ, ◌≤◌, Bool, List, Option, OnOk, OnErr, IfSome, IsSome, IsTrue, Some, false, length};
+ghost use Rattle.std.specs.Prelude.{◌≡◌, ℕ, ◌≤◌, Bool, List, Option, IfOk, OnOk, OnErr, IfSome, IsSome, IsTrue, Some, false, length};
 ghost use Rattle.std.specs.Option.{option_map};
 ghost use Rattle.std.specs.FinMap as map;
 ghost use Rattle.proto.specs.Sizes.{Sizes, IsGeometry, item_limit};
@@ -14,7 +14,7 @@ ghost use Rattle.engine.specs.Written.{MayBeWritten, IsWritten, IsChanged};
 ghost use Rattle.engine.specs.Keeping.{StaysKept, KeepsEntry};
 ghost use Rattle.engine.specs.Counting.{StaysAlike};
 
-use proto::NoMemory;
+use proto::{NoMemory, StatsText};
 use std::hash::FoldHasher;
 
 /// An entry whose value is borrowed: from the map that has it, or from the caller that writes it.
@@ -83,6 +83,10 @@ pub trait LiveMap {
     /// Reads what the search for a key with this hash will read, so that it is in the processor's cache. No clause
     /// speaks of what it reads.
     fn prefetch(&self, hash: u64);
+
+    /// Adds the lines of its gauges. NoMemory where memory was refused.
+    fn tell(&self, text: StatsText) -> Result<StatsText, NoMemory>
+        ensures told { IfOk result (λ told. told ≡ text) };
 
     /// Moves on to this moment.
     fn advance(&mut self, now: u64)

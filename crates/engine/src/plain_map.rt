@@ -5,7 +5,7 @@ ghost use Rattle.engine.specs.Shown.{entry_of};
 ghost use Rattle.engine.specs.PlainEntries.{plain_entries};
 
 use crate::{Engine, EntryRef, LiveMap, StoreMap, has_arrived};
-use proto::{ByteString, Eviction, Geometry, MAX_BLOCK, NoMemory};
+use proto::{ByteString, Eviction, Geometry, MAX_BLOCK, NoMemory, StatsText};
 use std::alloc::Global;
 use std::collections::BTreeMap;
 use std::hash::FoldHasher;
@@ -118,6 +118,10 @@ impl LiveMap for PlainMap {
     }
 
     fn prefetch(&self, _hash: u64) {}
+
+    fn tell(&self, text: StatsText) -> Result<StatsText, NoMemory> {
+        Ok(text)
+    }
 
     fn advance(&mut self, now: u64) {
         self.moment = now;

@@ -19,7 +19,7 @@ ghost use Rattle.engine.specs.Outcomes.{outcome_at, needs_memory};
 
 use crate::scratch::Scratch;
 use crate::{Engine, LiveMap, StorageEngine};
-use proto::{Dialect, Eviction, Geometry, NoMemory, Reply, Request};
+use proto::{Dialect, Eviction, Geometry, NoMemory, Reply, Request, StatsText};
 use std::alloc::Global;
 use std::hash::FoldHasher;
 
@@ -170,6 +170,13 @@ impl<M: StoreMap> StorageEngine for Engine<M> {
 
     fn prefetch(&self, hash: u64) {
         self.map.prefetch(hash);
+    }
+
+    /// Adds the lines of the map's gauges. NoMemory where memory was refused.
+    fn tell(&self, text: StatsText) -> Result<StatsText, NoMemory>
+        ensures told { IfOk result (λ told. told ≡ text) }
+    {
+        self.map.tell(text)
     }
 
     /// Executes the request at this moment, in seconds. The hits of a `get` stand in the buffer that its keys were

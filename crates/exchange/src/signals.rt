@@ -104,6 +104,16 @@ impl StorageSignals {
         })
     }
 
+    /// Where its memory was taken.
+    pub fn allocator(&self) -> Global {
+        *self.workers.allocator()
+    }
+
+    /// How many workers there are.
+    pub fn workers(&self) -> usize {
+        self.workers.len()
+    }
+
     /// How many microseconds a thread looks for work before it parks. None where it counts turns.
     pub fn spin(&self) -> Option<u32> {
         self.spin

@@ -65,6 +65,11 @@ impl Index {
         })
     }
 
+    /// How many keys it has.
+    pub fn len(&self) -> usize {
+        self.used
+    }
+
     /// What hashes a key, once it has taken in the seed.
     pub fn hasher(&self) -> FoldHasher {
         self.hasher

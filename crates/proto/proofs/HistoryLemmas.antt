@@ -1,5 +1,5 @@
 -- The history without an entry, numbers of entries, and what the clock answered.
-use Rattle.std.proofs.Common.{◌≡◌, ℕ, zero, suc, ◌+◌, List, [], ◌∷◌, ◌++◌, Bool, true, false, None, All, sym, ap, subst, ◌∙◌, append_assoc, arith}
+use Rattle.std.proofs.Common.{◌≡◌, ℕ, zero, suc, ◌+◌, List, [], ◌∷◌, ◌++◌, ◌⊎◌, Bool, true, false, None, All, sym, ap, subst, ◌∙◌, append_assoc, arith}
 use mathlib.Core.Option.{some, some-injective, some-ne-none}
 use lib.ListN.{get_elem?}
 use Rattle.proto.specs.declared.history.Answered.{Answered}
@@ -7,31 +7,32 @@ use Rattle.std.proofs.lemmas.List.{append-nil}
 use Rattle.std.proofs.lemmas.List.Elements.{All-nil, All-cons, All-head, All-tail, All-append}
 use Rattle.proto.specs.declared.logged_clock.ClockStart.{ClockStart}
 use Rattle.proto.specs.declared.terms.Terms.{Terms}
-use Rattle.proto.specs.declared.message.Request.TheVariants.{Get}
+use Rattle.proto.specs.declared.message.Request.TheVariants.{Get, Stats}
 use Rattle.proto.specs.declared.message.Reply.TheVariants.{NoMemory}
 use Rattle.proto.specs.ClockAnswers.{GivenAnswer, IsRead}
 use Rattle.proto.specs.History.{LegalBy, RefusesBy, MomentsFrom, NumbersFrom, answers_by}
 
--- an entry that was refused memory is a `get`
-abbrev pub IsRefusedGet : Answered → Type 0
-IsRefusedGet e = e.reply ≡ NoMemory → (keys : List (List ℕ)) × (with_cas : Bool) × (e.request ≡ Get keys with_cas)
+-- an entry that was refused memory is a `get` or a `stats`
+abbrev pub IsRefusedRead : Answered → Type 0
+IsRefusedRead e =
+    e.reply ≡ NoMemory → ((keys : List (List ℕ)) × (with_cas : Bool) × (e.request ≡ Get keys with_cas)) ⊎ (e.request ≡ Stats)
 
 abbrev any_start : ClockStart
 any_start = record { unix = None; monotonic = None }
 
 -- nothing was refused
 pub refuses_none : (may_refuse : Bool) → RefusesBy may_refuse []
-refuses_none may_refuse _ = All-nil IsRefusedGet
+refuses_none may_refuse _ = All-nil IsRefusedRead
 
 -- one more entry
 pub refuses_more : (may_refuse : Bool) (h : List Answered) (e : Answered) → RefusesBy may_refuse h
-    → (may_refuse ≡ false → IsRefusedGet e) → RefusesBy may_refuse (h ++ e ∷ [])
+    → (may_refuse ≡ false → IsRefusedRead e) → RefusesBy may_refuse (h ++ e ∷ [])
 refuses_more may_refuse h e before one none =
-    All-append IsRefusedGet h (e ∷ []) (before none) (All-cons IsRefusedGet e [] (one none) (All-nil IsRefusedGet))
+    All-append IsRefusedRead h (e ∷ []) (before none) (All-cons IsRefusedRead e [] (one none) (All-nil IsRefusedRead))
 
 pub legal_none : (terms : Terms) → LegalBy terms []
 legal_none terms = record {
-  legal = record { moments = tt; caches = []; chain = tt; numbers = λ w place e at. absurd (some-ne-none e (sym at)) };
+  legal = record { moments = tt; caches = []; chain = tt; counts = tt; numbers = λ w place e at. absurd (some-ne-none e (sym at)) };
   read = λ _. (any_start, All-nil (IsRead any_start));
   refused = refuses_none terms.may_refuse;
 }

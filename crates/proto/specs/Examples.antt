@@ -1,13 +1,13 @@
 -- Worked examples, whose theorems stand in proofs/. Each is the contract of a function of the module
 -- `examples`.
-use Rattle.std.specs.Prelude.{◌≡◌, ℕ, ℤ, pos, negsuc, true, false, List, [], ◌∷◌, ◌++◌, codes, replicate, map, Option, Some, None}
+use Rattle.std.specs.Prelude.{◌≡◌, ℕ, ℤ, pos, negsuc, true, false, List, [], ◌∷◌, ◌++◌, codes, replicate, map, flat_map, Option, Some, None}
 use Rattle.std.specs.List.{AllByRecursion}
 use Rattle.std.specs.FinMap as finite
 use Rattle.proto.specs.declared.dialect.Dialect.TheVariants.{Strict, Lenient}
 use Rattle.proto.specs.declared.message.Put.{Put}
 use Rattle.proto.specs.declared.hits.Hit.{Hit}
 use Rattle.proto.specs.declared.message.Request.{Request}
-use Rattle.proto.specs.declared.message.Request.TheVariants.{Get, Set, Add, Replace, Cas, Append, Prepend, Delete, Incr, Decr, Touch, FlushAll}
+use Rattle.proto.specs.declared.message.Request.TheVariants.{Get, Set, Add, Replace, Cas, Append, Prepend, Delete, Incr, Decr, Touch, FlushAll, Stats}
 use Rattle.proto.specs.declared.message.Reply.{Reply}
 use Rattle.proto.specs.declared.message.Reply.TheVariants as reply
 use Rattle.proto.specs.declared.message.Message.{Message}
@@ -23,6 +23,9 @@ use Rattle.proto.specs.Cache.{Entry, Entries, no_entries, Cache, empty_cache, li
 use Rattle.proto.specs.Commands.{Outcome, act}
 use Rattle.proto.specs.declared.history.Answered.{Answered}
 use Rattle.proto.specs.ClockAnswers.{GivenAnswer}
+use Rattle.proto.specs.declared.counts.Counts.{Counts}
+use Rattle.proto.specs.StatTexts.{number_bytes, count_lines}
+use Rattle.proto.specs.Tallies.{no_counts, counted, CountsFrom}
 use Rattle.proto.specs.History.{Legal, session_share, had, asked}
 use Rattle.proto.specs.Buckets.{bucket_of, width_of, life_width, lower_end, shared_deadline, MayLive}
 use Rattle.proto.specs.Steps.{MayBeDated}
@@ -121,6 +124,9 @@ faults =
     ∷ (codes "version\r\n", Local local.Unknown)
     ∷ (codes "verbosity 1 noreply\r\n", Local local.Unknown)
     ∷ (codes "cache_memlimit 64 noreply\r\n", Local local.Unknown)
+    ∷ (codes "stats\r\n", Local local.Unknown)
+    ∷ (codes "stats reset\r\n", Local local.Unknown)
+    ∷ (codes "lru_crawler metadump all\r\n", Local local.Unknown)
     ∷ (128 ∷ line_break, Local local.Unknown)
     ∷ []
 
@@ -155,7 +161,7 @@ lenient_lines =
     ∷ (codes "set a 00 0 1 \r\n", Fatal fatal.BadLine)
     ∷ []
 
--- `append`, `prepend`, `touch`, `version` and `verbosity` are known, a `delete` may have a zero after its key, and the binary
+-- `append`, `prepend`, `touch`, `stats`, `version` and `verbosity` are known, a `delete` may have a zero after its key, and the binary
 -- protocol is refused by its first byte.
 abbrev pub lenient_commands : List Example
 lenient_commands =
@@ -175,6 +181,15 @@ lenient_commands =
     ∷ (codes "verbosity 1 noreply\r\n", Local local.Silent)
     ∷ (codes "cache_memlimit 64\r\n", Local local.Unknown)
     ∷ (codes "cache_memlimit 64 noreply\r\n", Local local.Silent)
+    ∷ (codes "stats\r\n", Ask Stats false)
+    ∷ (codes "stats \r\n", Ask Stats false)
+    ∷ (codes "stats items\r\n", Local local.End)
+    ∷ (codes "stats noreply\r\n", Local local.End)
+    ∷ (codes "stats reset\r\n", Local local.BadLine)
+    ∷ (codes "stats_items\r\n", Local local.Unknown)
+    ∷ (codes "lru_crawler metadump all\r\n", Local local.End)
+    ∷ (codes "lru_crawler enable\r\n", Local local.Unknown)
+    ∷ (codes "lru_crawler\r\n", Local local.Unknown)
     ∷ (codes "append\r\n", Fatal fatal.BadLine)
     ∷ (codes "append a 0 0\r\n", Fatal fatal.BadLine)
     ∷ (codes "prepend a 0 0 1 1\r\n", Fatal fatal.BadLine)
@@ -249,6 +264,8 @@ AnswersAre =
     × (answer (Local local.Silent) None ≡ [])
     × (answer (Local (local.TooLarge false)) None ≡ codes "SERVER_ERROR object too large for cache\r\n")
     × (answer (Local (local.TooLarge true)) None ≡ [])
+    × (answer (Local local.End) None ≡ codes "END\r\n")
+    × (answer (Ask Stats false) (Some (reply.Stats (codes "STAT uptime 5\r\n"))) ≡ codes "STAT uptime 5\r\nEND\r\n")
     × (answer (Fatal fatal.LongLine) None ≡ codes "CLIENT_ERROR line too long\r\n")
     × (answer Quit None ≡ [])
 
@@ -439,6 +456,56 @@ flush_history =
 
 abbrev pub FlushIs : Type 0
 FlushIs = Legal (sizes_of 65536 64) flush_history
+
+-- ---- counts
+
+abbrev pub count_one : Request → Reply → Counts
+count_one q reply = counted no_counts q reply
+
+-- what single requests count
+abbrev pub CountsDo : Type 0
+CountsDo =
+    (count_one (Get (a ∷ b ∷ a ∷ []) false) (reply.Values (hit_with a 0 [] None ∷ hit_with a 0 [] None ∷ []))
+    ≡ record no_counts { gets = record { hits = 2; misses = 1 } })
+    × (count_one (Get (a ∷ b ∷ []) false) reply.NoMemory ≡ record no_counts { refused = 1 })
+    × (count_one (set_a (pos 0)) reply.Stored ≡ record no_counts { sets = record { hits = 1; misses = 0 } })
+    × (count_one (set_a (pos 0)) reply.NoMemory ≡ record no_counts { refused = 1 })
+    × (count_one (Append (put_with a 0 (pos 0) [])) reply.NotStored
+    ≡ record no_counts { sets = record { hits = 0; misses = 1 } })
+    × (count_one (Cas (put_with a 0 (pos 0) []) 2) reply.Exists
+    ≡ record no_counts { sets = record { hits = 0; misses = 1 }; badvals = 1 })
+    × (count_one (Delete b) reply.NotFound ≡ record no_counts { deletes = record { hits = 0; misses = 1 } })
+    × (count_one (Incr a 1) (reply.Number 8) ≡ record no_counts { incrs = record { hits = 1; misses = 0 } })
+    × (count_one (Decr a 1) reply.NotNumber ≡ no_counts)
+    × (count_one (touch_of a (pos 60)) reply.Touched ≡ record no_counts { touches = record { hits = 1; misses = 0 } })
+    × (counted (record no_counts { flushes = 18446744073709551615 }) (FlushAll 0) reply.Flushed ≡ no_counts)
+    × (count_one Stats (reply.Stats []) ≡ no_counts)
+
+-- the history, and then a `stats` of another worker that is told these lines
+abbrev pub told_counts : List Answered → List ℕ → Type 0
+told_counts history lines = CountsFrom no_counts (history ++ record {
+  worker = 1;
+  session = 1;
+  number = 1;
+  request = Stats;
+  moment = 1000;
+  clock = [];
+  reply = reply.Stats lines;
+} ∷ [])
+
+-- the lines of counts of which some are 0
+abbrev pub some_counts : List ℕ → List ℕ → List ℕ → List ℕ
+some_counts gets hits misses =
+    codes "STAT cmd_get " ++ gets ++ codes "\r\nSTAT cmd_set 1\r\nSTAT cmd_touch 0\r\nSTAT cmd_flush 0\r\nSTAT total_items 1\r\n"
+    ++ codes "STAT cas_badval 0\r\nSTAT out_of_memory 0\r\nSTAT get_hits " ++ hits ++ codes "\r\nSTAT get_misses " ++ misses
+    ++ codes "\r\nSTAT delete_hits 0\r\nSTAT delete_misses 0\r\nSTAT incr_hits 0\r\nSTAT incr_misses 0\r\nSTAT decr_hits 0\r\n"
+    ++ codes "STAT decr_misses 0\r\nSTAT touch_hits 0\r\nSTAT touch_misses 0\r\nSTAT cas_hits 0\r\nSTAT cas_misses 0\r\n"
+
+pub record StatsAre : Type 0 where
+  pub told : told_counts session_history (some_counts (codes "1") (codes "1") (codes "0") ++ codes "STAT uptime 5\r\n")
+  pub text : flat_map number_bytes
+      (count_lines (record no_counts { gets = record { hits = 2; misses = 1 }; sets = record { hits = 1; misses = 0 } }))
+      ≡ some_counts (codes "3") (codes "2") (codes "1")
 
 -- ---- buckets
 

@@ -31,6 +31,8 @@ pub enum OtherWord {
     Version,
     Verbosity,
     CacheMemlimit,
+    Stats,
+    LruCrawler,
 }
 
 /// A command word.
@@ -55,6 +57,8 @@ impl CommandWord {
                             | OtherWord::Version
                             | OtherWord::Verbosity
                             | OtherWord::CacheMemlimit
+                            | OtherWord::Stats
+                            | OtherWord::LruCrawler
                     )
             ),
         }
@@ -82,6 +86,8 @@ fn candidate(size: usize, first: u8) -> Option<(CommandWord, &'static [u8])>
         (6, b'd') => Some((CommandWord::Other(OtherWord::Delete), b"delete")),
         (7, b'r') => Some((CommandWord::Storage(StorageWord::Replace), b"replace")),
         (9, b'f') => Some((CommandWord::Other(OtherWord::FlushAll), b"flush_all")),
+        (5, b's') => Some((CommandWord::Other(OtherWord::Stats), b"stats")),
+        (11, b'l') => Some((CommandWord::Other(OtherWord::LruCrawler), b"lru_crawler")),
         (5, b't') => Some((CommandWord::Other(OtherWord::Touch), b"touch")),
         (7, b'v') => Some((CommandWord::Other(OtherWord::Version), b"version")),
         (9, b'v') => Some((CommandWord::Other(OtherWord::Verbosity), b"verbosity")),

@@ -12,8 +12,8 @@ pub enum Dialect {
     /// All of a line counts, and with its end it has at most 2,048 bytes.
     Strict,
     /// Spaces before a line's end don't count, nor does a zero after the key of a `delete`, and with its end a line has at
-    /// most 32,768 bytes. It has `append`, `prepend`, `touch`, `version` and `verbosity` too, doesn't answer `cache_memlimit` with
-    /// `noreply`, drops a data block that is too large for the cache and goes on behind it, and refuses the binary protocol by its
+    /// most 32,768 bytes. It has `append`, `prepend`, `touch`, `stats`, `version` and `verbosity` too, doesn't answer `cache_memlimit`
+    /// with `noreply`, drops a data block that is too large for the cache and goes on behind it, and refuses the binary protocol by its
     /// first byte.
     Lenient,
 }

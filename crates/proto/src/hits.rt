@@ -55,10 +55,11 @@ impl<'a> HitRef<'a> {
 pub struct Hits {
     pub(crate) text: Vec<u8>,
     shown: Trace<Hit>,
+    count: usize,
 }
 
 impl Model for Hits {
-    ghost use Rattle.std.specs.Prelude.{◌≡◌, List, flat_map};
+    ghost use Rattle.std.specs.Prelude.{◌≡◌, List, flat_map, length};
     ghost use Rattle.proto.specs.declared.hits.Hit.{Hit};
     ghost use Rattle.proto.specs.Hits.{hit_bytes};
 
@@ -66,7 +67,7 @@ impl Model for Hits {
 
     ghost view = { λ a. a.shown.items };
 
-    ghost invariant = { λ a. a.text.items ≡ flat_map hit_bytes a.shown.items };
+    ghost invariant = { λ a. (a.text.items ≡ flat_map hit_bytes a.shown.items) × (a.count ≡ length a.shown.items) };
 }
 
 impl Hits {
@@ -76,7 +77,15 @@ impl Hits {
         Hits {
             text: Vec::new(alloc),
             shown: Trace::new(),
+            count: 0,
         }
+    }
+
+    /// How many hits there are.
+    pub fn len(&self) -> usize
+        ensures { result ≡ length self.now }
+    {
+        self.count
     }
 
     pub fn is_empty(&self) -> bool
@@ -111,6 +120,7 @@ impl Hits {
         self.text.extend_from_slice(b"END\r\n").unwrap();
         mem::swap(&mut self.text, out);
         self.shown = Trace::new();
+        self.count = 0;
         Ok(())
     }
 }
@@ -178,10 +188,11 @@ pub struct HitWriter {
     text: Vec<u8>,
     shown: Trace<Hit>,
     room: usize,
+    count: usize,
 }
 
 impl Model for HitWriter {
-    ghost use Rattle.std.specs.Prelude.{◌≡◌, ◌+◌, ◌≤◌, vec_len, vec_capacity, flat_map};
+    ghost use Rattle.std.specs.Prelude.{◌≡◌, ◌+◌, ◌≤◌, vec_len, vec_capacity, flat_map, length};
     ghost use Rattle.proto.specs.Hits.{Writing, hit_bytes};
 
     ghost Value = { Writing };
@@ -189,7 +200,7 @@ impl Model for HitWriter {
     ghost view = { λ a. record { hits = a.shown.items; room = a.room } };
 
     ghost invariant = { λ a. (a.text.items ≡ flat_map hit_bytes a.shown.items)
-        × (vec_len a.text + a.room ≤ vec_capacity a.text) };
+        × (vec_len a.text + a.room ≤ vec_capacity a.text) × (a.count ≡ length a.shown.items) };
 }
 
 impl HitWriter {
@@ -201,6 +212,7 @@ impl HitWriter {
             text: buffer.bytes,
             shown: Trace::new(),
             room: 0,
+            count: 0,
         }
     }
 
@@ -222,6 +234,7 @@ impl HitWriter {
           room = self.old.room - hit_room (seen_hit hit.entry);
         } }
     {
+        self.count += 1;
         self.text.extend_from_slice(b"VALUE ").unwrap();
         self.text.extend_from_slice(hit.key).unwrap();
         push_number(&mut self.text, u64::from(hit.flags));
@@ -242,6 +255,7 @@ impl HitWriter {
         Hits {
             text: self.text,
             shown: self.shown,
+            count: self.count,
         }
     }
 }

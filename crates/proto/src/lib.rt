@@ -5,6 +5,7 @@
 mod byte_string;
 mod clock;
 mod command_word;
+mod counts;
 mod dialect;
 mod eviction;
 mod examples;
@@ -20,6 +21,7 @@ mod message;
 mod next;
 mod no_memory;
 mod pending_answer;
+mod stats;
 mod storage_line;
 mod system_clock;
 mod terms;
@@ -30,6 +32,7 @@ mod words;
 
 pub use byte_string::ByteString;
 pub use clock::{AskedClock, Clock, ClockAnswers};
+pub use counts::{Counts, Tally};
 pub use dialect::Dialect;
 pub use eviction::Eviction;
 pub use geometry::{
@@ -47,6 +50,7 @@ pub use message::{FatalKind, LocalKind, Message, Next, Put, Reply, Request, Touc
 pub use next::{next_message, next_message_in, to_message};
 pub use no_memory::NoMemory;
 pub use pending_answer::{PendingAnswer, show, show_reply};
+pub use stats::StatsText;
 pub use storage_line::{StorageLineView, StoreMode};
 pub use system_clock::{ClockAnswer, SystemClock};
 pub use terms::Terms;

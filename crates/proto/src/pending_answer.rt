@@ -1,7 +1,7 @@
 //! The bytes that answer a message, whether its reply is there already or is still to come. The room of a whole answer is
 //! reserved before its first byte is written.
 
-ghost use Rattle.std.specs.Prelude.{◌≡◌, ◌+◌, ◌≤◌, ◌++◌, length, is_some, option_copied, None, IsOk, IsTrue, OnOk, OnErr};
+ghost use Rattle.std.specs.Prelude.{◌≡◌, ◌+◌, ◌≤◌, ◌++◌, length, codes, is_some, option_copied, None, IsOk, IsTrue, OnOk, OnErr};
 ghost use Rattle.std.specs.Option.{option_copied_mut};
 ghost use Rattle.proto.specs.Answers.{answer, is_ask, is_silent, reply_bytes};
 ghost use Rattle.proto.specs.Lines.{line_end};
@@ -37,6 +37,17 @@ fn show_parts(out: &mut Vec<u8>, front: &[u8], behind: &[u8]) -> Result<(), NoMe
     Ok(())
 }
 
+/// Appends lines and the line that ends them, or changes nothing.
+fn show_lines(out: &mut Vec<u8>, lines: &[u8]) -> Result<(), NoMemory>
+    ensures ok { OnOk result (out.new.items ≡ out.old.items ++ lines.now ++ codes "END\r\n") }
+    ensures err { OnErr result (out.new.items ≡ out.old.items) }
+{
+    out.reserve(lines.len() + 5)?;
+    out.extend_from_slice(lines).unwrap();
+    out.extend_from_slice(b"END\r\n").unwrap();
+    Ok(())
+}
+
 /// Appends the answer that shows a reply, or changes nothing.
 fn show_copied(out: &mut Vec<u8>, reply: &Reply) -> Result<(), NoMemory>
     ensures ok { OnOk result (out.new.items ≡ out.old.items ++ reply_bytes reply.now) }
@@ -64,6 +75,7 @@ fn show_copied(out: &mut Vec<u8>, reply: &Reply) -> Result<(), NoMemory>
             )
         }
         Reply::NoCas => show_line(out, b"SERVER_ERROR out of cas numbers"),
+        Reply::Stats(lines) => show_lines(out, lines.as_slice()),
     }
 }
 
@@ -161,6 +173,7 @@ impl PendingAnswer {
                 show_parts(out, b"VERSION 1.6.0-segcached-", VERSION.as_bytes())
             }
             AnswerKind::Local(LocalKind::Verbosity) => show_line(out, b"OK"),
+            AnswerKind::Local(LocalKind::End) => show_line(out, b"END"),
             AnswerKind::Local(LocalKind::BadLine) | AnswerKind::Fatal(FatalKind::BadLine) => {
                 show_line(out, b"CLIENT_ERROR bad command line format")
             }

@@ -87,7 +87,7 @@ fn push_hex(alloc: Global, line: &mut String, bytes: &[u8]) -> Result<(), AllocE
 }
 
 /// The script of one session that sends these bytes.
-fn script_of(alloc: Global, input: &[u8]) -> Result<String, AllocError> {
+pub fn script_of(alloc: Global, input: &[u8]) -> Result<String, AllocError> {
     let mut script = String::from_str(alloc, "open 0 1\nsend 0 1 ")?;
     push_hex(alloc, &mut script, input)?;
     Ok(script)

@@ -1,6 +1,6 @@
 //! The lenient dialect, through the public calls, beside what the strict one makes of the same bytes.
 
-use crate::common::check_session;
+use crate::common::{check_session, lines, script_of};
 use std::alloc::{AllocError, Global};
 use std::process::Abort;
 use std::sync::Wait;
@@ -60,7 +60,7 @@ fn behind_set(alloc: Global, first: &str, text: &str) -> Result<String, AllocErr
 }
 
 /// The same of the commands that the strict dialect hasn't.
-const COMMANDS: [(&str, &str, &str); 12] = [
+const COMMANDS: [(&str, &str, &str); 15] = [
     (
         "touch a 60\r\nget a\r\n",
         "TOUCHED\r\nVALUE a 0 1\r\nx\r\nEND\r\n",
@@ -113,6 +113,9 @@ const COMMANDS: [(&str, &str, &str); 12] = [
         "ERROR\r\nVALUE a 0 1\r\nx\r\nEND\r\n",
     ),
     ("cache_memlimit 64\r\n", "ERROR\r\n", "ERROR\r\n"),
+    ("stats items\r\n", "END\r\n", "ERROR\r\n"),
+    ("stats reset\r\n", BAD_LINE, "ERROR\r\n"),
+    ("lru_crawler metadump all\r\n", "END\r\n", "ERROR\r\n"),
 ];
 
 fn check_line<H: Abort + Threads + Wait + time::Clock + Sync>(
@@ -142,6 +145,30 @@ fn check_lines<H: Abort + Threads + Wait + time::Clock + Sync>(
 #[test]
 fn commands_of_the_lenient_dialect(rt: HostRuntime) -> Result<(), Fail> {
     check_lines(&rt, rt.alloc(), &COMMANDS)
+}
+
+/// What a session asks before its `stats`.
+const COUNTED: &str = "set a 0 0 1\r\nx\r\nset a 0 0 1 noreply\r\ny\r\nadd a 0 0 1 noreply\r\nz\r\n\
+    cas a 0 0 1 1 noreply\r\nz\r\ncas b 0 0 1 1 noreply\r\nz\r\ncas a 0 0 1 2 noreply\r\n5\r\nget a b a\r\n\
+    incr a 1 noreply\r\nincr b 1 noreply\r\ndecr a 1 noreply\r\ndecr b 1 noreply\r\ntouch a 60 noreply\r\n\
+    touch b 60 noreply\r\ndelete a noreply\r\ndelete a noreply\r\nflush_all noreply\r\nstats\r\n";
+
+/// What it is given up to the first gauge, counted by hand.
+const COUNTS: &str = "STORED\r\nVALUE a 0 1\r\n5\r\nVALUE a 0 1\r\n5\r\nEND\r\n\
+    STAT cmd_get 3\r\nSTAT cmd_set 6\r\nSTAT cmd_touch 2\r\nSTAT cmd_flush 1\r\nSTAT total_items 3\r\n\
+    STAT cas_badval 1\r\nSTAT out_of_memory 0\r\nSTAT get_hits 2\r\nSTAT get_misses 1\r\nSTAT delete_hits 1\r\n\
+    STAT delete_misses 1\r\nSTAT incr_hits 1\r\nSTAT incr_misses 1\r\nSTAT decr_hits 1\r\nSTAT decr_misses 1\r\n\
+    STAT touch_hits 1\r\nSTAT touch_misses 1\r\nSTAT cas_hits 1\r\nSTAT cas_misses 1\r\nSTAT uptime ";
+
+#[test]
+fn counts_of_a_stats(rt: HostRuntime) -> Result<(), Fail> {
+    let alloc = rt.alloc();
+    let script = script_of(alloc, COUNTED.as_bytes())?;
+    let mut wanted = String::from_str(alloc, "0 1 ")?;
+    wanted.push_str(hex::encode(alloc, COUNTS.as_bytes())?.as_str())?;
+    let given = lines(&rt, alloc, "--lenient", script.as_bytes())?;
+    assert!(rt; given.as_str().starts_with(wanted.as_str()), "{given}");
+    Ok(())
 }
 
 #[test]

@@ -1,6 +1,6 @@
 -- One more entry of a history.
 use Rattle.std.proofs.Common.{◌≡◌, ℕ, suc, ◌+◌, ◌≤◌, min, max, Bool, true, false, cond, eqb, ◌&&◌, List, [], ◌∷◌, ◌++◌, length, refl, sym, ap, subst, ◌∙◌}
-use Rattle.std.proofs.Common.{arith, map, append_assoc, length-append}
+use Rattle.std.proofs.Common.{inl, arith, map, append_assoc, length-append}
 use Rattle.std.specs.List.{AllByRecursion}
 use Rattle.std.proofs.lemmas.Bool.{eq-eqb, ne_eqb}
 use Rattle.std.proofs.lemmas.List.{append-nil, map-append}
@@ -68,14 +68,14 @@ led_more setup h session old new t q reply led x =
     x.moment_is
     ∙ ap (λ (m : ℕ). moment_after m (answer_of old.clock 0)) (sym led.reaches.moment_is)
     ∙ ap (moment_after (last_or 0 (moments h))) next in
-    let step : Step setup.sizes old.cache t q reply new.cache =
-    subst (λ (s : Sizes). Step s old.cache t q reply new.cache) led.sizes_are x.step in
+    let step : Step setup.sizes old.cache t q x.first new.cache =
+    subst (λ (s : Sizes). Step s old.cache t q x.first new.cache) led.sizes_are x.step in
     let small : old.moment ≤ max_moment = led.reaches.small in
     let at : t ≡ max old.moment (min (answer_of old.clock 0) max_moment) = x.moment_is in
     record {
       sizes_are = x.sizes_stay ∙ led.sizes_are;
       reaches = subst (Reaches setup.sizes (h ++ e ∷ []) new.cache) (sym x.last)
-          (reaches_more setup.sizes h old.cache new.cache old.moment e led.reaches step (omega arith)
+          (reaches_more setup.sizes h old.cache new.cache old.moment e led.reaches (x.first, x.same, step) (λ is. inl (x.uncounted is)) (omega arith)
           (given (answer_of old.clock 0)) refl x.moment_is refl);
       timed = timed_more setup.clock h e led.timed
           (ap (λ (seconds : ℕ). answers_by [] h ++ given seconds ∷ []) next) moment_is;

@@ -367,6 +367,7 @@ run_none setup now sizes cache moment clock = record {
       moments_are = tt;
       moment_is = sym moment;
       small = rw moment (omega arith);
+      counts = tt;
       numbers = λ worker. tt;
     };
     timed = record { answers = refl; moments = refl };

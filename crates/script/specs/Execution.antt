@@ -1,7 +1,9 @@
 -- Requests that are executed one after the other, at the moments of a clock.
-use Rattle.std.specs.Prelude.{◌≡◌, ℕ, ◌+◌, max, min, List, ◌++◌, Some, None, refl}
+use Rattle.std.specs.Prelude.{◌⊎◌, ◌≡◌, ℕ, ◌+◌, max, min, List, ◌++◌, Some, None, refl}
 use Rattle.std.specs.Coded.{Coded, code_by, coded×, coded_ℕ}
 use Rattle.proto.specs.declared.message.Request.{Request}
+use Rattle.proto.specs.declared.message.Request.TheVariants.{Stats}
+use Rattle.proto.specs.declared.message.Reply.TheVariants.{NoMemory}
 use Rattle.proto.specs.declared.message.Reply.{Reply}
 use Rattle.proto.specs.declared.message.Message.{Message}
 use Rattle.proto.specs.declared.message.Message.TheVariants.{Ask, Local, Quit, Fatal}
@@ -32,10 +34,14 @@ execution_code =
       clock = record { next = p.1.1.1.0; tick = p.1.1.1.1 };
     }) (λ _. refl)
 
--- the request is executed at the clock's next moment, and has this reply
+-- The request is executed at the clock's next moment, and has this reply. Nothing is counted, so a `stats` is refused: the
+-- strict dialect has none.
 pub record Executes (old : Execution) (t : ℕ) (q : Request) (reply : Reply) (new : Execution) : Type 0 where
   pub moment_is : t ≡ max old.moment (min (answer_of old.clock 0) max_moment)
-  pub step : Step old.sizes old.cache t q reply new.cache
+  pub first : Reply
+  pub same : (first ≡ reply) ⊎ (q ≡ Stats)
+  pub uncounted : q ≡ Stats → reply ≡ NoMemory
+  pub step : Step old.sizes old.cache t q first new.cache
   pub sizes_stay : new.sizes ≡ old.sizes
   pub last : new.moment ≡ t
   pub later : (n : ℕ) → answer_of new.clock n ≡ answer_of old.clock (n + 1)

@@ -1,6 +1,6 @@
 //! One session of a run, and what executes its requests.
 
-ghost use Rattle.std.specs.Prelude.{◌≡◌, ℕ, ◌≤◌, ◌++◌, [], false, length, take, drop, IfOk, OnOk};
+ghost use Rattle.std.specs.Prelude.{◌⊎◌, ◌≡◌, ℕ, ◌≤◌, ◌++◌, [], false, length, take, drop, IfOk, OnOk};
 ghost use Rattle.proto.specs.declared.dialect.Dialect.TheVariants.{Strict};
 ghost use Rattle.proto.specs.Grammar.{SpellsNone};
 ghost use Rattle.proto.specs.History.{max_moment};
@@ -9,7 +9,7 @@ ghost use Rattle.script.specs.SequentialSessions.{AnswersNext, AnswersAll, IsNew
 
 use crate::ScriptClock;
 use engine::{MAX_MOMENT, StorageEngine};
-use proto::{Message, Next, NoMemory, next_message, show};
+use proto::{Message, Next, NoMemory, Reply, Request, next_message, show};
 use std::alloc::Global;
 use std::marker::Model;
 
@@ -39,6 +39,17 @@ impl<E: StorageEngine + Drop> Model for Executor<E> {
     ghost invariant = { λ x. E.moment x.engine ≤ max_moment };
 }
 
+/// The reply to a request, to which the store replied so. Nothing is counted here.
+fn uncounted(request: &Request, reply: Reply) -> Reply
+    ensures same { (reply ≡ result) ⊎ (request.now ≡ Request.Stats) }
+    ensures refused { request.now ≡ Request.Stats → result ≡ Reply.NoMemory }
+{
+    match request {
+        Request::Stats => Reply::NoMemory,
+        _ => reply,
+    }
+}
+
 impl<E: StorageEngine + Drop> Executor<E> {
     pub fn new(engine: E, clock: ScriptClock) -> Self
         requires { E.moment engine ≤ max_moment }
@@ -61,7 +72,8 @@ impl<E: StorageEngine + Drop> Executor<E> {
             Message::Ask(request, _) => {
                 let told = self.clock.now().min(MAX_MOMENT);
                 let moment = self.engine.last_moment().max(told);
-                let reply = self.engine.handle(moment, request);
+                let stored = self.engine.handle(moment, request);
+                let reply = uncounted(request, stored);
                 show(message, Some(&reply), output)
             }
             _ => show(message, None, output),

@@ -1,6 +1,6 @@
 //! The map of live entries that stand in segments.
 
-ghost use Rattle.std.specs.Prelude.{◌≡◌, false, IsSome};
+ghost use Rattle.std.specs.Prelude.{◌≡◌, false, IfOk, IsSome};
 ghost use Rattle.std.specs.FinMap as map;
 ghost use Rattle.proto.specs.Buckets.{time_to_live, life_width};
 ghost use Rattle.segments.specs.Pools.{item_in, place_deadline};
@@ -10,7 +10,7 @@ ghost use Rattle.segcache.specs.Writes.{stays_as};
 
 use engine::{EntryRef, LiveMap, StoreMap, has_arrived};
 use index::{Index, layout_for, slots_for};
-use proto::{Eviction, Geometry, NoMemory};
+use proto::{Eviction, Geometry, NoMemory, StatsText};
 use segments::{ItemRef, LiveMarks, Place, Pool, bucket_of};
 use std::alloc::Global;
 use std::hash::FoldHasher;
@@ -27,6 +27,8 @@ pub struct SegmentMap {
     pub(crate) moment: u64,
     /// Some of what was read ahead last, so that a compiler doesn't leave the reads out.
     read_ahead: AtomicU64,
+    /// What was forgotten to make room.
+    pub(crate) forgotten: Forgotten,
 }
 
 impl Model for SegmentMap {
@@ -38,6 +40,34 @@ impl Model for SegmentMap {
 
     ghost invariant = { λ a. IsSegmentedMap
         (record { pool = a.pool; index = a.index; marks = a.marks; moment = a.moment }) };
+}
+
+/// How often something was forgotten to make room, and how many keys.
+#[derive(Clone, Copy)]
+pub(crate) struct Forgotten {
+    merges: u64,
+    cleared: u64,
+    keys: u64,
+}
+
+impl Forgotten {
+    const fn new() -> Forgotten {
+        Forgotten {
+            merges: 0,
+            cleared: 0,
+            keys: 0,
+        }
+    }
+
+    /// Counts a merge, or a segment that was cleared, which forgot so many keys.
+    pub(crate) fn count(&mut self, merged: bool, keys: usize) {
+        if merged {
+            self.merges = self.merges.wrapping_add(1);
+        } else {
+            self.cleared = self.cleared.wrapping_add(1);
+        }
+        self.keys = self.keys.wrapping_add(keys as u64);
+    }
 }
 
 /// The time to live in seconds of an entry that is written at the moment.
@@ -98,6 +128,28 @@ fn entry_at<'a>(pool: &'a Pool, place: Place) -> EntryRef<'a>
     }
 }
 
+impl SegmentMap {
+    /// The lines with those of the map's gauges.
+    #[tactic(auto, unfolding(proto::specs::StatTexts::names_gauge, proto::specs::StatTexts::count_lines, proto::specs::StatTexts::total_lines, proto::specs::StatTexts::tally_lines))]
+    fn with_gauges(&self, text: StatsText) -> Result<StatsText, NoMemory>
+        ensures { IfOk result (λ told. told ≡ text) }
+    {
+        let geometry = self.pool.geometry();
+        let (size, segments) = (
+            u64::from(geometry.segment_size()),
+            u64::from(geometry.segments()),
+        );
+        text.with(b"limit_maxbytes", size.wrapping_mul(segments))?
+            .with(b"curr_items", self.index.len() as u64)?
+            .with(b"evictions", self.forgotten.keys)?
+            .with(b"segment_size", size)?
+            .with(b"segments", segments)?
+            .with(b"segments_free", self.pool.free_count() as u64)?
+            .with(b"merges", self.forgotten.merges)?
+            .with(b"segments_cleared", self.forgotten.cleared)
+    }
+}
+
 impl LiveMap for SegmentMap {
     ghost use Rattle.std.specs.Prelude.{false};
     ghost use Rattle.segcache.specs.Shown.{shown_entries};
@@ -146,6 +198,10 @@ impl LiveMap for SegmentMap {
     fn prefetch(&self, hash: u64) {
         let read = self.index.prefetch(&self.pool, hash);
         self.read_ahead.store(read, Ordering::Relaxed);
+    }
+
+    fn tell(&self, text: StatsText) -> Result<StatsText, NoMemory> {
+        self.with_gauges(text)
     }
 
     fn advance(&mut self, now: u64) {
@@ -237,6 +293,7 @@ impl StoreMap for SegmentMap {
             marks: LiveMarks::new(alloc, geometry)?,
             moment: 0,
             read_ahead: AtomicU64::new(0),
+            forgotten: Forgotten::new(),
         })
     }
 

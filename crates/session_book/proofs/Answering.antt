@@ -147,6 +147,7 @@ shown replies.TooLarge = omega arith
 shown replies.NoMemory = omega arith
 shown replies.NotNumber = omega arith
 shown replies.NoCas = omega arith
+shown (replies.Stats lines) = some lines (codes "END\r\n") (omega arith)
 
 -- of two lists that are nothing together the first is nothing
 none_front : (xs ys : List ℕ) → xs ++ ys ≡ [] → length xs ≡ 0
@@ -170,6 +171,7 @@ silent_local (Local local.Unknown) ms e none = absurd (let l = ap length none in
 silent_local (Local local.BadLine) ms e none = absurd (let l = ap length none in omega (arith, l))
 silent_local (Local local.Version) ms e none = absurd (let l = ap length none in omega (arith, l))
 silent_local (Local local.Verbosity) ms e none = absurd (let l = ap length none in omega (arith, l))
+silent_local (Local local.End) ms e none = absurd (let l = ap length none in omega (arith, l))
 silent_local (Local local.Silent) ms e none = refl
 silent_local (Local (local.TooLarge false)) ms e none = absurd (let l = ap length none in omega (arith, l))
 silent_local (Local (local.TooLarge true)) ms e none = refl

@@ -9,15 +9,20 @@ use Rattle.proto.specs.declared.message.Reply.TheVariants.{NoMemory}
 use Rattle.proto.specs.Sizes.{Sizes}
 use Rattle.proto.specs.Cache.{Cache, empty_cache}
 use Rattle.proto.specs.History.{Chain}
-use Rattle.proto.specs.Stored.{StoredItem, written, SetsNoDeadline}
-use Rattle.proto.specs.Steps.{Step}
-use Rattle.engine.specs.Outcomes.{outcome_at}
+use Rattle.proto.specs.Stored.{StoredItem, is_no_memory, written, SetsNoDeadline}
+use Rattle.std.proofs.Common.{◌∙◌, ℕ, ◌≢◌, Bool, true, false, Some, None, inl, inr}
+use Rattle.std.specs.Prelude.{if◌then◌else◌}
+use Rattle.proto.specs.declared.message.Request.{Request}
+use Rattle.proto.specs.declared.message.Request.TheVariants.{Get, Stats}
+use Rattle.proto.specs.declared.message.Reply.{Reply}
+use Rattle.proto.proofs.HistoryLemmas.{IsRefusedRead}
+use Rattle.engine.specs.Outcomes.{outcome_at, needs_memory}
 use Rattle.engine.specs.Keeping.{IsWithinBound, stored_in, ForgetsNone}
 use Rattle.engine.specs.Reaching.{last_cache}
 use Rattle.storage_thread.specs.Keeping.{stored_size, stored_bytes, ForgetsNothing, MayForgetNothing, KeepsSoFar, LeadsKeeping}
 use Rattle.storage_thread.specs.Keeping.{MayAlwaysForgetNothing}
 use Rattle.exchange.specs.Beginnings.{StartsWith}
-use Rattle.engine.proofs.ReachingLemmas.{chain_more, last_more}
+use Rattle.engine.proofs.ReachingLemmas.{IsStepOf, chain_more, last_more}
 use Rattle.storage_thread.proofs.Undated.{NoneDated, undated_empty, undated_outcome, undated_chain, all_left}
 use Rattle.storage_thread.proofs.Undated.{undated_append, undated_in, written_in, within_bound}
 
@@ -33,7 +38,7 @@ bytes_more sizes before [] [] e after c = omega arith
 bytes_more sizes before [] (x ∷ caches) e after c = absurd c
 bytes_more sizes before (b ∷ h) [] e after c = absurd c
 bytes_more sizes before (b ∷ h) (x ∷ caches) e after c =
-    let more = bytes_more sizes x h caches e after c.1 in
+    let more = bytes_more sizes x h caches e after c.3 in
     omega (arith, more)
 
 -- it forgets nothing
@@ -47,7 +52,7 @@ forgets_more sizes before [] [] e after c none one = (one, tt)
 forgets_more sizes before [] (x ∷ caches) e after c none one = absurd c
 forgets_more sizes before (b ∷ h) [] e after c none one = absurd c
 forgets_more sizes before (b ∷ h) (x ∷ caches) e after c none one =
-    (none.0, forgets_more sizes x h caches e after c.1 none.1 one)
+    (none.0, forgets_more sizes x h caches e after c.3 none.1 one)
 
 -- no request sets a deadline
 abbrev SetNone : List Answered → Type 0
@@ -73,6 +78,55 @@ KeepsStep sizes before e after old new =
     → IsWithinBound sizes (items ++ stored_in sizes before e.moment e.request e.reply)
     → ForgetsNone sizes before e.moment e.request e.reply after
     × new (items ++ stored_in sizes before e.moment e.request e.reply)
+
+-- a `stats` stores nothing, whatever it is answered
+none_stored : (sizes : Sizes) (before : Cache) (t : ℕ) (reply : Reply) → stored_in sizes before t Stats reply ≡ []
+none_stored sizes before t reply = either (is_no_memory reply)
+  where
+    either : (b : Bool) → ◌≡◌ {A = List StoredItem} (if b then [] else []) []
+    either true = refl
+    either false = refl
+
+-- and keeps what it keeps whatever it is answered, if it wasn't refused first
+keeps_stats : (sizes : Sizes) (before : Cache) (t : ℕ) (first reply : Reply) (after : Cache) → first ≢ NoMemory
+    → ForgetsNone sizes before t Stats first after → ForgetsNone sizes before t Stats reply after
+keeps_stats sizes before t first reply after other none =
+    elim none [ inl refused ↦ absurd (other refused) | inr is ↦ inr is ]
+
+-- a `stats` needs no memory of its store
+pub needs_none : (may_refuse : Bool) (sizes : Sizes) (before : Cache) (t : ℕ) (q : Request) → q ≡ Stats
+    → needs_memory may_refuse (outcome_at sizes before t q) ≡ false
+needs_none true sizes before t q is = rw is refl
+needs_none false sizes before t q is = rw is refl
+
+-- an entry that is refused memory, by the reply of its store, is a `get` or a `stats`
+pub refused_told : (e : Answered) (first : Reply) → (first ≡ e.reply) ⊎ (e.request ≡ Stats)
+    → (first ≡ NoMemory → (keys : List (List ℕ)) × (with_cas : Bool) × (e.request ≡ Get keys with_cas)) → IsRefusedRead e
+refused_told e first told read none = elim told [ inl same ↦ inl (read (same ∙ none)) | inr is ↦ inr is ]
+
+-- what an entry keeps, by the reply of its store
+pub keeps_told : (sizes : Sizes) (before : Cache) (e : Answered) (first : Reply) (after : Cache)
+    (old new : List StoredItem → Type 0)
+    → (first ≡ e.reply) ⊎ (e.request ≡ Stats) → (e.request ≡ Stats → first ≢ NoMemory)
+    → KeepsStep sizes before (record e { reply = first }) after old new → KeepsStep sizes before e after old new
+keeps_told sizes before e first after old new (inl same) other keeps items kept sets within =
+    let now : KeepsStep sizes before e after old new =
+    subst (λ (r : Reply). KeepsStep sizes before (record e { reply = r }) after old new) same keeps in
+    now items kept sets within
+keeps_told sizes before e first after old new (inr stats) other keeps items kept sets within =
+    let none : stored_in sizes before e.moment e.request e.reply ≡ [] =
+    rw stats (none_stored sizes before e.moment e.reply) in
+    let none_first : stored_in sizes before e.moment e.request first ≡ [] =
+    rw stats (none_stored sizes before e.moment first) in
+    let same : stored_in sizes before e.moment e.request e.reply ≡ stored_in sizes before e.moment e.request first =
+    none ∙ sym none_first in
+    let now = keeps items kept sets
+    (subst (λ (l : List StoredItem). IsWithinBound sizes (items ++ l)) same within) in (
+      subst (λ (q : Request). ForgetsNone sizes before e.moment q e.reply after) (sym stats)
+          (keeps_stats sizes before e.moment first e.reply after (other stats)
+          (subst (λ (q : Request). ForgetsNone sizes before e.moment q first after) stats now.0)),
+      subst (λ (l : List StoredItem). new (items ++ l)) (sym same) now.1,
+    )
 
 -- one more step
 keeps_more : (sizes : Sizes) (h : List Answered) (caches : List Cache) (e : Answered) (after : Cache)
@@ -160,12 +214,12 @@ leads_first sizes h cache keeps none is start =
 -- one more request
 pub leads_more : (sizes : Sizes) (h : List Answered) (c after : Cache) (e : Answered)
     (old new : List StoredItem → Type 0)
-    → LeadsKeeping sizes h c old → Step sizes c e.moment e.request e.reply after → KeepsStep sizes c e after old new
+    → LeadsKeeping sizes h c old → IsStepOf sizes c e after → KeepsStep sizes c e after old new
     → LeadsKeeping sizes (h ++ e ∷ []) after new
 leads_more sizes h c after e old new l s step =
     let caches = l.caches ++ after ∷ [] in
     let chain = chain_more sizes (empty_cache 0) h l.caches e after l.chain
-    (subst (λ (z : Cache). Step sizes z e.moment e.request e.reply after) (sym l.cache_is) s) in
+    (subst (λ (z : Cache). IsStepOf sizes z e after) (sym l.cache_is) s) in
     let kept = keeps_more sizes h l.caches e after old new l.chain l.kept
     (subst (λ (z : Cache). KeepsStep sizes z e after old new) (sym l.cache_is) step) in record {
       caches = caches;

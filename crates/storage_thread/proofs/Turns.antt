@@ -41,6 +41,7 @@ serving_first v c m u c_is m_is = record {
         moment_is = refl;
         small = omega arith;
         numbers = λ w. tt;
+        counts = tt;
       };
   known = subst (All (λ (e : Answered). e.worker < v.workers)) (sym u.2)
       (All-nil (λ (e : Answered). e.worker < v.workers));

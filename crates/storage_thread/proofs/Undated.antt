@@ -11,6 +11,7 @@ use Rattle.proto.specs.declared.message.Request.{Request}
 use Rattle.proto.specs.declared.message.Reply.{Reply}
 use Rattle.proto.specs.declared.message.Reply.TheVariants.{Stored, NotStored, Exists, NotFound, Values, Deleted, Number, Touched, Flushed, TooLarge, NoMemory}
 use Rattle.proto.specs.declared.message.Reply.TheVariants.{NotNumber, NoCas}
+use Rattle.proto.specs.declared.message.Reply.TheVariants as replies
 use Rattle.proto.specs.Sizes.{Sizes, item_limit, item_size}
 use Rattle.proto.specs.Cache.{Entry, Entries, no_entries, Cache, empty_cache, has_arrived, live, found_at}
 use Rattle.proto.specs.Commands.{Outcome}
@@ -109,8 +110,8 @@ undated_chain sizes before [] [] chain sets none = none
 undated_chain sizes before [] (x ∷ caches) chain sets none = absurd chain
 undated_chain sizes before (e ∷ h) [] chain sets none = absurd chain
 undated_chain sizes before (e ∷ h) (x ∷ caches) chain sets none =
-    undated_chain sizes x h caches chain.1 sets.1
-    (undated_step sizes before e.moment e.request e.reply x chain.0 sets.0 none)
+    undated_chain sizes x h caches chain.3 sets.1
+    (undated_step sizes before e.moment e.request chain.0 x chain.2 sets.0 none)
 
 -- what is left is all that was asked for
 pub all_left : (sizes : Sizes) (before : Cache) (t : ℕ) (q : Request) (reply : Reply) (after : Cache)
@@ -185,6 +186,7 @@ by_reply t done TooLarge = stored_at t done done.stored
 by_reply t done NoMemory = refl
 by_reply t done NotNumber = stored_at t done done.stored
 by_reply t done NoCas = stored_at t done done.stored
+by_reply t done (replies.Stats stats) = stored_at t done done.stored
 
 -- the size of the item that a request stores
 pub written_in : (sizes : Sizes) (before : Cache) (t : ℕ) (q : Request) (reply : Reply)

@@ -3,6 +3,7 @@
 #![tactic(auto)]
 
 mod serving;
+mod telling;
 mod unix_clock;
 
 pub use serving::{StorageReport, next_moment, run_storage};

@@ -4,14 +4,16 @@ ghost use Rattle.std.specs.Prelude.{◌≡◌, ℕ, ◌+◌, ◌-◌, ◌^◌, �
 ghost use Rattle.std.specs.Option.{IfNone};
 ghost use Rattle.proto.specs.Cache.{empty_cache};
 ghost use Rattle.proto.specs.History.{max_moment, answers_by, worker_share, Legal, RefusesBy};
+ghost use Rattle.proto.specs.Tallies.{no_counts, counts_after};
 ghost use Rattle.engine.specs.Reaching.{Reaches};
 ghost use Rattle.storage_thread.specs.Serving.{AsksClock, IsReadSince, IsTimed, taken_as, SaidBye, IsUnused, IsSameExchange};
 ghost use Rattle.storage_thread.specs.Serving.{GetsNone, GetsMessage, AnswersOpenRequest};
 ghost use Rattle.storage_thread.specs.Keeping.{LeadsKeeping, MayAlwaysForgetNothing};
 
+use crate::telling::Telling;
 use engine::{Clock, MAX_MOMENT, StorageEngine};
 use exchange::{Answered, IdleTurns, Posted, StorageBatch, StorageEnd, StorageSignals, Taken};
-use proto::AskedClock;
+use proto::{AskedClock, Counts};
 use std::sync::Wait;
 use std::time;
 
@@ -66,15 +68,18 @@ pub fn next_moment<C: Clock>(clock: &mut AskedClock<C>, last: u64) -> u64
     now.max(last)
 }
 
-// Executes the open request, and answers it. Its worker is told at the next flush, or before. It gives the worker that was told
-// of its answers now, if one was.
-fn execute<S: StorageEngine, C: Clock>(
+// Executes the open request, counts it, and answers it. Its worker is told at the next flush, or before. It gives the worker
+// that was told of its answers now, if one was.
+fn execute<S: StorageEngine, C: Clock, R: time::Clock>(
     store: &mut S,
     clock: &mut AskedClock<C>,
+    counts: &mut Counts,
+    telling: &Telling<R>,
     end: &mut StorageBatch,
     worker: usize,
     posted: Posted,
 ) -> Option<usize>
+    requires counts { counts.old ≡ counts_after no_counts end.old.end.history }
     requires answers { clock.old.answers ≡ answers_by [] end.old.end.history }
     requires read { IsReadSince end.old.end.terms.system_clock (C.start clock.old.clock) end.old.end.history }
     requires reaches { Reaches end.old.end.terms.geometry end.old.end.history (S.cache store.old) (S.moment store.old) }
@@ -88,6 +93,7 @@ fn execute<S: StorageEngine, C: Clock>(
         → LeadsKeeping end.new.end.terms.geometry end.new.end.history (S.cache store.new) (S.keeps store.new) }
     ensures sizes { S.sizes store.new ≡ S.sizes store.old }
     ensures refused { RefusesBy S.may_refuse end.new.end.history }
+    ensures counts { counts.new ≡ counts_after no_counts end.new.end.history }
     ensures answered { AnswersOpenRequest end.old.end end.new.end worker posted (S.moment store.new) clock.new.answers }
     ensures read { IsReadSince end.new.end.terms.system_clock (C.start clock.new.clock) end.new.end.history }
     ensures leads { C.leads_to clock.old.clock clock.new.clock }
@@ -100,7 +106,9 @@ fn execute<S: StorageEngine, C: Clock>(
         number,
         mut request,
     } = posted;
-    let reply = store.handle(moment, &mut request);
+    let stored = store.handle(moment, &mut request);
+    let reply = telling.reply(counts, store, &request, stored);
+    counts.count(&request, &reply);
     let answered = Answered {
         worker,
         session,
@@ -194,6 +202,8 @@ pub fn run_storage<R: Wait + time::Clock, S: StorageEngine + Drop, C: Clock>(
     let mut clock = AskedClock::new(clock);
     let mut end = storage_end.batched();
     let mut executed = 0u64;
+    let mut counts = Counts::new();
+    let telling = Telling::new(rt, signals);
     let mut left = end.workers();
     let mut idle = IdleTurns::new(IDLE_TURNS, signals.spin());
     let mut ahead = 0;
@@ -209,7 +219,15 @@ pub fn run_storage<R: Wait + time::Clock, S: StorageEngine + Drop, C: Clock>(
         match take_next(&mut end, &clock, executed, signals) {
             Some(Taken::Asked { worker, posted }) => {
                 ahead = read_ahead(ahead, &store, &end, signals);
-                let told = execute(&mut store, &mut clock, &mut end, worker, posted);
+                let told = execute(
+                    &mut store,
+                    &mut clock,
+                    &mut counts,
+                    &telling,
+                    &mut end,
+                    worker,
+                    posted,
+                );
                 if let Some(told) = told {
                     signals.unpark(told);
                 }

@@ -92,6 +92,7 @@ impl ListCache {
             Request::Incr { key, amount } => self.count(alloc, key, *amount, true),
             Request::Decr { key, amount } => self.count(alloc, key, *amount, false),
             Request::FlushAll { delay } => text_line(alloc, self.flush(now, *delay)),
+            Request::Stats => text_line(alloc, "NOT_FOUND"),
         }
     }
 

@@ -62,7 +62,7 @@ const REQUESTS: [(&[u8], Given, &[u8]); 16] = [
 ];
 
 /// Lines that are answered without the cache.
-const FAULTS: [(&[u8], &[u8]); 30] = [
+const FAULTS: [(&[u8], &[u8]); 34] = [
     (b"foo\r\n", b"ERROR\r\n"),
     (b"\r\n", b"ERROR\r\n"),
     (b" get a\r\n", b"ERROR\r\n"),
@@ -120,6 +120,10 @@ const FAULTS: [(&[u8], &[u8]); 30] = [
     (b"version\r\n", b"ERROR\r\n"),
     (b"verbosity 1 noreply\r\n", b"ERROR\r\n"),
     (b"cache_memlimit 64 noreply\r\n", b"ERROR\r\n"),
+    (b"stats\r\n", b"ERROR\r\n"),
+    (b"stats items\r\n", b"ERROR\r\n"),
+    (b"stats reset\r\n", b"ERROR\r\n"),
+    (b"lru_crawler metadump all\r\n", b"ERROR\r\n"),
     (
         b"delete a 0\r\n",
         b"CLIENT_ERROR bad command line format\r\n",
@@ -129,7 +133,7 @@ const FAULTS: [(&[u8], &[u8]); 30] = [
 ];
 
 /// Leniently spaces before a line's end don't count, nor does a zero after the key of a `delete`; a data block is as it was sent.
-const LENIENT_REQUESTS: [(&[u8], Given, &[u8]); 22] = [
+const LENIENT_REQUESTS: [(&[u8], Given, &[u8]); 25] = [
     (b"get a \r\n", Given::Hit, b"VALUE a 0 1\r\nx\r\nEND\r\n"),
     (b"get a   \r\n", Given::Hit, b"VALUE a 0 1\r\nx\r\nEND\r\n"),
     (
@@ -160,10 +164,17 @@ const LENIENT_REQUESTS: [(&[u8], Given, &[u8]); 22] = [
     (b"touch a 60\r\n", Given::Touched, b"TOUCHED\r\n"),
     (b"touch a -1 \r\n", Given::Touched, b"TOUCHED\r\n"),
     (b"touch a 60 noreply\r\n", Given::Touched, b""),
+    (b"stats\r\n", Given::Told, b"STAT uptime 5\r\nEND\r\n"),
+    (b"stats \r\n", Given::Told, b"STAT uptime 5\r\nEND\r\n"),
+    (
+        b"stats\r\n",
+        Given::NoMemory,
+        b"SERVER_ERROR out of memory\r\n",
+    ),
 ];
 
 /// Other faults stay, also leniently. `version` and `verbosity` are answered by their first word, unless they have `noreply`.
-const LENIENT_FAULTS: [(&[u8], &[u8]); 26] = [
+const LENIENT_FAULTS: [(&[u8], &[u8]); 31] = [
     (b"get \r\n", b"CLIENT_ERROR bad command line format\r\n"),
     (b"get  \r\n", b"CLIENT_ERROR bad command line format\r\n"),
     (b" \r\n", b"ERROR\r\n"),
@@ -186,6 +197,14 @@ const LENIENT_FAULTS: [(&[u8], &[u8]); 26] = [
     (b"verbosity 1 noreply\r\n", b""),
     (b"cache_memlimit 64\r\n", b"ERROR\r\n"),
     (b"cache_memlimit 64 noreply \r\n", b""),
+    (b"stats items\r\n", b"END\r\n"),
+    (b"stats noreply \r\n", b"END\r\n"),
+    (
+        b"stats reset\r\n",
+        b"CLIENT_ERROR bad command line format\r\n",
+    ),
+    (b"lru_crawler metadump all\r\n", b"END\r\n"),
+    (b"lru_crawler enable\r\n", b"ERROR\r\n"),
     (b"touch a\r\n", b"CLIENT_ERROR bad command line format\r\n"),
     (
         b"append a 0 0\r\n",
@@ -232,6 +251,7 @@ enum Given {
     NoMemory,
     NotNumber,
     NoCas,
+    Told,
 }
 
 /// The one hit that a `get` of `a` shows.
@@ -257,6 +277,10 @@ fn reply_of(alloc: Global, with_cas: bool, given: Given) -> Result<Reply, NoMemo
         Given::NoMemory => Reply::NoMemory,
         Given::NotNumber => Reply::NotNumber,
         Given::NoCas => Reply::NoCas,
+        Given::Told => Reply::Stats(ByteString::from_vec(Vec::from_slice(
+            alloc,
+            b"STAT uptime 5\r\n",
+        )?)),
     })
 }
 

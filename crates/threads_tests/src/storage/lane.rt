@@ -1,6 +1,6 @@
 //! One lane, by the single calls of its ends.
 
-ghost use Rattle.std.specs.Prelude.{◌≡◌, ◌+◌, [], length, true, false, Some, None};
+ghost use Rattle.std.specs.Prelude.{◌⊎◌, ◌≡◌, ◌+◌, [], length, true, false, Some, None};
 ghost use Rattle.proto.specs.History.{answers_by, worker_share};
 ghost use Rattle.engine.specs.Reaching.{Reaches};
 ghost use Rattle.segcache.specs.StoreState.{sizes_in, segmented_cache, last_moment};
@@ -11,12 +11,23 @@ use crate::same::check_same;
 use crate::storage::ends::{ask, made};
 use engine::StorageEngine;
 use exchange::{Answered, Posted, StorageEnd, Taken, WorkerEnd};
-use proto::{AskedClock, Clock, Reply};
+use proto::{AskedClock, Clock, Reply, Request};
 use segcache::Store;
 use std::alloc::Global;
 use std::process::Abort;
 use std::test::Fail;
 use storage_thread::next_moment;
+
+/// The reply to a request, to which the store replied so. Nothing is counted here.
+fn uncounted(request: &Request, reply: Reply) -> Reply
+    ensures same { (reply ≡ result) ⊎ (request.now ≡ Request.Stats) }
+    ensures refused { request.now ≡ Request.Stats → result ≡ Reply.NoMemory }
+{
+    match request {
+        Request::Stats => Reply::NoMemory,
+        _ => reply,
+    }
+}
 
 /// Executes the open request at the clock's moment, and answers it.
 fn execute<S: StorageEngine, C: Clock>(
@@ -40,7 +51,8 @@ fn execute<S: StorageEngine, C: Clock>(
         number,
         mut request,
     } = posted;
-    let reply = store.handle(moment, &mut request);
+    let stored = store.handle(moment, &mut request);
+    let reply = uncounted(&request, stored);
     let _ = end.answer(Answered {
         worker,
         session,

@@ -1,4 +1,4 @@
-use Rattle.std.proofs.Common.{◌≡◌, rules, ℕ, List, [], ◌∷◌, ◌++◌, ap, ◌∙◌, sym, subst}
+use Rattle.std.proofs.Common.{◌≡◌, rules, ℕ, List, [], ◌∷◌, ◌++◌, ap, ◌∙◌, refl, sym, subst}
 use Rattle.proto.specs.declared.history.Answered.{Answered}
 use Rattle.proto.specs.declared.message.Request.{Request}
 use Rattle.proto.specs.ClockAnswers.{GivenAnswer}
@@ -6,15 +6,37 @@ use Rattle.proto.specs.History.{answers_by, RefusesBy}
 use Rattle.proto.proofs.HistoryLemmas.{refuses_more}
 use Rattle.proto.specs.Sizes.{Sizes}
 use Rattle.proto.specs.Steps.{Step}
+use Rattle.proto.specs.declared.counts.Counts.{Counts}
+use Rattle.proto.specs.Tallies.{no_counts, counted, TellsCounts, counts_after}
 use Rattle.exchange.specs.Ends.{StorageView}
 use Rattle.engine.specs.Reaching.{Reaches}
 use Rattle.storage_thread.specs.Serving.{IsReadSince}
 use Rattle.storage_thread.specs.Keeping.{LeadsKeeping}
-use Rattle.engine.proofs.ReachingLemmas.{reaches_more, legal_of}
+use Rattle.engine.proofs.ReachingLemmas.{reaches_more, legal_of, counted_more}
 use Rattle.engine.proofs.Refusals.{refused_get}
 use Rattle.storage_thread.proofs.Turns.{read_more}
-use Rattle.storage_thread.proofs.Kept.{KeepsStep, leads_more}
+use Rattle.storage_thread.proofs.Kept.{KeepsStep, keeps_told, needs_none, refused_told, leads_more}
 use Rattle.storage_thread.proofs.serving.execute.Goals as goal
+
+-- what an entry tells, by the counts before it
+tells : (c : Counts) (h : List Answered) (e : Answered) → c ≡ counts_after no_counts h → TellsCounts c e.request e.reply
+    → TellsCounts (counts_after no_counts h) e.request e.reply
+tells c h e is t = subst (λ (z : Counts). TellsCounts z e.request e.reply) is t
+
+pub returns-clause-counts : goal.returns-clause-counts
+returns-clause-counts g c = let p = c.args.posted in
+    let e : Answered = record {
+      worker = c.args.worker;
+      session = p.session;
+      number = p.number;
+      request = c.handle-stored.new.request;
+      moment = c.next_moment-moment.result;
+      clock = c.answers-given.result;
+      reply = c.reply-reply.result;
+    } in
+    c.count.ensures ∙ ap (λ (z : Counts). counted z e.request e.reply) c.requires.counts
+    ∙ sym (counted_more no_counts c.args.end.now.end.history e)
+    ∙ ap (λ (z : StorageView). counts_after no_counts z.history) (sym c.answer_later.ensures.answered)
 
 pub answer_later-requires-clause-legal : goal.answer_later-requires-clause-legal
 answer_later-requires-clause-legal g c = let p = c.args.posted in
@@ -22,29 +44,34 @@ answer_later-requires-clause-legal g c = let p = c.args.posted in
       worker = c.args.worker;
       session = p.session;
       number = p.number;
-      request = c.handle-reply.new.request;
+      request = c.handle-stored.new.request;
       moment = c.next_moment-moment.result;
       clock = c.answers-given.result;
-      reply = c.handle-reply.result;
+      reply = c.reply-reply.result;
     } in
     let by : e.clock ≡ answers_by [] c.args.end.now.end.history ++ c.next_moment-moment.ensures.moment.0 ∷ [] =
     c.answers-given.ensures ∙ c.next_moment-moment.ensures.moment.2
     ∙ ap (λ (l : List GivenAnswer). l ++ c.next_moment-moment.ensures.moment.0 ∷ []) c.requires.answers in
     let legal = legal_of _ _ _ _
     (reaches_more c.args.end.now.end.terms.geometry c.args.end.now.end.history (g.S.StorageEngine.cache c.args.store.now)
-    (g.S.StorageEngine.cache c.handle-reply.new.self) (g.S.StorageEngine.moment c.args.store.now) e c.requires.reaches
-    (subst (λ (z : Sizes × Request). Step z.0 (g.S.StorageEngine.cache c.args.store.now) e.moment z.1 e.reply
-    (g.S.StorageEngine.cache c.handle-reply.new.self))
-    (λ i. (c.requires.sizes i, sym c.handle-reply.ensures.request i)) c.handle-reply.ensures.step)
+    (g.S.StorageEngine.cache c.handle-stored.new.self) (g.S.StorageEngine.moment c.args.store.now) e c.requires.reaches (
+      c.handle-stored.result,
+      c.reply-reply.ensures.same,
+      subst (λ (z : Sizes × Request). Step z.0 (g.S.StorageEngine.cache c.args.store.now) e.moment z.1 c.handle-stored.result
+          (g.S.StorageEngine.cache c.handle-stored.new.self))
+          (λ i. (c.requires.sizes i, sym c.handle-stored.ensures.request i)) c.handle-stored.ensures.step,
+    )
+    (tells c.args.counts.now c.args.end.now.end.history e c.requires.counts c.reply-reply.ensures.tells)
     (search rules) c.next_moment-moment.ensures.moment.0 (c.answers-given.ensures ∙ c.next_moment-moment.ensures.moment.2
     ∙ ap (λ (l : List GivenAnswer). l ++ c.next_moment-moment.ensures.moment.0 ∷ []) c.requires.answers) (search rules) c.requires.next) in record {
       legal = legal;
       read = λ is. let f = read_more _ _ _ c.args.end.now.end.history e c.next_moment-moment.ensures.moment.0 by c.requires.read
           c.next_moment-moment.ensures.moment.4 c.next_moment-moment.ensures.moment.5 is in (f.0, f.2);
       refused = λ none. refuses_more g.S.StorageEngine.may_refuse c.args.end.now.end.history e c.requires.refused
+          (λ is. refused_told e c.handle-stored.result c.reply-reply.ensures.same
           (refused_get g.S.StorageEngine.may_refuse (g.S.StorageEngine.sizes c.args.store.now) (g.S.StorageEngine.cache c.args.store.now)
-          c.next_moment-moment.result p.request c.handle-reply.new.request c.handle-reply.result c.handle-reply.ensures.succeeds
-          c.handle-reply.ensures.request) (c.requires.refuses none);
+          c.next_moment-moment.result p.request c.handle-stored.new.request c.handle-stored.result c.handle-stored.ensures.succeeds
+          c.handle-stored.ensures.request is)) (c.requires.refuses none);
     }
 
 pub returns-clause-reaches : goal.returns-clause-reaches
@@ -53,22 +80,26 @@ returns-clause-reaches g c = let p = c.args.posted in
       worker = c.args.worker;
       session = p.session;
       number = p.number;
-      request = c.handle-reply.new.request;
+      request = c.handle-stored.new.request;
       moment = c.next_moment-moment.result;
       clock = c.answers-given.result;
-      reply = c.handle-reply.result;
+      reply = c.reply-reply.result;
     } in
     let more = reaches_more c.args.end.now.end.terms.geometry c.args.end.now.end.history
     (g.S.StorageEngine.cache c.args.store.now)
-    (g.S.StorageEngine.cache c.handle-reply.new.self) (g.S.StorageEngine.moment c.args.store.now) e c.requires.reaches
-    (subst (λ (z : Sizes × Request). Step z.0 (g.S.StorageEngine.cache c.args.store.now) e.moment z.1 e.reply
-    (g.S.StorageEngine.cache c.handle-reply.new.self))
-    (λ i. (c.requires.sizes i, sym c.handle-reply.ensures.request i)) c.handle-reply.ensures.step)
+    (g.S.StorageEngine.cache c.handle-stored.new.self) (g.S.StorageEngine.moment c.args.store.now) e c.requires.reaches (
+      c.handle-stored.result,
+      c.reply-reply.ensures.same,
+      subst (λ (z : Sizes × Request). Step z.0 (g.S.StorageEngine.cache c.args.store.now) e.moment z.1 c.handle-stored.result
+          (g.S.StorageEngine.cache c.handle-stored.new.self))
+          (λ i. (c.requires.sizes i, sym c.handle-stored.ensures.request i)) c.handle-stored.ensures.step,
+    )
+    (tells c.args.counts.now c.args.end.now.end.history e c.requires.counts c.reply-reply.ensures.tells)
     (search rules) c.next_moment-moment.ensures.moment.0 (c.answers-given.ensures ∙ c.next_moment-moment.ensures.moment.2
     ∙ ap (λ (l : List GivenAnswer). l ++ c.next_moment-moment.ensures.moment.0 ∷ []) c.requires.answers) (search rules) c.requires.next in
     subst (λ (z : StorageView × ℕ). Reaches z.0.terms.geometry z.0.history
-    (g.S.StorageEngine.cache c.handle-reply.new.self) z.1)
-    (λ i. (sym c.answer_later.ensures.answered i, sym c.handle-reply.ensures.moment i)) more
+    (g.S.StorageEngine.cache c.handle-stored.new.self) z.1)
+    (λ i. (sym c.answer_later.ensures.answered i, sym c.handle-stored.ensures.moment i)) more
 
 pub returns-clause-kept : goal.returns-clause-kept
 returns-clause-kept g c l = let p = c.args.posted in let m = g.S.StorageEngine in
@@ -76,21 +107,28 @@ returns-clause-kept g c l = let p = c.args.posted in let m = g.S.StorageEngine i
       worker = c.args.worker;
       session = p.session;
       number = p.number;
-      request = c.handle-reply.new.request;
+      request = c.handle-stored.new.request;
       moment = c.next_moment-moment.result;
       clock = c.answers-given.result;
-      reply = c.handle-reply.result;
+      reply = c.reply-reply.result;
     } in
-    let old = m.cache c.args.store.now in let after = m.cache c.handle-reply.new.self in
+    let old = m.cache c.args.store.now in let after = m.cache c.handle-stored.new.self in
     let sizes : m.sizes c.args.store.now ≡ c.args.end.now.end.terms.geometry = c.requires.sizes in
-    let request : p.request ≡ c.handle-reply.new.request = sym c.handle-reply.ensures.request in
+    let request : p.request ≡ c.handle-stored.new.request = sym c.handle-stored.ensures.request in
     let more = leads_more c.args.end.now.end.terms.geometry c.args.end.now.end.history old after e (m.keeps c.args.store.now)
-    (m.keeps c.handle-reply.new.self) l
-    (subst (λ (z : Sizes × Request). Step z.0 old e.moment z.1 e.reply after)
-    (λ i. (sizes i, request i)) c.handle-reply.ensures.step)
-    (subst (λ (z : Sizes × Request). KeepsStep z.0 old (record e { request = z.1 }) after (m.keeps c.args.store.now)
-    (m.keeps c.handle-reply.new.self)) (λ i. (sizes i, request i)) c.handle-reply.ensures.kept) in
-    subst (λ (z : StorageView). LeadsKeeping z.terms.geometry z.history after (m.keeps c.handle-reply.new.self))
+    (m.keeps c.handle-stored.new.self) l (
+      c.handle-stored.result,
+      c.reply-reply.ensures.same,
+      subst (λ (z : Sizes × Request). Step z.0 old e.moment z.1 c.handle-stored.result after)
+          (λ i. (sizes i, request i)) c.handle-stored.ensures.step,
+    )
+    (keeps_told c.args.end.now.end.terms.geometry old e c.handle-stored.result after (m.keeps c.args.store.now)
+    (m.keeps c.handle-stored.new.self) c.reply-reply.ensures.same
+    (λ is. c.handle-stored.ensures.succeeds (needs_none m.may_refuse (m.sizes c.args.store.now) old
+    c.next_moment-moment.result p.request (request ∙ is)))
+    (subst (λ (z : Sizes × Request). KeepsStep z.0 old (record e { request = z.1; reply = c.handle-stored.result }) after
+    (m.keeps c.args.store.now) (m.keeps c.handle-stored.new.self)) (λ i. (sizes i, request i)) c.handle-stored.ensures.kept)) in
+    subst (λ (z : StorageView). LeadsKeeping z.terms.geometry z.history after (m.keeps c.handle-stored.new.self))
     (sym c.answer_later.ensures.answered) more
 
 pub returns-clause-read : goal.returns-clause-read
@@ -99,10 +137,10 @@ returns-clause-read g c = let p = c.args.posted in
       worker = c.args.worker;
       session = p.session;
       number = p.number;
-      request = c.handle-reply.new.request;
+      request = c.handle-stored.new.request;
       moment = c.next_moment-moment.result;
       clock = c.answers-given.result;
-      reply = c.handle-reply.result;
+      reply = c.reply-reply.result;
     } in
     let by : e.clock ≡ answers_by [] c.args.end.now.end.history ++ c.next_moment-moment.ensures.moment.0 ∷ [] =
     c.answers-given.ensures ∙ c.next_moment-moment.ensures.moment.2
@@ -118,12 +156,13 @@ returns-clause-refused g c = let p = c.args.posted in let m = g.S.StorageEngine 
       worker = c.args.worker;
       session = p.session;
       number = p.number;
-      request = c.handle-reply.new.request;
+      request = c.handle-stored.new.request;
       moment = c.next_moment-moment.result;
       clock = c.answers-given.result;
-      reply = c.handle-reply.result;
+      reply = c.reply-reply.result;
     } in
     subst (λ (z : StorageView). RefusesBy m.may_refuse z.history) (sym c.answer_later.ensures.answered)
     (refuses_more m.may_refuse c.args.end.now.end.history e c.requires.refused
-    (refused_get m.may_refuse (m.sizes c.args.store.now) (m.cache c.args.store.now) c.next_moment-moment.result p.request
-    c.handle-reply.new.request c.handle-reply.result c.handle-reply.ensures.succeeds c.handle-reply.ensures.request))
+    (λ is. refused_told e c.handle-stored.result c.reply-reply.ensures.same (refused_get m.may_refuse (m.sizes c.args.store.now)
+    (m.cache c.args.store.now) c.next_moment-moment.result p.request c.handle-stored.new.request c.handle-stored.result
+    c.handle-stored.ensures.succeeds c.handle-stored.ensures.request is)))

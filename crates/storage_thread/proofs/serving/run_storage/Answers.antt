@@ -5,6 +5,8 @@ use Rattle.proto.specs.declared.terms.Terms.{Terms}
 use Rattle.proto.specs.ClockAnswers.{GivenAnswer}
 use Rattle.proto.specs.History.{Legal, RefusesBy}
 use Rattle.proto.proofs.HistoryLemmas.{refuses_none}
+use Rattle.proto.specs.Tallies.{no_counts, counts_after}
+use Rattle.proto.specs.declared.history.Answered.{Answered}
 use Rattle.engine.proofs.ReachingLemmas.{legal_of}
 use Rattle.storage_thread.specs.Serving.{IsReadSince, SaidBye, GetsNone, IsStorageServing}
 use Rattle.storage_thread.specs.Keeping.{LeadsKeeping, MayAlwaysForgetNothing}
@@ -35,6 +37,7 @@ loop-init g c = let unused = c.requires.unused in
           (ap (λ (z : StorageView). z.history) same ∙ unused.2),
       subst (RefusesBy g.S.StorageEngine.may_refuse) (sym (ap (λ (z : StorageView). z.history) same ∙ unused.2))
           (refuses_none g.S.StorageEngine.may_refuse),
+      c.new-counts.ensures ∙ ap (λ (z : List Answered). counts_after no_counts z) (sym (ap (λ (z : StorageView). z.history) same ∙ unused.2)),
     )
 
 pub loop-preserved-in-Some-Asked : goal.loop-preserved-in-Some-Asked
@@ -64,6 +67,7 @@ loop-preserved-in-Some-Asked g c = let i = c.loop.invariant in
       answers_asked now mid w p f new m told a,
       c.execute-told.ensures.read,
       c.execute-told.ensures.refused,
+      c.execute-told.ensures.counts,
     )
 
 pub execute-told-requires-clause-read : goal.execute-told-requires-clause-read
@@ -78,6 +82,9 @@ pub execute-told-requires-clause-refuses : goal.execute-told-requires-clause-ref
 execute-told-requires-clause-refuses g c none = let f = rw c.in-Some-Asked.field-0-is at c.in-Some-Asked.ensures.taken in
     c.requires.refuses (sym (ap (λ (z : StorageView). z.terms.may_refuse) f.after
     ∙ ap (λ (j : Terms). j.may_refuse) c.loop.invariant.2.same.2) ∙ none)
+pub execute-told-requires-clause-counts : goal.execute-told-requires-clause-counts
+execute-told-requires-clause-counts g c = let f = rw c.in-Some-Asked.field-0-is at c.in-Some-Asked.ensures.taken in
+    subst (λ (z : StorageView). c.loop.counts ≡ counts_after no_counts z.history) (sym f.after) c.loop.invariant.12
 
 pub loop-preserved : goal.loop-preserved
 loop-preserved g c = let i = c.loop.invariant in let now : StorageView = c.loop.end.end in
@@ -95,6 +102,7 @@ loop-preserved g c = let i = c.loop.invariant in let now : StorageView = c.loop.
       search rules,
       subst (λ (z : StorageView). IsReadSince z.terms.system_clock (g.C.Clock.start c.loop.clock.clock) z.history) (sym f.1) i.10,
       subst (λ (z : StorageView). RefusesBy g.S.StorageEngine.may_refuse z.history) (sym f.1) i.11,
+      subst (λ (z : StorageView). c.loop.counts ≡ counts_after no_counts z.history) (sym f.1) i.12,
     )
 
 pub loop-preserved-in-Some-Bye : goal.loop-preserved-in-Some-Bye
@@ -113,6 +121,7 @@ loop-preserved-in-Some-Bye g c = let i = c.loop.invariant in let now : StorageVi
       search rules,
       subst (λ (z : StorageView). IsReadSince z.terms.system_clock (g.C.Clock.start c.loop.clock.clock) z.history) (sym f.after) i.10,
       subst (λ (z : StorageView). RefusesBy g.S.StorageEngine.may_refuse z.history) (sym f.after) i.11,
+      subst (λ (z : StorageView). c.loop.counts ≡ counts_after no_counts z.history) (sym f.after) i.12,
     )
 
 pub returns-then-left-eq0-clause-bye : goal.returns-then-left-eq0-clause-bye

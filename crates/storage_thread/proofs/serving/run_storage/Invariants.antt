@@ -2,6 +2,7 @@ use Rattle.std.proofs.Common.{◌≡◌, ◌+◌, ◌-◌, ◌^◌, [], min, len
 use Rattle.storage_thread.specs.Serving.{IsReadSince, IsTimed, IsStorageServing}
 use Rattle.proto.specs.History.{answers_by, RefusesBy}
 use Rattle.storage_thread.specs.Keeping.{LeadsKeeping}
+use Rattle.proto.specs.Tallies.{no_counts, counts_after}
 use Rattle.storage_thread.proofs.serving.run_storage.Given as goal
 
 abbrev pub invariant-loop : goal.invariant-loop
@@ -18,3 +19,4 @@ invariant-loop g l =
     × (l.clock.answers ≡ answers_by [] l.end.end.history)
     × IsReadSince l.end.end.terms.system_clock (g.C.Clock.start l.clock.clock) l.end.end.history
     × RefusesBy g.S.StorageEngine.may_refuse l.end.end.history
+    × (l.counts ≡ counts_after no_counts l.end.end.history)

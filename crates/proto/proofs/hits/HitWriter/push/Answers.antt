@@ -3,6 +3,9 @@ use Rattle.std.specs.Option.{option_map_or}
 use Rattle.std.proofs.lemmas.List.{append-nil, flat_map_more}
 use Rattle.proto.specs.Hits.{hit_bytes}
 use Rattle.proto.specs.SeenHits.{seen_hit}
+use Rattle.std.proofs.Common.{List, ℕ, ◌∷◌, ap, ◌∙◌, length-append}
+use Rattle.std.specs.List.{flat_map}
+use Rattle.proto.proofs.HitTexts.{few_hits}
 use Rattle.proto.proofs.hits.HitWriter.push.Goals as goal
 use Rattle.proto.proofs.hits.HitWriter.push.Goals.{in-Some, in_default}
 
@@ -18,6 +21,11 @@ invariant_of-self c =
     elim c.match-hit.branch [ in-Some w ↦ rw w.self-inside-is refl | in_default w ↦ rw w.self-inside-is refl ] in
     let room : c.match-hit.self-inside.room ≡ c.self.inside.room =
     elim c.match-hit.branch [ in-Some w ↦ rw w.self-inside-is refl | in_default w ↦ rw w.self-inside-is refl ] in
+    let count : c.match-hit.self-inside.count ≡ c.self.inside.count + 1 =
+    elim c.match-hit.branch [ in-Some w ↦ rw w.self-inside-is refl | in_default w ↦ rw w.self-inside-is refl ] in
+    let grown : length (c.self.inside.shown.items ++ seen_hit c.args.hit ∷ []) ≡ length c.self.inside.shown.items + 1 =
+    length-append c.self.inside.shown.items (seen_hit c.args.hit ∷ []) ∙ omega arith in
+    let counted = c.self.invariant.2 in
     let size : (vec_len c.match-hit.self-inside.text ≤ vec_len c.push_number-2.new.text + 21)
     × (vec_capacity c.push_number-2.new.text ≤ vec_capacity c.match-hit.self-inside.text) =
     elim c.match-hit.branch [
@@ -66,4 +74,15 @@ invariant_of-self c =
         c.extend_from_slice-4.ensures.capacity,
         c.extend_from_slice-5.ensures.capacity,
       ),
+      rw (count, c.note_as.ensures, shown) (omega (arith, grown, counted)),
     )
+
+pub overflow_add-self : goal.overflow_add-self
+overflow_add-self c =
+    let few = few_hits c.self.inside.shown.items in
+    let counted = c.self.invariant.2 in
+    let text : length c.self.inside.text.items ≡ length (flat_map hit_bytes c.self.inside.shown.items) =
+    ap (λ (l : List ℕ). length l) c.self.invariant.0 in
+    let ok = c.self.inside.text.ok in
+    let small = c.self.inside.text.small in
+    omega (arith, few, counted, text, ok, small)

@@ -6,7 +6,7 @@ use Rattle.proto.proofs.hits.Hits.is_empty.Goals as goal
 
 pub returns : goal.returns
 returns c =
-    let text = c.self.invariant in
+    let text = c.self.invariant.0 in
     let shown = c.self.view_is in (
       (λ (h : IsTrue c.is_empty.result).
           let e : length c.self.inside.text.items ≡ 0 = grind (arith, c.is_empty.ensures, h) in

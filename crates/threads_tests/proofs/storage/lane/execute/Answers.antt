@@ -1,4 +1,4 @@
-use Rattle.std.proofs.Common.{◌≡◌, rules, List, [], ◌∷◌, ◌++◌, true≢false, ap, ◌∙◌, sym, subst}
+use Rattle.std.proofs.Common.{inl, ◌≡◌, rules, List, [], ◌∷◌, ◌++◌, true≢false, ap, ◌∙◌, sym, subst}
 use Rattle.proto.specs.declared.history.Answered.{Answered}
 use Rattle.proto.specs.declared.message.Request.{Request}
 use Rattle.proto.specs.ClockAnswers.{GivenAnswer}
@@ -14,18 +14,22 @@ answer-requires-clause-legal g c =
       worker = c.args.worker;
       session = p.session;
       number = p.number;
-      request = c.handle-reply.new.request;
+      request = c.handle-stored.new.request;
       moment = c.next_moment-moment.result;
       clock = c.answers-told.result;
-      reply = c.handle-reply.result;
+      reply = c.uncounted-reply.result;
     } in
     record {
       legal = legal_of _ _ _ _
           (reaches_more c.args.end.now.terms.geometry c.args.end.now.history (g.S.StorageEngine.cache c.args.store.now)
-          (g.S.StorageEngine.cache c.handle-reply.new.self) (g.S.StorageEngine.moment c.args.store.now) e c.requires.reaches
-          (subst (λ (z : Sizes × Request). Step z.0 (g.S.StorageEngine.cache c.args.store.now) e.moment z.1 e.reply
-          (g.S.StorageEngine.cache c.handle-reply.new.self))
-          (λ i. (c.requires.sizes i, sym c.handle-reply.ensures.request i)) c.handle-reply.ensures.step)
+          (g.S.StorageEngine.cache c.handle-stored.new.self) (g.S.StorageEngine.moment c.args.store.now) e c.requires.reaches (
+            c.handle-stored.result,
+            c.uncounted-reply.ensures.same,
+            subst (λ (z : Sizes × Request). Step z.0 (g.S.StorageEngine.cache c.args.store.now) e.moment z.1 c.handle-stored.result
+                (g.S.StorageEngine.cache c.handle-stored.new.self))
+                (λ i. (c.requires.sizes i, sym c.handle-stored.ensures.request i)) c.handle-stored.ensures.step,
+          )
+          (λ is. inl (c.uncounted-reply.ensures.refused is))
           (search rules) c.next_moment-moment.ensures.moment.0 (c.answers-told.ensures ∙ c.next_moment-moment.ensures.moment.2
           ∙ ap (λ (l : List GivenAnswer). l ++ c.next_moment-moment.ensures.moment.0 ∷ []) c.requires.answers)
           (search rules) c.requires.next);

@@ -2,7 +2,7 @@ use Rattle.std.proofs.Common.{None, Some}
 use Rattle.segcache.specs.Room.{IsCrowded}
 use Rattle.segcache.proofs.MergePlans.{tied_replanned, crowded_replanned, made_replanned, has_plan}
 use Rattle.segcache.proofs.ForgottenKeys.{evicted_replanned, none_replanned}
-use Rattle.segcache.proofs.segment_map.SegmentMap.evict.Goals as goal
+use Rattle.segcache.proofs.segment_map.SegmentMap.forget_some.Goals as goal
 
 pub invariant_of-self : goal.invariant_of-self
 invariant_of-self c =

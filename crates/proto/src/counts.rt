@@ -1,0 +1,173 @@
+//! What requests and their replies count.
+
+ghost use Rattle.std.specs.Prelude.{◌≡◌};
+ghost use Rattle.proto.specs.Stored.{is_no_memory};
+ghost use Rattle.proto.specs.StatTexts.{more};
+ghost use Rattle.proto.specs.Tallies.{conflicts_in, counted, counted_by, counted_put, hits_in, misses_in};
+ghost use Rattle.proto.specs.Tallies.{no_counts, tallied};
+
+use crate::message::{Reply, Request};
+
+/// How often a key was there, and how often it wasn't.
+#[derive(Clone, Copy)]
+pub struct Tally {
+    pub hits: u64,
+    pub misses: u64,
+}
+
+/// How often requests had which outcome. After the greatest number a count goes on from 0. A request that was refused memory
+/// counts as that alone.
+#[derive(Clone, Copy)]
+pub struct Counts {
+    /// The keys that `get` and `gets` asked for.
+    pub gets: Tally,
+    /// The storage commands, `cas` among them: a hit is what was stored.
+    pub sets: Tally,
+    pub cas: Tally,
+    /// Each `cas` whose entry had another cas number.
+    pub badvals: u64,
+    pub deletes: Tally,
+    pub incrs: Tally,
+    pub decrs: Tally,
+    pub touches: Tally,
+    pub flushes: u64,
+    /// Requests that were refused memory.
+    pub refused: u64,
+}
+
+/// How many keys the reply says to be there, or to have been stored, changed or taken out.
+fn hits_in(reply: &Reply) -> u64
+    ensures { result ≡ hits_in reply.now }
+{
+    match reply {
+        Reply::Values(hits) => hits.len() as u64,
+        Reply::Stored | Reply::Deleted | Reply::Number(_) | Reply::Touched => 1,
+        Reply::NotStored
+        | Reply::Exists
+        | Reply::NotFound
+        | Reply::Flushed
+        | Reply::TooLarge
+        | Reply::NoMemory
+        | Reply::NotNumber
+        | Reply::NoCas
+        | Reply::Stats(_) => 0,
+    }
+}
+
+/// Whether the reply says that the key isn't there, as a number.
+fn misses_in(reply: &Reply) -> u64
+    ensures { result ≡ misses_in reply.now }
+{
+    if matches!(reply, Reply::NotFound) {
+        1
+    } else {
+        0
+    }
+}
+
+/// Whether the reply says that the entry has another cas number, as a number.
+fn conflicts_in(reply: &Reply) -> u64
+    ensures { result ≡ conflicts_in reply.now }
+{
+    if matches!(reply, Reply::Exists) { 1 } else { 0 }
+}
+
+impl Tally {
+    const fn new() -> Tally
+        ensures { result ≡ record { hits = 0; misses = 0 } }
+    {
+        Tally { hits: 0, misses: 0 }
+    }
+
+    fn add(&mut self, hits: u64, misses: u64)
+        ensures { self.new ≡ tallied self.old hits misses }
+    {
+        self.hits = self.hits.wrapping_add(hits);
+        self.misses = self.misses.wrapping_add(misses);
+    }
+
+    /// Counts a key, by the reply.
+    fn count(&mut self, reply: &Reply)
+        ensures { self.new ≡ tallied self.old (hits_in reply.now) (misses_in reply.now) }
+    {
+        self.add(hits_in(reply), misses_in(reply));
+    }
+
+    /// Hits and misses together.
+    pub fn total(&self) -> u64
+        ensures { result ≡ more self.now.hits self.now.misses }
+    {
+        self.hits.wrapping_add(self.misses)
+    }
+}
+
+impl Counts {
+    pub const fn new() -> Counts
+        ensures { result ≡ no_counts }
+    {
+        Counts {
+            gets: Tally::new(),
+            sets: Tally::new(),
+            cas: Tally::new(),
+            badvals: 0,
+            deletes: Tally::new(),
+            incrs: Tally::new(),
+            decrs: Tally::new(),
+            touches: Tally::new(),
+            flushes: 0,
+            refused: 0,
+        }
+    }
+
+    /// Counts a storage command.
+    fn count_put(&mut self, reply: &Reply)
+        ensures { self.new ≡ counted_put self.old reply.now }
+    {
+        let stored = hits_in(reply);
+        self.sets.add(stored, 1u64.saturating_sub(stored));
+    }
+
+    /// Counts a request that wasn't refused memory.
+    fn count_by(&mut self, request: &Request, reply: &Reply)
+        ensures { self.new ≡ counted_by self.old request.now reply.now }
+    {
+        match request {
+            Request::Get { keys, .. } => {
+                let hits = hits_in(reply);
+                self.gets
+                    .add(hits, (keys.len() as u64).saturating_sub(hits));
+            }
+            Request::Set(_)
+            | Request::Add(_)
+            | Request::Replace(_)
+            | Request::Append(_)
+            | Request::Prepend(_) => self.count_put(reply),
+            Request::Cas(..) => {
+                self.count_put(reply);
+                self.cas.count(reply);
+                self.badvals = self.badvals.wrapping_add(conflicts_in(reply));
+            }
+            Request::Delete { .. } => self.deletes.count(reply),
+            Request::Incr { .. } => self.incrs.count(reply),
+            Request::Decr { .. } => self.decrs.count(reply),
+            Request::Touch(_) => self.touches.count(reply),
+            Request::FlushAll { .. } => self.flushes = self.flushes.wrapping_add(1),
+            Request::Stats => {}
+        }
+    }
+
+    /// Counts a request with its reply.
+    #[inline]
+    pub fn count(&mut self, request: &Request, reply: &Reply)
+        ensures { self.new ≡ counted self.old request.now reply.now }
+    {
+        match (request, reply) {
+            (Request::Get { keys, .. }, Reply::Values(hits)) => {
+                let (asked, shown) = (keys.len() as u64, hits.len() as u64);
+                self.gets.add(shown, asked.saturating_sub(shown));
+            }
+            (_, Reply::NoMemory) => self.refused = self.refused.wrapping_add(1),
+            _ => self.count_by(request, reply),
+        }
+    }
+}

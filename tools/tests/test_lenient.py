@@ -17,6 +17,7 @@ import served
 from asking import ask, hit
 from model import VERSION
 from pymemcache.client.base import Client
+from pymemcache.exceptions import MemcacheServerError
 from served import read_to_end
 from test_three_caches import twemproxy
 
@@ -239,14 +240,25 @@ def test_python_memcached_appends_and_deletes_with_a_zero(server):
 
 # ---- many clients behind a proxy
 
+def is_refused(client, key, value):
+    try:
+        client.set(key, value)
+    except MemcacheServerError:
+        return True
+    return False
+
+
 def mixed(port, number, seen):
-    """One of ten clients of a proxy, which shares its connections among them: the first one appends and touches as well, with and without a reply."""
+    """One of ten clients of a proxy, which shares its connections among them: the first one appends and touches as well, with and without a reply,
+    and sends blocks that are too large."""
     chance, client = random.Random(number), Client(("127.0.0.1", port), timeout=20, default_noreply=False)
     values = {f"tw-{number}-{at}": b"value-%d-%d" % (number, at) for at in range(20)}
     assert client.set_many(values) == []
     for turn in range(140):
         key = chance.choice(list(values))
-        if number == 0 and turn % 2:
+        if number == 0 and turn % 20 == 19:
+            seen.append("refused" if is_refused(client, key, LARGE_BLOCK) else "stored")
+        elif number == 0 and turn % 2:
             client.touch(key, 1000, noreply=True)
             seen.append("joined" if client.append(key, b"get tw-1-1") else "not joined")
             values[key] += b"get tw-1-1"
@@ -255,7 +267,7 @@ def mixed(port, number, seen):
     client.quit()
 
 
-def test_behind_twemproxy_no_client_reads_a_wrong_value_beside_appends_and_touches(serve, tmp_path):
+def test_behind_twemproxy_no_client_reads_a_wrong_value_beside_appends_touches_and_large_blocks(serve, tmp_path):
     with twemproxy([serve("--workers", "1", "--lenient").port for _ in range(3)], tmp_path) as port:
         seen = []
         clients = [threading.Thread(target=mixed, args=(port, number, seen)) for number in range(10)]
@@ -263,4 +275,4 @@ def test_behind_twemproxy_no_client_reads_a_wrong_value_beside_appends_and_touch
             client.start()
         for client in clients:
             client.join()
-    assert {it: seen.count(it) for it in set(seen)} == {"right": 1330, "joined": 70}
+    assert {it: seen.count(it) for it in set(seen)} == {"right": 1330, "joined": 63, "refused": 7}

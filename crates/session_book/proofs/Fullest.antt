@@ -1,5 +1,5 @@
 -- The walk that looks for the session with the most output.
-use Rattle.std.proofs.Common.{ℕ, ◌≡◌, ◌+◌, ◌≤◌, ◌<◌, ◌⊎◌, Option, Some, None, List, [], ◌∷◌, ◌++◌, length, sum_by, ⊎_elim, inl, inr}
+use Rattle.std.proofs.Common.{ℕ, ◌≡◌, ◌+◌, ◌≤◌, ◌<◌, Option, Some, None, List, [], ◌∷◌, ◌++◌, length, ⊎_elim, inl, inr}
 use Rattle.std.proofs.Common.{refl, sym, ap, ◌∙◌, arith}
 use Rattle.std.specs.Prelude.{⊤, MatchOption, IfSome, slice_get, min, ◌^◌, ◌-◌}
 use Rattle.std.specs.Bool.{nat_eq}

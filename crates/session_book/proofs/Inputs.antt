@@ -1,7 +1,7 @@
 -- What becomes of unread bytes, of which some may have been dropped.
-use Rattle.std.proofs.Common.{◌≡◌, ℕ, ◌+◌, ◌-◌, ◌<◌, ◌≤◌, Bool, List, [], ◌∷◌, ◌++◌, length, take, drop, Some, refl, sym, ap, subst, ◌∙◌}
-use Rattle.std.proofs.Common.{arith, inl, inr, append_assoc, length-append, take_at, drop_at, take-append-drop, length-take-le}
-use Rattle.std.specs.Prelude.{◌⊎◌, min}
+use Rattle.std.proofs.Common.{◌≡◌, ℕ, ◌-◌, ◌<◌, ◌≤◌, Bool, List, [], ◌++◌, length, take, drop, Some, refl, sym, ap, subst, ◌∙◌}
+use Rattle.std.proofs.Common.{arith, inl, inr, append_assoc, take_at, drop_at, take-append-drop, length-take-le}
+use Rattle.std.specs.Prelude.{◌⊎◌}
 use Rattle.std.proofs.lemmas.Bool.{cases_lt}
 use Rattle.std.proofs.lemmas.List.{append-nil, nil_from_length, length-take}
 use Rattle.proto.specs.declared.dialect.Dialect.{Dialect}
@@ -9,14 +9,14 @@ use Rattle.proto.specs.declared.limits.TheConstants.{MAX_KEPT}
 use Rattle.proto.specs.declared.message.Message.{Message}
 use Rattle.proto.specs.declared.message.Message.TheVariants.{Local}
 use Rattle.proto.specs.declared.message.LocalKind.TheVariants as local
-use Rattle.proto.specs.Grammar.{Spells, SpellsNone}
+use Rattle.proto.specs.Grammar.{Spells}
 use Rattle.proto.specs.Lines.{IsSearched}
 use Rattle.proto.specs.Needs.{NeedsMore, IsDropped}
 use Rattle.proto.specs.PlainReader.{Found, next}
 use Rattle.proto.proofs.MessageReader.{next_complete}
 use Rattle.proto.proofs.Options.{some_is}
 use Rattle.session_book.specs.Input.{InputState, IsDropping, MayDrop, Begins}
-use Rattle.session_book.proofs.Needing.{needs_one, spells_none, unfinished_short}
+use Rattle.session_book.proofs.Needing.{spells_none, unfinished_short}
 
 -- ---- which bytes were dropped
 

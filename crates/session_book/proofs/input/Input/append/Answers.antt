@@ -1,4 +1,4 @@
-use Rattle.std.proofs.Common.{◌≤◌, ◌-◌, ◌++◌, ◌≡◌, List, ℕ, length, ap, sym, ◌∙◌, arith}
+use Rattle.std.proofs.Common.{◌≤◌, ◌-◌, ◌++◌, List, ℕ, length, ap, ◌∙◌, arith}
 use Rattle.session_book.proofs.Inputs.{dropping, appended, with_unread}
 use Rattle.session_book.proofs.input.Input.append.Goals as goal
 

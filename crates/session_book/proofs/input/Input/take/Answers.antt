@@ -1,4 +1,4 @@
-use Rattle.std.proofs.Common.{◌≡◌, ◌-◌, List, ℕ, length, drop, sym, ap, ◌∙◌, arith}
+use Rattle.std.proofs.Common.{◌-◌, ℕ, drop, sym, ap, ◌∙◌, arith}
 use Rattle.session_book.proofs.Inputs.{took, read_anew}
 use Rattle.session_book.proofs.input.Input.take.Goals as goal
 

@@ -147,25 +147,69 @@ fn commands_of_the_lenient_dialect(rt: HostRuntime) -> Result<(), Fail> {
     check_lines(&rt, rt.alloc(), &COMMANDS)
 }
 
-/// What a session asks before its `stats`.
-const COUNTED: &str = "set a 0 0 1\r\nx\r\nset a 0 0 1 noreply\r\ny\r\nadd a 0 0 1 noreply\r\nz\r\n\
-    cas a 0 0 1 1 noreply\r\nz\r\ncas b 0 0 1 1 noreply\r\nz\r\ncas a 0 0 1 2 noreply\r\n5\r\nget a b a\r\n\
-    incr a 1 noreply\r\nincr b 1 noreply\r\ndecr a 1 noreply\r\ndecr b 1 noreply\r\ntouch a 60 noreply\r\n\
-    touch b 60 noreply\r\ndelete a noreply\r\ndelete a noreply\r\nflush_all noreply\r\nstats\r\n";
+/// What a session asks: 16 requests, and then a `stats`.
+const COUNTED: [&str; 17] = [
+    "set a 0 0 1\r\nx\r\n",
+    "set a 0 0 1 noreply\r\ny\r\n",
+    "add a 0 0 1 noreply\r\nz\r\n",
+    "cas a 0 0 1 1 noreply\r\nz\r\n",
+    "cas b 0 0 1 1 noreply\r\nz\r\n",
+    "cas a 0 0 1 2 noreply\r\n5\r\n",
+    "get a b a\r\n",
+    "incr a 1 noreply\r\n",
+    "incr b 1 noreply\r\n",
+    "decr a 1 noreply\r\n",
+    "decr b 1 noreply\r\n",
+    "touch a 60 noreply\r\n",
+    "touch b 60 noreply\r\n",
+    "delete a noreply\r\n",
+    "delete a noreply\r\n",
+    "flush_all noreply\r\n",
+    "stats\r\n",
+];
 
-/// What it is given up to the first gauge, counted by hand.
-const COUNTS: &str = "STORED\r\nVALUE a 0 1\r\n5\r\nVALUE a 0 1\r\n5\r\nEND\r\n\
-    STAT cmd_get 3\r\nSTAT cmd_set 6\r\nSTAT cmd_touch 2\r\nSTAT cmd_flush 1\r\nSTAT total_items 3\r\n\
-    STAT cas_badval 1\r\nSTAT out_of_memory 0\r\nSTAT get_hits 2\r\nSTAT get_misses 1\r\nSTAT delete_hits 1\r\n\
-    STAT delete_misses 1\r\nSTAT incr_hits 1\r\nSTAT incr_misses 1\r\nSTAT decr_hits 1\r\nSTAT decr_misses 1\r\n\
-    STAT touch_hits 1\r\nSTAT touch_misses 1\r\nSTAT cas_hits 1\r\nSTAT cas_misses 1\r\nSTAT uptime ";
+/// What it is given, up to the first gauge, counted by hand.
+const COUNTS: [&str; 22] = [
+    "STORED\r\n",
+    "VALUE a 0 1\r\n5\r\nVALUE a 0 1\r\n5\r\nEND\r\n",
+    "STAT cmd_get 3\r\n",
+    "STAT cmd_set 6\r\n",
+    "STAT cmd_touch 2\r\n",
+    "STAT cmd_flush 1\r\n",
+    "STAT total_items 3\r\n",
+    "STAT cas_badval 1\r\n",
+    "STAT out_of_memory 0\r\n",
+    "STAT get_hits 2\r\n",
+    "STAT get_misses 1\r\n",
+    "STAT delete_hits 1\r\n",
+    "STAT delete_misses 1\r\n",
+    "STAT incr_hits 1\r\n",
+    "STAT incr_misses 1\r\n",
+    "STAT decr_hits 1\r\n",
+    "STAT decr_misses 1\r\n",
+    "STAT touch_hits 1\r\n",
+    "STAT touch_misses 1\r\n",
+    "STAT cas_hits 1\r\n",
+    "STAT cas_misses 1\r\n",
+    "STAT uptime ",
+];
+
+fn joined(alloc: Global, parts: &[&str]) -> Result<String, AllocError> {
+    let mut all = String::new(alloc);
+    for part in parts {
+        all.push_str(part)?;
+    }
+    Ok(all)
+}
 
 #[test]
 fn counts_of_a_stats(rt: HostRuntime) -> Result<(), Fail> {
     let alloc = rt.alloc();
-    let script = script_of(alloc, COUNTED.as_bytes())?;
-    let mut wanted = String::from_str(alloc, "0 1 ")?;
-    wanted.push_str(hex::encode(alloc, COUNTS.as_bytes())?.as_str())?;
+    let input = joined(alloc, &COUNTED)?;
+    let script = script_of(alloc, input.as_bytes())?;
+    let output = joined(alloc, &COUNTS)?;
+    let digits = hex::encode(alloc, output.as_bytes())?;
+    let wanted = behind_set(alloc, "0 1 ", digits.as_str())?;
     let given = lines(&rt, alloc, "--lenient", script.as_bytes())?;
     assert!(rt; given.as_str().starts_with(wanted.as_str()), "{given}");
     Ok(())

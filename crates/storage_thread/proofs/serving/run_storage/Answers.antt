@@ -82,6 +82,7 @@ pub execute-told-requires-clause-refuses : goal.execute-told-requires-clause-ref
 execute-told-requires-clause-refuses g c none = let f = rw c.in-Some-Asked.field-0-is at c.in-Some-Asked.ensures.taken in
     c.requires.refuses (sym (ap (λ (z : StorageView). z.terms.may_refuse) f.after
     ∙ ap (λ (j : Terms). j.may_refuse) c.loop.invariant.2.same.2) ∙ none)
+
 pub execute-told-requires-clause-counts : goal.execute-told-requires-clause-counts
 execute-told-requires-clause-counts g c = let f = rw c.in-Some-Asked.field-0-is at c.in-Some-Asked.ensures.taken in
     subst (λ (z : StorageView). c.loop.counts ≡ counts_after no_counts z.history) (sym f.after) c.loop.invariant.12

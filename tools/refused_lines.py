@@ -34,6 +34,8 @@ LENIENT_FORMS = {
     b"append": rb" %b%b" % (STORAGE, QUIET),
     b"prepend": rb" %b%b" % (STORAGE, QUIET),
     b"touch": rb" %b (?:0|-?[1-9][0-9]{0,9})%b" % (KEY, QUIET),
+    b"stats": rb"(?! reset(?: |$))(?: .*)?",
+    b"lru_crawler": rb" metadump(?: .*)?",
     b"version": rb"(?: .*)?",
     b"verbosity": rb"(?: .*)?",
     # (which is silent, and does nothing)

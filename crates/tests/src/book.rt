@@ -208,7 +208,12 @@ fn check_put_off(rt: &impl Abort, player: &mut Player) -> Result<(), Fail> {
     }
     check_same(rt, player.next_to_ask(), None, "with 136 keys on their way");
     check_settle(rt, player, 0, Settled::Kept)?;
-    check_same(rt, player.next_to_ask(), Some(2), "with 128 keys on their way");
+    check_same(
+        rt,
+        player.next_to_ask(),
+        Some(2),
+        "with 128 keys on their way",
+    );
     Ok(())
 }
 

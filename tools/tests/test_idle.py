@@ -1,5 +1,7 @@
 """`serve --idle 1`: which connections are closed, and which aren't. (All waits are in one test, which takes five seconds.)"""
 import contextlib
+import socket
+import struct
 import threading
 import time
 
@@ -95,12 +97,21 @@ def is_silent(server):
             assert time.monotonic() - began < 10
 
 
+# Of linux/netlink.h, linux/sock_diag.h and linux/inet_diag.h.
+SOCK_DIAG, BY_FAMILY, REQUEST, ANY_COOKIE, ESTABLISHED = 4, 20, 1, bytes(4) + b"\xff" * 8, 1
+
+
 def is_closed(server, stream):
-    """Whether the server has closed its end of a connection, of which the client may still have to read much: as the system lists it."""
-    ends = f":{server.port:04X}", f":{stream.getsockname()[1]:04X}"
-    with open("/proc/net/tcp", encoding="ascii") as file:
-        listed = [line.split() for line in file]
-    return not any((it[1][-5:], it[2][-5:], it[3]) == (*ends, "01") for it in listed)
+    """Whether the server has closed its end of a connection, of which the client may still have to read much: by the state that the system gives for
+    that end. (To read /proc/net/tcp takes seconds while those that came and went in another test aren't forgotten yet.)"""
+    address = socket.inet_aton("127.0.0.1").ljust(16, b"\0")
+    ends = struct.pack("!HH", server.port, stream.getsockname()[1]) + 2 * address + ANY_COOKIE
+    asked = struct.pack("=BBBxI", socket.AF_INET, socket.IPPROTO_TCP, 0, 0xFFFFFFFF) + ends
+    with socket.socket(socket.AF_NETLINK, socket.SOCK_RAW, SOCK_DIAG) as system:
+        system.send(struct.pack("=IHHII", 16 + len(asked), BY_FAMILY, REQUEST, 0, 0) + asked)
+        told = system.recv(8192)
+    # (another kind of message says that there is no such end)
+    return struct.unpack_from("=H", told, 4)[0] != BY_FAMILY or told[17] != ESTABLISHED
 
 
 def send_until_closed(stream, requests):

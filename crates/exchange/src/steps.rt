@@ -23,8 +23,8 @@ use crate::rule::{
 use proto::{Answered, WINDOW};
 
 /// A lane has two words that its two threads store, posted first and then done. Before each are enough unused words of eight
-/// bytes that no two share a line of a processor's cache. Word 0 is unused too: what loads it when a seat is split or joined, as
-/// for each `give`, finds its line in the cache.
+/// bytes that no two share a line of a processor's cache. No thread stores word 0, which is loaded when a seat is split or joined,
+/// as for each `give`: so its line stays in the cache.
 pub(crate) const POSTED: usize = 8;
 
 pub(crate) const DONE: usize = 2 * POSTED;

@@ -1,10 +1,13 @@
-//! Which segment is evicted.
+//! Which segments are merged or cleared.
 
-/// Which segment is cleared if an item needs room, each segment has a live item, and no two can be merged.
+/// What makes room if each segment has a live item. Up to four segments of one bucket with one opening moment are merged, none
+/// of them their chain's tail; or, if there are none, a segment is cleared.
 #[derive(Clone, Copy, Debug, PartialEq, Eq)]
 pub enum Eviction {
-    /// The one that was opened first.
+    /// Chains take turns, each with its front. The segment that was opened first is cleared.
     Oldest,
-    /// Of the oldest quarter the one with the fewest hits, the oldest of several.
+    /// Of a quarter of the segments, from the last merge on in the order of opening, the first with such segments behind it is
+    /// merged with them; or the one with the fewest hits is cleared, the first of several. Opening moments are rounded down to
+    /// half the bucket's width.
     LeastRead,
 }

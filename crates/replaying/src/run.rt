@@ -136,9 +136,9 @@ fn ports_of(
 ///
 /// # Errors
 ///
-/// CannotRead if a read of the script fails; Script if it is too large or a line has a fault; Group if the group doesn't
-/// run: the options ask for none or for more than 8 workers, a thread can't be started, or it has no memory; CannotWrite
-/// if a line can't be printed; NoMemory if memory is missing elsewhere.
+/// CannotRead if a read of the script fails; Script if it is too large or a line has a fault; Exchange if the options ask
+/// for none or for more than 8 workers, or memory for the exchange is refused; Group if a thread can't be started, or the
+/// group has no memory; CannotWrite if a line can't be printed; NoMemory if memory is refused elsewhere.
 pub fn replay<H: Threads + Wait + time::Clock + Sync, R: Read + Drop, W: Write>(
     rt: &H,
     alloc: Global,

@@ -105,8 +105,7 @@ impl Buffer {
         left
     }
 
-    /// Frees memory that has no bytes, if it is more than a quarter and what is left isn't less than this. So bytes that wait for
-    /// long take at most three times as much.
+    /// Frees memory that has no bytes, if it is more than a quarter of all. Room for so many bytes is kept.
     pub fn trim(&mut self, least: usize)
         ensures { self.new ≡ self.old }
     {

@@ -264,7 +264,7 @@ const BLOCKS: [(&str, usize, &str); 4] = [
         "STORED\r\nVALUE a 0 1\r\nx\r\nEND\r\n",
     ),
     (
-        "replace a 0 0 300000 \r\n",
+        "replace a 0 0 300000\r\n",
         300_002,
         "STORED\r\nSERVER_ERROR object too large for cache\r\nVALUE a 0 1\r\nx\r\nEND\r\n",
     ),

@@ -6,9 +6,7 @@ use Rattle.std.specs.FinMap as map
 use Rattle.proto.specs.declared.hits.Hit.{Hit}
 use Rattle.proto.specs.declared.message.Request.{Request}
 use Rattle.proto.specs.declared.message.Reply.{Reply}
-use Rattle.proto.specs.declared.message.Reply.TheVariants.{Stored, NotStored, Exists, NotFound, Values, Deleted, Number, Touched, Flushed, TooLarge, NoMemory}
-use Rattle.proto.specs.declared.message.Reply.TheVariants.{NotNumber, NoCas}
-use Rattle.proto.specs.declared.message.Reply.TheVariants as replies
+use Rattle.proto.specs.declared.message.Reply.TheVariants.{Values, NoMemory}
 use Rattle.proto.specs.Sizes.{Sizes, item_limit}
 use Rattle.proto.specs.Cache.{Entry, Entries, Cache, found_at}
 use Rattle.proto.specs.Commands.{Outcome, act}
@@ -16,6 +14,7 @@ use Rattle.proto.specs.Steps.{Step, MayEvict, IsDated, IsRefused, has_hits, with
 use Rattle.proto.proofs.CacheLemmas.{without-nil, remove-insert}
 use Rattle.proto.proofs.StepLemmas.{dated-insert, live_dated, insert-same}
 use Rattle.proto.proofs.DeadlineLemmas.{may_be_exact}
+use Rattle.proto.proofs.Outcomes.{answers_act}
 use Rattle.proto.specs.Cache.{has_arrived}
 use Rattle.engine.specs.declared.commands.Engine.{Engine}
 use Rattle.engine.specs.Written.{IsWritten}
@@ -23,7 +22,6 @@ use Rattle.engine.specs.Members.{MapOf}
 use Rattle.engine.specs.Keeping.{StaysKept}
 use Rattle.engine.specs.Outcomes.{outcome_at, needs_memory}
 use Rattle.engine.specs.Engines.{Way, way_of, cache_in, Changes, IsDenied, Leaves, LeavesExecuted, IsHandled}
-use Rattle.engine.proofs.Refusals.{answers_act}
 
 -- ---- a write that forgets nothing and gives exactly the deadline asked for
 
@@ -143,20 +141,7 @@ wants_memory : (stored : Option (List ℕ)) (answered : Reply) → (is_some stor
     → IsSome stored ⊎ ((h : Hit) × (hits : List Hit) × (answered ≡ Values (h ∷ hits)))
 wants_memory (Some key) answered e = inl refl
 wants_memory None (Values (h ∷ hits)) e = inr (h, hits, refl)
-wants_memory None (Values []) e = absurd (true≢false (sym e))
-wants_memory None (Number n) e = absurd (true≢false (sym e))
-wants_memory None Stored e = absurd (true≢false (sym e))
-wants_memory None NotStored e = absurd (true≢false (sym e))
-wants_memory None Exists e = absurd (true≢false (sym e))
-wants_memory None NotFound e = absurd (true≢false (sym e))
-wants_memory None Deleted e = absurd (true≢false (sym e))
-wants_memory None Touched e = absurd (true≢false (sym e))
-wants_memory None Flushed e = absurd (true≢false (sym e))
-wants_memory None TooLarge e = absurd (true≢false (sym e))
-wants_memory None NoMemory e = absurd (true≢false (sym e))
-wants_memory None NotNumber e = absurd (true≢false (sym e))
-wants_memory None NoCas e = absurd (true≢false (sym e))
-wants_memory None (replies.Stats stats) e = absurd (true≢false (sym e))
+wants_memory None _ e = absurd (true≢false (sym e))
 
 -- where memory was refused, the cache stays
 denied_same : {M P : Type 0} (m : MapOf M P) (old new : Engine M) (done : Outcome) (reply : Reply)
@@ -211,7 +196,7 @@ pub refused_stays : {M P : Type 0} (m : MapOf M P) (old : Engine M) (t : ℕ) (q
     → reply ≡ NoMemory → cache_in m.entries new ≡ found_at (cache_in m.entries old) t
 refused_stays m old t q reply new h is =
     elim h.leaves.gives [
-      | inl d ↦ absurd (answers_act (item_limit (m.sizes old.map)) (found_at (cache_in m.entries old) t) t q
+      | inl d ↦ absurd (answers_act (item_limit (m.sizes old.map)) (cache_in m.entries old) t q
           (sym d.reply_is ∙ is))
       | inr d ↦
           let done = outcome_at (m.sizes old.map) (cache_in m.entries old) t q in
@@ -225,7 +210,7 @@ pub none_refused : {M P : Type 0} (m : MapOf M P) (old : Engine M) (t : ℕ) (q 
     → needs_memory m.may_refuse (outcome_at (m.sizes old.map) (cache_in m.entries old) t q) ≡ false → reply ≢ NoMemory
 none_refused m old t q reply new h free is =
     elim h.leaves.gives [
-      | inl d ↦ answers_act (item_limit (m.sizes old.map)) (found_at (cache_in m.entries old) t) t q
+      | inl d ↦ answers_act (item_limit (m.sizes old.map)) (cache_in m.entries old) t q
           (sym d.reply_is ∙ is)
       | inr d ↦ let both = sym free ∙ d.cause in cc
     ]

@@ -4,40 +4,25 @@ use Rattle.std.specs.Prelude.{if◌then◌else◌}
 use Rattle.std.specs.FinMap as map
 use Rattle.proto.specs.declared.message.Request.{Request}
 use Rattle.proto.specs.declared.message.Reply.{Reply}
-use Rattle.proto.specs.declared.message.Reply.TheVariants.{Stored, NotStored, Exists, NotFound, Values, Deleted, Number, Touched, Flushed, TooLarge, NoMemory}
-use Rattle.proto.specs.declared.message.Reply.TheVariants as replies
-use Rattle.proto.specs.declared.message.Reply.TheVariants.{NotNumber, NoCas}
+use Rattle.proto.specs.declared.message.Reply.TheVariants.{NoMemory}
 use Rattle.proto.specs.Sizes.{Sizes, item_limit}
 use Rattle.proto.specs.Cache.{Entries, Cache, found_at}
 use Rattle.proto.specs.Commands.{Outcome}
 use Rattle.proto.specs.Steps.{IsDated, deadline_at}
 use Rattle.proto.specs.Stored.{StoredItem, stored_item_of, item_stored, is_no_memory}
 use Rattle.proto.proofs.StepLemmas.{get-stored, deadline_at-insert, dated-exactly}
+use Rattle.proto.proofs.Outcomes.{answers_act, AddsNone, none_act}
 use Rattle.engine.specs.declared.commands.Engine.{Engine}
 use Rattle.engine.specs.Members.{MapOf}
 use Rattle.engine.specs.Outcomes.{outcome_at}
 use Rattle.engine.specs.Keeping.{IsWithinBound, AddsNoDeadline, stored_in, KeepsAll}
 use Rattle.engine.specs.Engines.{Way, way_of, cache_in, Changes, IsStored, IsHandled}
-use Rattle.engine.proofs.Refusals.{answers_act}
-use Rattle.engine.proofs.NoDeadlines.{AddsNone, none_act}
 
 -- a request that is out of memory stores no item, and any other the outcome's
 pub answered_item : (reply : Reply) (items : List StoredItem) → (reply ≡ NoMemory → ⊥)
     → (if is_no_memory reply then [] else items) ≡ items
-answered_item Stored items other = refl
-answered_item NotStored items other = refl
-answered_item Exists items other = refl
-answered_item NotFound items other = refl
-answered_item (Values hits) items other = refl
-answered_item Deleted items other = refl
-answered_item (Number n) items other = refl
-answered_item Touched items other = refl
-answered_item Flushed items other = refl
-answered_item TooLarge items other = refl
 answered_item NoMemory items other = absurd (other refl)
-answered_item (replies.Stats stats) items other = refl
-answered_item NotNumber items other = refl
-answered_item NoCas items other = refl
+answered_item _ items other = refl
 
 -- what a map leaves of what was asked for, where items are kept
 record IsKept {M P : Type 0} (m : MapOf M P) (t : ℕ) (reply : Reply) (asked : Entries) (stored : Option (List ℕ))
@@ -96,7 +81,7 @@ pub kept_from_handled : {M P : Type 0} (m : MapOf M P) (old : Engine M) (t : ℕ
     (λ (engine : Engine M) items. m.keeps engine.map items) old t q reply new
 kept_from_handled m old t q reply new h items keeps sets within =
     let sizes = m.sizes old.map in
-    let before = found_at (cache_in m.entries old) t in
+    let before = cache_in m.entries old in
     let done = outcome_at sizes (cache_in m.entries old) t q in
     let found_keeps : m.keeps h.found.map items = h.kept items keeps in
     elim h.leaves.gives [

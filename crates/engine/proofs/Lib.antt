@@ -2,7 +2,6 @@ pub mod Digits
 pub mod HitLemmas
 pub mod CountLemmas
 pub mod Refusals
-pub mod NoDeadlines
 pub mod EngineLemmas
 pub mod TouchLemmas
 pub mod JoinLemmas

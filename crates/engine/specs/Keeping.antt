@@ -7,7 +7,8 @@ use Rattle.proto.specs.declared.message.Reply.TheVariants.{NoMemory}
 use Rattle.proto.specs.Sizes.{Sizes, item_limit}
 use Rattle.proto.specs.Cache.{Entry, Entries, Cache}
 use Rattle.proto.specs.Steps.{IsDated, deadline_at}
-use Rattle.proto.specs.Stored.{StoredItem, stored_item_of, item_stored, is_no_memory, written, spread, SetsNoDeadline}
+use Rattle.proto.specs.Commands.{SetsNoDeadline}
+use Rattle.proto.specs.Stored.{StoredItem, stored_item_of, item_stored, is_no_memory, written, spread}
 use Rattle.engine.specs.Outcomes.{outcome_at}
 
 -- Few enough bytes that all segments but one for each bucket hold them, where each of these has no room left for

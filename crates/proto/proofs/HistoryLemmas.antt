@@ -7,15 +7,15 @@ use Rattle.std.proofs.lemmas.List.{append-nil}
 use Rattle.std.proofs.lemmas.List.Elements.{All-nil, All-cons, All-head, All-tail, All-append}
 use Rattle.proto.specs.declared.logged_clock.ClockStart.{ClockStart}
 use Rattle.proto.specs.declared.terms.Terms.{Terms}
-use Rattle.proto.specs.declared.message.Request.TheVariants.{Get, Stats}
+use Rattle.proto.specs.declared.message.Request.TheVariants.{Stats}
 use Rattle.proto.specs.declared.message.Reply.TheVariants.{NoMemory}
 use Rattle.proto.specs.ClockAnswers.{GivenAnswer, IsRead}
+use Rattle.proto.proofs.Outcomes.{IsGet}
 use Rattle.proto.specs.History.{LegalBy, RefusesBy, MomentsFrom, NumbersFrom, answers_by}
 
 -- an entry that was refused memory is a `get` or a `stats`
 abbrev pub IsRefusedRead : Answered → Type 0
-IsRefusedRead e =
-    e.reply ≡ NoMemory → ((keys : List (List ℕ)) × (with_cas : Bool) × (e.request ≡ Get keys with_cas)) ⊎ (e.request ≡ Stats)
+IsRefusedRead e = e.reply ≡ NoMemory → IsGet e.request ⊎ (e.request ≡ Stats)
 
 abbrev any_start : ClockStart
 any_start = record { unix = None; monotonic = None }

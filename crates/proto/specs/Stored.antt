@@ -1,9 +1,7 @@
 -- The items that requests store: how many bytes in all, and in how many buckets.
-use Rattle.std.specs.Prelude.{◌≡◌, ℕ, ◌+◌, ⊤, Bool, true, false, List, [], ◌∷◌, length, map, ◌==◌, if◌then◌else◌, Option, Some, None, pos, sum_by}
+use Rattle.std.specs.Prelude.{ℕ, ◌+◌, Bool, true, false, List, [], ◌∷◌, length, map, ◌==◌, if◌then◌else◌, Option, Some, None, sum_by}
 use Rattle.std.specs.List.{list_any}
 use Rattle.std.specs.FinMap as finite
-use Rattle.proto.specs.declared.message.Request.{Request}
-use Rattle.proto.specs.declared.message.Request.TheVariants.{Set, Add, Replace, Cas, Touch}
 use Rattle.proto.specs.declared.message.Reply.{Reply}
 use Rattle.proto.specs.declared.message.Reply.TheVariants.{NoMemory}
 use Rattle.proto.specs.Sizes.{item_size}
@@ -43,11 +41,3 @@ written items = sum_by (λ i. i.size) items
 -- the number of different buckets among them
 abbrev pub spread : List StoredItem → ℕ
 spread items = different (map (λ i. i.bucket) items)
-
-abbrev pub SetsNoDeadline : Request → Type 0
-SetsNoDeadline (Set p) = p.exptime ≡ pos 0
-SetsNoDeadline (Add p) = p.exptime ≡ pos 0
-SetsNoDeadline (Replace p) = p.exptime ≡ pos 0
-SetsNoDeadline (Cas p unique) = p.exptime ≡ pos 0
-SetsNoDeadline (Touch asked) = asked.exptime ≡ pos 0
-SetsNoDeadline _ = ⊤

@@ -4,7 +4,6 @@
 
 mod byte_string;
 mod clock;
-mod command_word;
 mod counts;
 mod dialect;
 mod eviction;
@@ -46,6 +45,7 @@ pub use limits::{
     MAX_ANSWER, MAX_BLOCK, MAX_KEPT, MAX_KEY, MAX_LENIENT_BLOCK, MAX_LENIENT_LINE, MAX_LINE,
     MAX_POSTS, MAX_SESSIONS, MAX_WORKERS, MIN_ITEM_SIZE, WINDOW,
 };
+pub use line::RequestView;
 pub use message::{FatalKind, LocalKind, Message, Next, Put, Reply, Request, Touch};
 pub use next::{next_message, next_message_in, to_message};
 pub use no_memory::NoMemory;
@@ -56,5 +56,5 @@ pub use system_clock::{ClockAnswer, SystemClock};
 pub use terms::Terms;
 pub use trace::{Noted, Trace};
 pub use version::VERSION;
-pub use view::{MessageView, NextView, RequestView, next_view, next_view_behind, next_view_in};
+pub use view::{MessageView, NextView, next_view, next_view_behind, next_view_in};
 pub use words::{Words, number};

@@ -1,10 +1,10 @@
 //! The line of a storage command, and how it is read.
 
 ghost use Rattle.std.specs.Prelude.{◌≡◌, option_map};
-ghost use Rattle.proto.specs.PlainReader.{storage, quiet_in, storage_in};
-ghost use Rattle.proto.specs.Heads.{storage_line_of, tail_of};
+ghost use Rattle.proto.specs.PlainReader.{storage, quiet_in, storage_in, tail_of};
+ghost use Rattle.proto.specs.Views.{storage_line_of};
 
-use crate::command_word::StorageWord;
+use crate::line::StorageWord;
 use crate::words::{MAX_TEN_DIGITS, Words};
 
 /// How a storage command stores; `Cas` has the cas number that the entry is to have.

@@ -4,6 +4,7 @@ ghost use Rattle.std.specs.Prelude.{◌≡◌, ◌++◌, [], ◌∷◌, Option};
 ghost use Rattle.std.specs.declared.time.Instant.{Instant};
 ghost use Rattle.proto.specs.ClockAnswers.{unix_seconds, seconds_between, seconds_since};
 
+use crate::clock::Clock;
 use crate::logged_clock::{ClockReading, LoggedClock};
 use crate::trace::Trace;
 use std::marker::Model;
@@ -106,5 +107,25 @@ impl<R: time::Clock + Drop> SystemClock<R> {
         let mut read = Trace::new();
         read.note_as(&reading);
         ClockAnswer { seconds, read }
+    }
+}
+
+/// It tells its answers, one for each reading of the monotonic clock.
+impl<R: time::Clock + Drop> Clock for SystemClock<R> {
+    ghost use Rattle.std.specs.Prelude.{⊤, Some, map};
+    ghost use Rattle.proto.specs.ClockAnswers.{seconds_since};
+
+    ghost told = { λ c. Some (map (seconds_since c.start) c.readings) };
+
+    ghost leads_to = { λ _ _. ⊤ };
+
+    ghost start = { λ c. Some c.start };
+
+    ghost leads_reflexive = { λ _. tt };
+
+    ghost leads_transitive = { λ _ _ _ _ _. tt };
+
+    fn now(&mut self) -> ClockAnswer {
+        self.now()
     }
 }

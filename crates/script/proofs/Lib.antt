@@ -15,3 +15,4 @@ pub mod Histories
 pub mod Serving
 pub mod Places
 pub mod Running
+pub mod ClockLemmas

@@ -14,5 +14,4 @@ pub mod Players
 pub mod Execution
 pub mod SequentialSessions
 pub mod SequentialReplays
-pub mod Readings
 pub mod ClockLeading

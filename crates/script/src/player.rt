@@ -21,11 +21,10 @@ use crate::sessions::{Sessions, Stage};
 use bytes::Bytes;
 use std::alloc::{AllocError, Global};
 use std::snapshot::Snapshot;
-use worker_port::{Gone, MAX_PIECE, PortEvent, PortRecord};
+use worker_port::{Gone, MAX_PIECE, PortEvent, PortNote, PortRecord};
 
 #[derive(Drop)]
 pub(crate) struct Player {
-    pub(crate) alloc: Global,
     /// The script that was handed in.
     pub(crate) script: Snapshot<Vec<ScriptEvent>>,
     /// The events that weren't played yet, those of closed sessions included.
@@ -90,13 +89,11 @@ fn settle(sessions: &Sessions, events: &mut Remaining)
     }
 }
 
-// The next piece of a send, and a copy of it for the list of events.
-fn next_piece(bytes: &Bytes) -> Result<(Bytes, Bytes), AllocError>
-    ensures { IfOk result (λ r. (r.0 ≡ take 16384 bytes.now) × (r.1 ≡ take 16384 bytes.now)) }
+// The next piece of a send.
+fn next_piece(bytes: &Bytes) -> Result<Bytes, AllocError>
+    ensures { IfOk result (λ piece. piece ≡ take 16384 bytes.now) }
 {
-    let piece = bytes.slice(0..bytes.len().min(MAX_PIECE))?;
-    let copy = piece.clone()?;
-    Ok((piece, copy))
+    bytes.slice(0..bytes.len().min(MAX_PIECE))
 }
 
 impl Player {
@@ -106,7 +103,6 @@ impl Player {
     {
         let script = Snapshot::of(&events);
         Player {
-            alloc,
             script,
             events: Remaining::new(events),
             sessions: Sessions::new(alloc),
@@ -141,7 +137,7 @@ impl Player {
         if self.sessions.open(session).is_err() {
             return PortEvent::Idle;
         }
-        self.records.write(PortRecord::Opened(session));
+        self.records.write(&PortRecord::Opened(session));
         self.events.drop_first();
         PortEvent::Opened(session)
     }
@@ -158,10 +154,11 @@ impl Player {
             Some(&ScriptEvent::Open(session)) => self.open(session),
             Some(ScriptEvent::Send(session, bytes)) => {
                 let session = *session;
-                let Ok((piece, copy)) = next_piece(bytes) else {
+                let Ok(piece) = next_piece(bytes) else {
                     return PortEvent::Idle;
                 };
-                self.records.write(PortRecord::Data(session, copy));
+                self.records
+                    .write(&PortNote::Data(session, piece.as_slice()));
                 self.events.take_piece();
                 PortEvent::Data(session, piece)
             }
@@ -181,7 +178,7 @@ impl Player {
         requires none { in_order self.old.events ≡ [] }
         ensures { PlaysNext self.old result self.new }
     {
-        self.records.write(PortRecord::Ended);
+        self.records.write(&PortRecord::Ended);
         self.ended = true;
         PortEvent::Ended
     }
@@ -216,7 +213,7 @@ impl Player {
         ensures same { sessions.is_session_open self.old.sessions session ≡ false → self.new ≡ self.old }
     {
         if self.sessions.change(session, Stage::Closed) {
-            self.records.write(entry);
+            self.records.write(&entry);
         }
     }
 
@@ -246,13 +243,10 @@ impl Player {
         ensures kept { result ≡ true → Keeps self.old session bytes.now self.new }
         ensures same { result ≡ false → SamePlayer self.old self.new }
     {
-        let Ok(copy) = Bytes::copy_from_slice(self.alloc, bytes) else {
-            return false;
-        };
         if self.sessions.accept(session, bytes).is_err() {
             return false;
         }
-        self.records.write(PortRecord::Accepted(session, copy));
+        self.records.write(&PortNote::Accepted(session, bytes));
         true
     }
 

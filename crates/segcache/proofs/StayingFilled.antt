@@ -16,13 +16,13 @@ use Rattle.proto.specs.Stored.{StoredItem, stored_item_of, item_stored, is_no_me
 use Rattle.proto.proofs.Options.{none_is_some}
 use Rattle.proto.proofs.CacheLemmas.{entry_size, without-nil}
 use Rattle.proto.proofs.StepLemmas.{get-stored, dated-insert, dated-exactly, live_dated, insert-same}
+use Rattle.proto.proofs.Outcomes.{answers_act}
 use Rattle.engine.specs.declared.commands.Engine.{Engine}
 use Rattle.engine.specs.Counting.{CountsEach, keys_of}
 use Rattle.engine.specs.Keeping.{ForgetsNone}
 use Rattle.engine.specs.Outcomes.{outcome_at}
 use Rattle.engine.specs.Engines.{Way, way_of}
 use Rattle.engine.proofs.KeepingLemmas.{answered_item}
-use Rattle.engine.proofs.Refusals.{answers_act}
 use Rattle.segments.specs.Pools.{PoolState, item_in}
 use Rattle.segments.specs.Changes.{with_read, with_item_at}
 use Rattle.segments.specs.Items.{read_again}
@@ -228,7 +228,7 @@ stays_filled before t q reply after step moment h filled little =
     let done = outcome_at (sizes_in before) (segmented_cache before) t q in
     let found = h.found in
     let pool = h.is_found.pool in
-    let other = answers_act (item_limit (sizes_in before)) (found_at (segmented_cache before) t) t q in
+    let other = answers_act (item_limit (sizes_in before)) (segmented_cache before) t q in
     let leaves : LeavesFilled t found done reply after.map =
     subst (λ (u : ℕ). LeavesFilled u found done reply after.map) h.is_found.moment
     (leaves_filled (way_of q before.in_place) found after.map done reply h.is_found.kept other h.leaves) in

@@ -9,8 +9,7 @@ use Rattle.exchange.specs.Ends.{ExchangeId}
 use Rattle.worker_port.specs.Ports.{PortTrace}
 use Rattle.net.specs.declared.port.MioPort.{MioPort}
 use Rattle.net.specs.Traces.{trace_of, IsNew}
-use Rattle.storage_thread.specs.declared.unix_clock.UnixClock.{UnixClock}
-use Rattle.proto.specs.ClockAnswers.{seconds_since}
+use Rattle.proto.specs.ClockAnswers.{ClockLog, seconds_since}
 use Rattle.segcache.specs.StoreState.{Store}
 use Rattle.group.specs.declared.report.GroupReport.{GroupReport}
 use Rattle.group.specs.Headline.{IsRun}
@@ -21,8 +20,8 @@ abbrev pub socket_told : {R : Type 0} → MioPort R → Option PortTrace
 socket_told port = Some (trace_of port.served)
 
 -- what the system's clock tells
-abbrev pub clock_told : {R : Type 0} → UnixClock R → Option (List ℕ)
-clock_told clock = Some (map (seconds_since clock.system.start) clock.system.readings)
+abbrev pub clock_told : ClockLog → Option (List ℕ)
+clock_told clock = Some (map (seconds_since clock.start) clock.readings)
 
 -- each is the port of its worker at this exchange, of which nothing was told
 abbrev pub AreNewPorts : {R : Type 0} → Sizes → Dialect → ExchangeId → List (MioPort R) → Type 0
@@ -32,13 +31,13 @@ AreNewPorts {R} sizes d exchange ports =
 -- A group ran as the options say over new ports and a new store, both of these sizes, and over the system's clock, which
 -- was not read yet, and left this report. Each answer of its clock is the seconds of a reading.
 pub record IsServed {R : Type 0} (sizes : Sizes) (options : ServeOptions)
-    (report : GroupReport (MioPort R) (UnixClock R)) : Type 0 where
+    (report : GroupReport (MioPort R) ClockLog) : Type 0 where
   pub exchange : ExchangeId
   pub ports : List (MioPort R)
   pub new_ports : AreNewPorts sizes options.dialect exchange ports
   pub count : length ports ≡ options.workers
   pub store : Store
   pub new_store : IsNewStore sizes options store
-  pub clock : UnixClock R
-  pub unread : clock.system.readings ≡ []
+  pub clock : ClockLog
+  pub unread : clock.readings ≡ []
   pub run : IsRun socket_told (λ _ _. ⊤) clock_told (λ _ _. ⊤) ⊤ false sizes ports clock report

@@ -6,6 +6,7 @@ ghost use Rattle.std.specs.Io.KnownBytes.{Appends};
 ghost use Rattle.serving.specs.Listening.{IsListeningLine};
 ghost use Rattle.serving.specs.NewStores.{IsNewStore};
 ghost use Rattle.worker_port.specs.Giving.{by_system_clock};
+ghost use Rattle.proto.specs.ClockAnswers.{ClockLog};
 ghost use Rattle.net.specs.Traces.{trace_of, IsNew};
 ghost use Rattle.serving.specs.Runs.{AreNewPorts, IsServed};
 
@@ -15,7 +16,7 @@ use command_line::{ServeOptions, on_one_line, options_in_force};
 use exchange::{Exchange, ExchangeName};
 use group::{Config, GroupReport, run_group};
 use net::{Hand, ListenReport, Listener, MioPort, NetFault, Owner, StreamSender};
-use proto::{Geometry, MAX_SESSIONS, Terms};
+use proto::{Geometry, MAX_SESSIONS, SystemClock, Terms};
 use segcache::Store;
 use std::alloc::Global;
 use std::io::{Eprint, Write};
@@ -23,11 +24,10 @@ use std::net::Net;
 use std::sync::Wait;
 use std::thread::{self, JoinHandle, Threads};
 use std::time;
-use storage_thread::UnixClock;
 use worker::OpenGate;
 
 /// What a served group leaves.
-pub type Report<H> = GroupReport<MioPort<H>, UnixClock<H>>;
+pub type Report<H> = GroupReport<MioPort<H>, SystemClock<H>>;
 
 /// That it can't listen, for this reason.
 fn cannot_listen(alloc: Global, options: &ServeOptions, fault: NetFault) -> Fault {
@@ -234,7 +234,7 @@ where
         dialect: options.dialect,
         spin: options.spin,
     };
-    let clock = UnixClock::new(rt);
+    let clock = SystemClock::new(rt);
     let report = run_group(&rt, alloc, ports, exchange, config, store, clock, &OpenGate)?;
     Ok(report)
 }
@@ -344,7 +344,7 @@ where
         × IsListeningLine (string_bytes options.entry.now.listen) port line
         × Appends (W.contents out.old) (W.contents out.new) line) }
     // there was such a report
-    ensures served { OnOk result ((report : GroupReport (MioPort H) (UnixClock H))
+    ensures served { OnOk result ((report : GroupReport (MioPort H) ClockLog)
         × IsServed geometry options.entry.now report) }
 {
     serve(rt, alloc, options, geometry, seed, out)?;

@@ -134,20 +134,10 @@ some (x ∷ xs) ys lt = omega arith
 
 -- each reply has bytes
 shown : (r : Reply) → 0 < length (reply_bytes r)
-shown replies.Stored = omega arith
-shown replies.NotStored = omega arith
-shown replies.Exists = omega arith
-shown replies.NotFound = omega arith
 shown (replies.Values hits) = some (flat_map hit_bytes hits) (codes "END\r\n") (omega arith)
-shown replies.Deleted = omega arith
 shown (replies.Number n) = some (decimal n) line_end (omega arith)
-shown replies.Touched = omega arith
-shown replies.Flushed = omega arith
-shown replies.TooLarge = omega arith
-shown replies.NoMemory = omega arith
-shown replies.NotNumber = omega arith
-shown replies.NoCas = omega arith
 shown (replies.Stats lines) = some lines (codes "END\r\n") (omega arith)
+shown _ = omega arith
 
 -- of two lists that are nothing together the first is nothing
 none_front : (xs ys : List ℕ) → xs ++ ys ≡ [] → length xs ≡ 0
@@ -167,20 +157,11 @@ silent_reply (Fatal kind) ms r e none = absurd cc
 -- a message to which nothing is said at once has no answer
 pub silent_local : (m : Message) (ms : List Message) → is_ask m ≡ false → said (m ∷ ms) [] ≡ [] → IsTrue (is_silent m)
 silent_local (Ask q quiet) ms e none = absurd cc
-silent_local (Local local.Unknown) ms e none = absurd (let l = ap length none in omega (arith, l))
-silent_local (Local local.BadLine) ms e none = absurd (let l = ap length none in omega (arith, l))
-silent_local (Local local.Version) ms e none = absurd (let l = ap length none in omega (arith, l))
-silent_local (Local local.Verbosity) ms e none = absurd (let l = ap length none in omega (arith, l))
-silent_local (Local local.End) ms e none = absurd (let l = ap length none in omega (arith, l))
 silent_local (Local local.Silent) ms e none = refl
-silent_local (Local (local.TooLarge false)) ms e none = absurd (let l = ap length none in omega (arith, l))
 silent_local (Local (local.TooLarge true)) ms e none = refl
 silent_local Quit ms e none = refl
-silent_local (Fatal fatal.BadLine) ms e none = absurd (let l = ap length none in omega (arith, l))
-silent_local (Fatal fatal.LongLine) ms e none = absurd (let l = ap length none in omega (arith, l))
-silent_local (Fatal fatal.BadChunk) ms e none = absurd (let l = ap length none in omega (arith, l))
-silent_local (Fatal fatal.TooLarge) ms e none = absurd (let l = ap length none in omega (arith, l))
 silent_local (Fatal fatal.Binary) ms e none = refl
+silent_local _ ms e none = absurd (let l = ap length none in omega (arith, l))
 
 -- of two lists that are nothing together the second is nothing
 pub none_behind : (xs ys : List ℕ) → xs ++ ys ≡ [] → ys ≡ []

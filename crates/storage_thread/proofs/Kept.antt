@@ -9,13 +9,15 @@ use Rattle.proto.specs.declared.message.Reply.TheVariants.{NoMemory}
 use Rattle.proto.specs.Sizes.{Sizes}
 use Rattle.proto.specs.Cache.{Cache, empty_cache}
 use Rattle.proto.specs.History.{Chain}
-use Rattle.proto.specs.Stored.{StoredItem, is_no_memory, written, SetsNoDeadline}
+use Rattle.proto.specs.Commands.{SetsNoDeadline}
+use Rattle.proto.specs.Stored.{StoredItem, is_no_memory, written}
 use Rattle.std.proofs.Common.{◌∙◌, ℕ, ◌≢◌, Bool, true, false, Some, None, inl, inr}
 use Rattle.std.specs.Prelude.{if◌then◌else◌}
 use Rattle.proto.specs.declared.message.Request.{Request}
-use Rattle.proto.specs.declared.message.Request.TheVariants.{Get, Stats}
+use Rattle.proto.specs.declared.message.Request.TheVariants.{Stats}
 use Rattle.proto.specs.declared.message.Reply.{Reply}
 use Rattle.proto.proofs.HistoryLemmas.{IsRefusedRead}
+use Rattle.proto.proofs.Outcomes.{IsGet}
 use Rattle.engine.specs.Outcomes.{outcome_at, needs_memory}
 use Rattle.engine.specs.Keeping.{IsWithinBound, stored_in, ForgetsNone}
 use Rattle.engine.specs.Reaching.{last_cache}
@@ -101,7 +103,7 @@ needs_none false sizes before t q is = rw is refl
 
 -- an entry that is refused memory, by the reply of its store, is a `get` or a `stats`
 pub refused_told : (e : Answered) (first : Reply) → (first ≡ e.reply) ⊎ (e.request ≡ Stats)
-    → (first ≡ NoMemory → (keys : List (List ℕ)) × (with_cas : Bool) × (e.request ≡ Get keys with_cas)) → IsRefusedRead e
+    → (first ≡ NoMemory → IsGet e.request) → IsRefusedRead e
 refused_told e first told read none = elim told [ inl same ↦ inl (read (same ∙ none)) | inr is ↦ inr is ]
 
 -- what an entry keeps, by the reply of its store

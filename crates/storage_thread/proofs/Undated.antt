@@ -9,23 +9,21 @@ use Rattle.std.proofs.lemmas.Nat.{mul-le}
 use Rattle.proto.specs.declared.history.Answered.{Answered}
 use Rattle.proto.specs.declared.message.Request.{Request}
 use Rattle.proto.specs.declared.message.Reply.{Reply}
-use Rattle.proto.specs.declared.message.Reply.TheVariants.{Stored, NotStored, Exists, NotFound, Values, Deleted, Number, Touched, Flushed, TooLarge, NoMemory}
-use Rattle.proto.specs.declared.message.Reply.TheVariants.{NotNumber, NoCas}
-use Rattle.proto.specs.declared.message.Reply.TheVariants as replies
+use Rattle.proto.specs.declared.message.Reply.TheVariants.{NoMemory}
 use Rattle.proto.specs.Sizes.{Sizes, item_limit, item_size}
 use Rattle.proto.specs.Cache.{Entry, Entries, no_entries, Cache, empty_cache, has_arrived, live, found_at}
-use Rattle.proto.specs.Commands.{Outcome}
+use Rattle.proto.specs.Commands.{Outcome, SetsNoDeadline}
 use Rattle.proto.specs.Buckets.{time_to_live, bucket_of}
 use Rattle.proto.specs.Steps.{size_at, deadline_at, MayBeDated, IsDated, Step}
 use Rattle.proto.specs.History.{Chain}
-use Rattle.proto.specs.Stored.{StoredItem, stored_item_of, item_stored, is_no_memory, written, spread, SetsNoDeadline}
+use Rattle.proto.specs.Stored.{StoredItem, stored_item_of, item_stored, is_no_memory, written, spread}
 use Rattle.proto.proofs.Options.{none_is_some}
 use Rattle.proto.proofs.CacheLemmas.{is_live, if_live, get-no_entries, get-live, contains_bytes, get-without}
 use Rattle.proto.proofs.StepLemmas.{none_dated, insert-same}
+use Rattle.proto.proofs.Outcomes.{deadline_in, none_act}
 use Rattle.engine.specs.Outcomes.{outcome_at}
 use Rattle.engine.specs.Keeping.{IsWithinBound, stored_in, ForgetsNone}
 use Rattle.engine.specs.Reaching.{last_cache}
-use Rattle.engine.proofs.NoDeadlines.{deadline_in, none_act}
 use Rattle.storage_thread.specs.Keeping.{stored_size}
 
 -- ---- entries
@@ -61,7 +59,7 @@ undated_found before t none = by_pending (has_arrived before.pending t)
 pub undated_outcome : (sizes : Sizes) (before : Cache) (t : ℕ) (q : Request) → SetsNoDeadline q
     → NoneDated before.entries → NoneDated (outcome_at sizes before t q).entries
 undated_outcome sizes before t q sets none key =
-    elim (none_act (item_limit sizes) (found_at before t) t q sets key) [
+    elim (none_act (item_limit sizes) before t q sets key) [
       | inl undated ↦ undated
       | inr same ↦ same ∙ undated_found before t none key
     ]
@@ -173,20 +171,8 @@ stored_at t done (Some key) = item_bytes t key (finite.get done.entries key)
 -- the size of the item that a reply leaves stored
 by_reply : (t : ℕ) (done : Outcome) (reply : Reply)
     → written (if is_no_memory reply then [] else item_stored t done done.stored) ≡ stored_size done reply
-by_reply t done Stored = stored_at t done done.stored
-by_reply t done NotStored = stored_at t done done.stored
-by_reply t done Exists = stored_at t done done.stored
-by_reply t done NotFound = stored_at t done done.stored
-by_reply t done (Values hits) = stored_at t done done.stored
-by_reply t done Deleted = stored_at t done done.stored
-by_reply t done (Number n) = stored_at t done done.stored
-by_reply t done Touched = stored_at t done done.stored
-by_reply t done Flushed = stored_at t done done.stored
-by_reply t done TooLarge = stored_at t done done.stored
 by_reply t done NoMemory = refl
-by_reply t done NotNumber = stored_at t done done.stored
-by_reply t done NoCas = stored_at t done done.stored
-by_reply t done (replies.Stats stats) = stored_at t done done.stored
+by_reply t done _ = stored_at t done done.stored
 
 -- the size of the item that a request stores
 pub written_in : (sizes : Sizes) (before : Cache) (t : ℕ) (q : Request) (reply : Reply)

@@ -8,10 +8,10 @@ use Rattle.proto.specs.declared.message.Reply.TheVariants.{NoMemory}
 use Rattle.proto.specs.Sizes.{Sizes}
 use Rattle.proto.specs.Cache.{Cache, empty_cache}
 use Rattle.proto.specs.Buckets.{bucket_of}
-use Rattle.proto.specs.Commands.{Outcome}
+use Rattle.proto.specs.Commands.{Outcome, SetsNoDeadline}
 use Rattle.proto.specs.Steps.{size_at}
 use Rattle.proto.specs.History.{Chain}
-use Rattle.proto.specs.Stored.{StoredItem, written, SetsNoDeadline}
+use Rattle.proto.specs.Stored.{StoredItem, written}
 use Rattle.exchange.specs.Beginnings.{StartsWith}
 use Rattle.engine.specs.Outcomes.{outcome_at}
 use Rattle.engine.specs.Reaching.{last_cache}

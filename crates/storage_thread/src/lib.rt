@@ -4,7 +4,5 @@
 
 mod serving;
 mod telling;
-mod unix_clock;
 
 pub use serving::{StorageReport, next_moment, run_storage};
-pub use unix_clock::UnixClock;

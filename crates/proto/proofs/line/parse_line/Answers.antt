@@ -6,7 +6,7 @@ use Rattle.proto.specs.declared.message.LocalKind.TheVariants as local
 use Rattle.proto.specs.declared.message.FatalKind.TheVariants as fatal
 use Rattle.proto.specs.declared.view.MessageView.{MessageView}
 use Rattle.proto.specs.declared.view.MessageView.TheVariants as messages
-use Rattle.proto.specs.Heads.{message_of, line_of}
+use Rattle.proto.specs.Views.{message_of, line_of}
 use Rattle.proto.specs.PlainReader.{meaning_of}
 use Rattle.proto.proofs.ViewLemmas.{storage_line, other_line, unknown_line}
 use Rattle.proto.proofs.line.parse_line.Goals as goal

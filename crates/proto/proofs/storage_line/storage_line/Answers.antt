@@ -1,7 +1,7 @@
 use Rattle.std.proofs.Common.{w64, rules}
 use Rattle.std.proofs.lemmas.Int.{to_z-of_z}
 use mir.Val.{SFits}
-use Rattle.proto.specs.Heads.{tail_of}
+use Rattle.proto.specs.PlainReader.{tail_of}
 use Rattle.proto.proofs.TakenWords.{storage_taken}
 use Rattle.proto.proofs.storage_line.storage_line.Goals as goal
 

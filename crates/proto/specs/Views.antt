@@ -1,0 +1,66 @@
+-- What the parser's views stand for.
+use Rattle.std.specs.Prelude.{◌≡◌, ◌⊎◌, ◌≤◌, ◌<◌, ⊤, ℕ, Bool, List, length, take, Option, Some, None}
+use mathlib.Core.Logic.{inl, inr}
+use Rattle.proto.specs.declared.dialect.Dialect.{Dialect}
+use Rattle.proto.specs.declared.storage_line.StorageLineView.{StorageLineView}
+use Rattle.proto.specs.declared.view.MessageView.{MessageView}
+use Rattle.proto.specs.declared.view.MessageView.TheVariants as messages
+use Rattle.proto.specs.declared.view.NextView.{NextView}
+use Rattle.proto.specs.declared.view.NextView.TheVariants as finds
+use Rattle.proto.specs.declared.line.ParsedLine.{ParsedLine}
+use Rattle.proto.specs.declared.line.ParsedLine.TheVariants as parsed
+use Rattle.proto.specs.declared.message.Message.{Message}
+use Rattle.proto.specs.declared.message.Message.TheVariants.{Ask, Local, Quit, Fatal}
+use Rattle.proto.specs.Grammar.{Spells}
+use Rattle.proto.specs.Needs.{IsUnfinished, IsDropped}
+use Rattle.proto.specs.declared.limits.TheConstants.{MAX_KEPT}
+use Rattle.proto.specs.PlainReader.{StorageLine, Line, message, storage_message, Found, request_of}
+
+abbrev pub storage_line_of : StorageLineView → StorageLine
+storage_line_of h = record {
+  mode = h.mode;
+  key = h.key.now;
+  flags = h.flags;
+  exptime = h.exptime;
+  size = h.size;
+  quiet = h.noreply;
+}
+
+abbrev pub message_of : MessageView → Message
+message_of (messages.Request q quiet) = Ask (request_of q) quiet
+message_of (messages.Put head block) =
+    storage_message (storage_line_of head) block.now
+message_of (messages.Local kind) = Local kind
+message_of messages.Quit = Quit
+message_of (messages.Fatal kind) = Fatal kind
+
+abbrev pub line_of : MessageView → Line
+line_of m = message (message_of m)
+
+abbrev pub parsed_line_of : ParsedLine → Message ⊎ StorageLine
+parsed_line_of (parsed.Message m) = inl (message_of m)
+parsed_line_of (parsed.Block head) = inr (storage_line_of head)
+
+abbrev pub view_seen : NextView → Option Found
+view_seen (finds.Found m n) = Some (message_of m, n)
+view_seen (finds.More need) = None
+view_seen (finds.Drop need quiet) = None
+
+-- the number of bytes that are needed, where nothing was found
+abbrev pub need_seen : NextView → Option ℕ
+need_seen (finds.Found m n) = None
+need_seen (finds.More need) = Some need
+need_seen (finds.Drop need quiet) = Some need
+
+-- the bytes that are needed may be kept, or the message is to be dropped, quiet or not
+abbrev pub IsKeptOr : Bool → NextView → Type 0
+IsKeptOr quiet (finds.Found m n) = ⊤
+IsKeptOr quiet (finds.More need) = need ≤ MAX_KEPT
+IsKeptOr quiet (finds.Drop need q) = (MAX_KEPT < need) × (q ≡ quiet)
+
+-- what the bytes begin with: a message that their first n bytes spell, or no message before need
+-- bytes are there, which may be kept or dropped
+abbrev pub IsView : Dialect → List ℕ → NextView → Type 0
+IsView d b (finds.Found m n) = (n ≤ length b) × Spells d (take n b) (message_of m)
+IsView d b (finds.More need) = IsUnfinished d b need × (need ≤ MAX_KEPT)
+IsView d b (finds.Drop need quiet) = IsDropped d b need quiet

@@ -1,8 +1,8 @@
 """Rates, latencies and processor time of two servers beside each other: for tools/bench.py, which says the words.
 
 In each round both servers are started anew and filled, and run each load one after the other, in a turn that is shuffled. A ratio
-is one of two runs of the same round. Tables have the median of the rounds' ratios and their quartiles, and 'equal' if the
-quartiles have 1 between them.
+is one of two runs of the same round. Tables have the median of the rounds' ratios and their quartiles, and '≈' if these
+have 1 between them.
 """
 import dataclasses
 import os
@@ -92,11 +92,11 @@ def ratio(pair, figure):
 
 
 def shown(ratios):
-    """The median with its quartiles; 'equal' if 1 is between these."""
+    """The median with its quartiles, and '≈' before it if 1 is between these."""
     low, middle, high = quartiles(ratios)
     if low == high:
         return f"{middle:.2f}"
-    return f"{'equal' if low <= 1 <= high else f'{middle:.2f}'} ({low:.2f}–{high:.2f})"
+    return f"{'≈' if low <= 1 <= high else ''}{middle:.2f} ({low:.2f}–{high:.2f})"
 
 
 class Speed:
@@ -229,17 +229,22 @@ def idle_share(server, seconds=1):
     return spent / seconds
 
 
+def medians(pairs, figure, unit):
+    """The median of each server's figure, in this unit."""
+    return "/".join(f"{statistics.median(pair[at][figure] for pair in pairs) / unit:,.0f}" for at in (0, 1))
+
+
 def table(results, names):
     """A row for each load; in its cells a line for each number of workers."""
     sizes = list(next(iter(results.values())))
     many = len(sizes) > 1
-    heads = ["Load", f"1,000 requests a second: {names[0]}, {names[1]}", *FIGURES.values()]
+    heads = ["Load", *(f"{it}: {names[0]}/{names[1]}" for it in ("1,000 requests a second", "p50 in us")), *FIGURES.values()]
     rows = ["| " + " | ".join(heads) + " |", "|---" * len(heads) + "|"]
     for name, by_size in results.items():
-        rates = [", ".join(f"{statistics.median(pair[at]['rate'] for pair in by_size[size]) / 1000:,.0f}" for at in (0, 1)) for size in sizes]
-        cells = [rates] + [[shown(ratio(pair, figure) for pair in by_size[size]) for size in sizes] for figure in FIGURES]
+        cells = [[medians(by_size[size], *it) for size in sizes] for it in (("rate", 1000), ("p50", 1))]
+        cells += [[shown(ratio(pair, figure) for pair in by_size[size]) for size in sizes] for figure in FIGURES]
         if name in FIXED:
-            cells[:2] = [""], [""]
+            cells[0] = cells[2] = [""]
         rows.append(f"| {name}{marks(by_size)} | " + " | ".join("<br>".join(it) for it in cells) + " |")
     said = [f"In each cell a line for {', '.join(map(str, sizes))} workers."] if many else [f"{sizes[0]} workers."]
     if any("(1)" in it for it in rows):

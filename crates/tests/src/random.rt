@@ -166,7 +166,7 @@ fn random_request(
     now: u64,
     list: &ListCache,
 ) -> Result<Request, NoMemory> {
-    match random.below(27) {
+    match random.below(26) {
         0..=4 => random_get(alloc, random),
         pick @ 5..=13 => random_write(alloc, random, now, list, pick),
         pick @ 14..=18 => random_change(alloc, random, pick),
@@ -179,10 +179,10 @@ fn random_request(
                 exptime: put.exptime,
             }))
         }
-        26 => Ok(Request::Stats),
-        _ => Ok(Request::FlushAll {
-            delay: random.below(4),
-        }),
+        _ => match random.below(6) {
+            delay @ 0..=3 => Ok(Request::FlushAll { delay }),
+            _ => Ok(Request::Stats),
+        },
     }
 }
 

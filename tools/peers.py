@@ -1,6 +1,6 @@
 #!/usr/bin/python3
-"""Other people's suites against the proved program: memcached's own tests, pymemcache's, memccapable, those of Cache::Memcached::Fast; and
-a limit of requests a minute by limits, on which Flask-Limiter stands.
+"""Other people's suites against the proved program: memcached's own tests, pymemcache's, memccapable, those of Cache::Memcached::Fast;
+a limit of requests a minute by limits, on which Flask-Limiter stands; and Debian's monitors of memcached.
 
     tools/peers.py [--program PROGRAM] [--only SUITE] [--show]
 
@@ -18,6 +18,7 @@ import signal
 import subprocess
 import sys
 
+import monitors
 from served import OF_THE_PACKAGE, PROGRAM, TOP, Server
 
 HERE = f"{TOP}/tools/peers"
@@ -152,7 +153,14 @@ def limits(program):
     return {"limits/100_a_minute": said.strip().isdigit() and 200 <= int(said) <= MOST_PASSED}
 
 
-SUITES = {"memcached": memcached, "fast": fast, "pymemcache": pymemcache, "memccapable": memccapable, "limits": limits}
+def of_monitors(program):
+    """What they show is told by tools/monitors.py."""
+    monitors.install()
+    return {f"monitors/{name.replace(' ', '_')}": holds for name, holds in monitors.watch(program).items()}
+
+
+SUITES = {"memcached": memcached, "fast": fast, "pymemcache": pymemcache, "memccapable": memccapable, "limits": limits,
+          "monitors": of_monitors}
 
 
 def numbers_of(word):

@@ -1,13 +1,19 @@
-"""A model of the cache by lists, which gives back, merges and clears segments by the program's rules.
+"""A model of the cache by lists, which gives back, merges and clears segments by the program's rules, and counts what a `stats` is told.
 
 It is written from the rules of segments alone (docs/OPERATIONS.md tells them in a user's words): it has lists where
 the program has bytes, and walks where the program has tables.
 """
+import collections
+
 LASTING = 1024  # the bucket of what has no deadline
 VERSION = b"VERSION 1.6.0-segcached-0.6.0\r\n"
 BUCKETS = 1025
 # Lines that are answered without a look at the cache or at the clock.
 LOCAL = (b"version", b"verbosity")
+COUNTED = """cmd_get cmd_set cmd_touch cmd_flush total_items cas_badval out_of_memory get_hits get_misses delete_hits delete_misses incr_hits
+    incr_misses decr_hits decr_misses touch_hits touch_misses cas_hits cas_misses""".split()
+# Which count a reply to `cas` is, and of a `delete`, a `touch` or a change of a number.
+OF_CAS = {b"STORED\r\n": "cas_hits", b"NOT_FOUND\r\n": "cas_misses", b"EXISTS\r\n": "cas_badval"}
 
 
 def bucket_of(ttl):
@@ -77,6 +83,7 @@ class Cache:
         self.segments, self.opens, self.is_least_read, self.is_in_place, self.hand = segments, 0, is_least_read, is_in_place, 0
         self.current, self.cas, self.pending = {}, 0, None
         self.merges = self.clearings = self.given_back = 0
+        self.counts = collections.Counter()
 
     def find(self, key, now):
         item = self.current.get(key)
@@ -162,6 +169,7 @@ class Cache:
                     front[0].items.append(item)
                 else:
                     del self.current[item.key]
+                    self.counts["evicted_by_merge"] += 1
             front[0].hits = sum(item.reads for item in front[0].items)
             self.order = [it for it in self.order if it not in front[1:]]
             self.free += len(front) - 1
@@ -177,6 +185,7 @@ class Cache:
         for item in victim.items:
             if self.is_live(item, now):
                 del self.current[item.key]
+                self.counts["evicted_by_clearing"] += 1
         self.free += 1
         self.clearings += 1
 
@@ -196,10 +205,47 @@ class Cache:
         key, bucket = item.key, bucket_of(ttl)
         self.current.pop(key, None)
         if not self.append(item, bucket, now):
+            self.forget_expired(now)
             if not self.give_back(now) and not self.merge(now):
                 self.clear(now)
             assert self.append(item, bucket, now)
         self.current[key] = item
+
+    def forget_expired(self, now):
+        for key in [key for key, item in self.current.items() if item.segment.is_over(now)]:
+            del self.current[key]
+            self.counts["reclaimed"] += 1
+
+    # ---- what is counted
+
+    def count(self, verb, words, answer):
+        """Counts a request by what it was answered."""
+        counts, name = self.counts, verb.decode()
+        if verb in (b"get", b"gets"):
+            hits = answer.count(b"VALUE key")
+            counts.update(cmd_get=len(words[0]), get_hits=hits, get_misses=len(words[0]) - hits)
+        elif verb in (b"incr", b"decr", b"delete", b"touch"):
+            counts["cmd_touch"] += verb == b"touch"
+            if answer == b"NOT_FOUND\r\n":
+                counts[f"{name}_misses"] += 1
+            elif not answer.startswith(b"CLIENT_ERROR"):
+                counts[f"{name}_hits"] += 1
+        elif verb == b"flush_all":
+            counts["cmd_flush"] += 1
+        else:
+            counts.update(cmd_set=1, total_items=answer == b"STORED\r\n")
+            if verb == b"cas" and answer in OF_CAS:
+                counts[OF_CAS[answer]] += 1
+
+    def told(self):
+        """What a `stats` is told: the counts, and those gauges that the model knows."""
+        told = {name: self.counts[name] for name in COUNTED}
+        size = sum(item.size for item in self.current.values())
+        evicted = [self.counts[name] for name in ("evicted_by_merge", "evicted_by_clearing", "reclaimed")]
+        told.update(curr_items=len(self.current), bytes=size, segment_bytes_dead=len(self.order) * self.segment_size - size)
+        told.update(evictions=evicted[0] + evicted[1], evicted_by_merge=evicted[0], evicted_by_clearing=evicted[1], reclaimed=evicted[2])
+        told.update(merges=self.merges, segments_cleared=self.clearings, segments_emptied=self.given_back, segments_free=self.free)
+        return told
 
     # ---- requests
 
@@ -286,6 +332,17 @@ class Cache:
         return b"OK\r\n"
 
     def answer(self, request, now):
+        """A request's bytes, and what it is answered, counted: of a `stats` what it is told, by names."""
+        verb, *words = request
+        if verb == b"stats":
+            self.begin(now)
+            return b"stats\r\n", self.told()
+        line, answer = self.answer_uncounted(request, now)
+        if verb not in LOCAL:
+            self.count(verb, words, answer)
+        return line, answer
+
+    def answer_uncounted(self, request, now):
         """A request's bytes, and what it is answered. A `cas` number of None is that of what is there, or 0. `append`, `prepend`, `touch`,
         `version` and `verbosity`, and a zero after the key of a `delete`, are for the lenient dialect."""
         verb, *words = request

@@ -1,11 +1,12 @@
 """Random requests, replayed by the program and answered by a model of lists that forgets by the same rules.
 
-Each answer is the same byte for byte. Long runs over small pools give back, merge and clear all the time, and a tick
-between requests lets entries expire. Short ones are chosen by hypothesis, which shortens what fails. Some of either kind are in the
-lenient dialect, with spaces before the ends of lines, and with what that dialect alone takes. Half evict the least read segment, and
-half change values in place.
+Each answer is the same byte for byte, and a `stats` is told what the model counted. Long runs over small pools give back, merge and clear
+all the time, and a tick between requests lets entries expire. Short ones are chosen by hypothesis, which shortens what fails. Some of
+either kind are in the lenient dialect, with spaces before the ends of lines, and with what that dialect alone takes. Half evict the least
+read segment, and half change values in place.
 """
 import concurrent.futures
+import itertools
 import random
 import subprocess
 import tempfile
@@ -45,9 +46,21 @@ def with_spaces(sent):
     return [request.replace(b"\r\n", b" " * (at % 3) + b"\r\n", 1) for at, request in enumerate(sent)]
 
 
+def told(given_bytes, at):
+    """What a `stats` was told by the answer that begins there, by names, and where that ends."""
+    end = given_bytes.index(b"END\r\n", at)
+    lines = [line.split(b" ") for line in given_bytes[at:end].split(b"\r\n")[:-1]]
+    assert all(len(it) == 3 and it[0] == b"STAT" for it in lines) and len({it[1] for it in lines}) == len(lines)
+    return {name.decode(): int(value) for _, name, value in lines if value.isdigit()}, end + len(b"END\r\n")
+
+
 def must_be_answered_as(wanted, given_bytes, sent):
     at = 0
     for turn, answer in enumerate(wanted):
+        if isinstance(answer, dict):
+            found, at = told(given_bytes, at)
+            assert {name: found.get(name) for name in answer} == answer, f"request {turn}, a stats"
+            continue
         got = given_bytes[at : at + len(answer)]
         assert got == answer, f"request {turn}, {sent[turn][:60]!r}"
         at += len(answer)
@@ -61,7 +74,8 @@ JOINS = (b"append", b"prepend")
 
 def random_lenient_request(chance, key, ttls):
     """One of the lines that have no data and that the lenient dialect alone takes; most are touches."""
-    return chance.choice(((b"delete", key, b"0"), (b"version",), (b"verbosity", b"1"), *[(b"touch", key, chance.choice(ttls))] * 5))
+    others = (b"delete", key, b"0"), (b"version",), (b"verbosity", b"1"), (b"stats",)
+    return chance.choice((*others, *[(b"touch", key, chance.choice(ttls))] * 5))
 
 
 def random_request(chance, keys, ttls, is_lenient):
@@ -104,6 +118,8 @@ def long_run(program, number):
     is_least_read, is_in_place = number % 2 == 1, number // 2 % 2 == 1
     chance, cache = random.Random(number), Cache(segment_size, segments, is_least_read, is_in_place)
     requests = (random_request(chance, keys, ttls, bool(dialect)) for _ in range(REQUESTS))
+    # (a lenient one ends with a `stats`)
+    requests = itertools.chain(requests, [(b"stats",)] * bool(dialect))
     sent, wanted = spelled(cache, requests, tick)
     sent = with_spaces(sent) if dialect else sent
     options = dialect + LEAST_READ * is_least_read + IN_PLACE * is_in_place
@@ -182,7 +198,7 @@ def test_any_requests_are_answered_as_by_the_model(program, sizes, tick, parts, 
     requests = sum(parts, []) + reads(0, ALL_KEYS)
     cache = Cache(*sizes, is_least_read, is_in_place)
     if is_lenient:
-        sent, wanted = spelled(cache, map(lenient_form, requests), tick)
+        sent, wanted = spelled(cache, [*map(lenient_form, requests), (b"stats",)], tick)
         sent, dialect = with_spaces(sent), ["--lenient"]
     else:
         (sent, wanted), dialect = spelled(cache, requests, tick), []

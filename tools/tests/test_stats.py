@@ -1,19 +1,23 @@
-"""`stats` of a served program: counts of all connections beside those that clients count themselves, and what monitors read of it."""
+"""`stats` of a served program: counts of all connections beside those that clients count themselves, gauges, and what monitors read of it."""
 import collections
+import contextlib
 import random
 import subprocess
 import sys
 import threading
+import time
 
 import memcache
 import pytest
 from asking import ask
 from pymemcache.client.base import Client
 
+TOO_LARGE = b"SERVER_ERROR object too large for cache\r\n"
 BAD_LINE = b"CLIENT_ERROR bad command line format\r\n"
-# What monitors of Debian need of memcached's fields, as far as it is told.
-NEEDED = """uptime time version pointer_size threads cmd_get cmd_set cmd_flush cmd_touch get_hits get_misses delete_hits delete_misses incr_hits
-    incr_misses decr_hits decr_misses cas_hits cas_misses cas_badval touch_hits touch_misses limit_maxbytes curr_items total_items evictions""".split()
+# What monitors of Debian need of memcached's fields, but for `rusage_user` and `rusage_system`.
+NEEDED = """pid uptime time version pointer_size curr_connections total_connections rejected_connections listen_disabled_num threads cmd_get cmd_set
+    cmd_flush cmd_touch get_hits get_misses delete_hits delete_misses incr_hits incr_misses decr_hits decr_misses cas_hits cas_misses cas_badval
+    touch_hits touch_misses bytes_read bytes_written limit_maxbytes bytes curr_items total_items evictions reclaimed""".split()
 KINDS = "get gets set add replace append prepend cas delete incr decr touch".split()
 TURNS = 400
 
@@ -146,6 +150,107 @@ def test_what_is_evicted_is_counted(serve):
     assert found["curr_items"] + found["evictions"] == 3000 and found["evictions"] > 1000
     assert found["segments"] == 64 and found["limit_maxbytes"] == 64 * 65536 == found["segments"] * found["segment_size"]
     assert found["merges"] > 0 and found["segments_free"] < 4
+    assert found["evicted_by_merge"] + found["evicted_by_clearing"] == found["evictions"] and 0 < found["merge_us_max"] < 1_000_000
+    # (24 bytes, the key and the value, rounded up to 8)
+    assert 3032 * found["curr_items"] >= found["bytes"] > 3024 * found["curr_items"]
+    assert found["bytes"] + found["segment_bytes_dead"] == (64 - found["segments_free"]) * 65536
+
+
+# ---- gauges
+
+def wait_for(stream, **wanted):
+    """Asks until these gauges are told: what a worker did last is told once its turn has ended."""
+    until = time.monotonic() + 10
+    while True:
+        found = told(stream)
+        if all(found[name] == str(it) for name, it in wanted.items()) or time.monotonic() > until:
+            assert {name: found[name] for name in wanted} == {name: str(it) for name, it in wanted.items()}
+            return found
+        time.sleep(0.05)
+
+
+def test_connections_are_told(serve):
+    server = serve("--lenient", "--workers", "2")
+    with server.connect() as stream, contextlib.ExitStack() as others:
+        opened = [others.enter_context(server.connect()) for _ in range(6)]
+        for it in opened:
+            ask(it, b"get none\r\n", b"END\r\n")
+        found = wait_for(stream, curr_connections=7, total_connections=7, connections_left=2 * 16777216 - 7)
+        assert int(found["curr_connections_0"]) + int(found["curr_connections_1"]) == 7 and "curr_connections_2" not in found
+        assert int(found["pid"]) == server.process.pid and found["requests_in_flight"] == "1"
+        for it in opened[:4]:
+            it.close()
+        wait_for(stream, curr_connections=3, total_connections=7, rejected_connections=0, listen_disabled_num=0, connections_waiting=0)
+
+
+def test_full_workers_are_told(serve):
+    """Of 74 connections beside the 1,024 of one worker 64 wait for it, and the others are closed after a second."""
+    server = serve("--lenient", "--workers", "1")
+    with contextlib.ExitStack() as streams:
+        opened = [streams.enter_context(server.connect()) for _ in range(1024)]
+        for it in opened:
+            ask(it, b"get none\r\n", b"END\r\n")
+        for _ in range(74):
+            streams.enter_context(server.connect())
+        wait_for(opened[0], rejected_connections=10, listen_disabled_num=1, curr_connections=1024, connections_waiting=64)
+
+
+def test_bytes_are_told(serve):
+    value = b"set a 0 0 100000\r\n%b\r\n" % (b"v" * 100_000)
+    with serve("--lenient", "--segment-size", "1048576").connect() as stream:
+        ask(stream, value, b"STORED\r\n")
+        ask(stream, b"get none\r\n", b"END\r\n")
+        read, written = len(value) + len(b"get none\r\nstats\r\n"), len(b"STORED\r\nEND\r\n")
+        found = told(stream)
+        # (the answer to this `stats` isn't written yet)
+        assert (int(found["bytes_read"]), int(found["bytes_written"])) == (read, written)
+        assert (found["input_bytes"], found["bytes"]) == ("0", "100032")
+
+
+def test_unread_bytes_are_told(serve):
+    server = serve("--lenient", "--segment-size", "1048576")
+    with server.connect() as stream, server.connect(receive_buffer=65536) as slow:
+        ask(slow, b"set a 0 0 100000\r\n%b\r\n" % (b"v" * 100_000), b"STORED\r\n")
+        slow.sendall(b"get a\r\n" * 120 + b"get unended")
+        until = time.monotonic() + 10
+        while int(told(stream)["output_bytes"]) < 1_048_576 and time.monotonic() < until:
+            time.sleep(0.05)
+        assert 1_048_576 < int(told(stream)["output_bytes"]) < 12_000_000
+        slow.close()
+        wait_for(stream, output_bytes=0, input_bytes=0, curr_connections=1)
+        with server.connect() as other:
+            other.sendall(b"get unended")
+            wait_for(stream, input_bytes=11)
+
+
+def test_what_is_refused_is_told(serve):
+    server = serve("--lenient", "--workers", "2", "--idle", "1")
+    with server.connect() as stream:
+        ask(stream, b"nonsense\r\ngat 0 a\r\nget\r\nincr a\r\n", b"ERROR\r\n" * 2 + BAD_LINE * 2)
+        # (the largest item has 8,192 bytes here, and the largest block that is kept 131,072)
+        ask(stream, b"set a 0 0 9000 noreply\r\n%b\r\nset a 0 0 140000\r\n%b\r\n" % (b"v" * 9000, b"v" * 140_000), TOO_LARGE)
+        for sent in (b"set a 0 0 no\r\n", b"set a 0 0 1\r\ntoo long\r\n", b"\x80binary"):
+            with server.connect() as other:
+                other.sendall(sent)
+                while other.recv(4096):
+                    pass
+        # (then it says nothing for longer than it may)
+        while stream.recv(4096):
+            pass
+    with server.connect() as stream:
+        found = wait_for(stream, idle_kicks=1, closed_malformed=2, closed_binary=1)
+    assert {name: found[name] for name in ("unknown_commands", "bad_lines", "store_too_large")} == {
+        "unknown_commands": "2", "bad_lines": "2", "store_too_large": "2"}
+
+
+def test_busy_times_are_told(serve):
+    server = serve("--lenient", "--workers", "2")
+    with server.connect() as stream:
+        first = {name: int(it) for name, it in told(stream).items() if "_busy_us" in name}
+        time.sleep(1)
+        second = {name: int(it) for name, it in told(stream).items() if "_busy_us" in name}
+    assert set(first) == {"storage_busy_us", "worker_busy_us_0", "worker_busy_us_1"}
+    assert all(0 <= second[name] - first[name] < 300_000 for name in first)
 
 
 ROWS = {

@@ -14,7 +14,7 @@ ghost use Rattle.engine.specs.Written.{MayBeWritten, IsWritten, IsChanged};
 ghost use Rattle.engine.specs.Keeping.{StaysKept, KeepsEntry};
 ghost use Rattle.engine.specs.Counting.{StaysAlike};
 
-use proto::{NoMemory, StatsText};
+use proto::{Gauges, NoMemory};
 use std::hash::FoldHasher;
 
 /// An entry whose value is borrowed: from the map that has it, or from the caller that writes it.
@@ -84,9 +84,11 @@ pub trait LiveMap {
     /// speaks of what it reads.
     fn prefetch(&self, hash: u64);
 
-    /// Adds the lines of its gauges. NoMemory where memory was refused.
-    fn tell(&self, text: StatsText) -> Result<StatsText, NoMemory>
-        ensures told { IfOk result (λ told. told ≡ text) };
+    /// Leaves what it tells of itself for `stats`. No clause speaks of it.
+    fn tell(&self, gauges: &Gauges);
+
+    /// How often room was made so far by forgetting something. No clause speaks of it.
+    fn evictions(&self) -> u64;
 
     /// Moves on to this moment.
     fn advance(&mut self, now: u64)

@@ -5,7 +5,7 @@ ghost use Rattle.engine.specs.Shown.{entry_of};
 ghost use Rattle.engine.specs.PlainEntries.{plain_entries};
 
 use crate::{Engine, EntryRef, LiveMap, StoreMap, has_arrived};
-use proto::{ByteString, Eviction, Geometry, MAX_BLOCK, NoMemory, StatsText};
+use proto::{ByteString, Eviction, Gauge, Gauges, Geometry, MAX_BLOCK, NoMemory};
 use std::alloc::Global;
 use std::collections::BTreeMap;
 use std::hash::FoldHasher;
@@ -119,8 +119,12 @@ impl LiveMap for PlainMap {
 
     fn prefetch(&self, _hash: u64) {}
 
-    fn tell(&self, text: StatsText) -> Result<StatsText, NoMemory> {
-        Ok(text)
+    fn tell(&self, gauges: &Gauges) {
+        gauges.set(Gauge::CurrItems, self.map.len() as u64);
+    }
+
+    fn evictions(&self) -> u64 {
+        0
     }
 
     fn advance(&mut self, now: u64) {

@@ -1,6 +1,6 @@
 //! What the storage thread asks of a store.
 
-ghost use Rattle.std.specs.Prelude.{◌≡◌, ◌≢◌, ℕ, ◌≤◌, Bool, List, IfOk, false};
+ghost use Rattle.std.specs.Prelude.{◌≡◌, ◌≢◌, ℕ, ◌≤◌, Bool, List, false};
 ghost use Rattle.proto.specs.Sizes.{Sizes};
 ghost use Rattle.proto.specs.Cache.{Cache};
 ghost use Rattle.proto.specs.Steps.{Step};
@@ -9,7 +9,7 @@ ghost use Rattle.proto.specs.History.{max_moment};
 ghost use Rattle.engine.specs.Outcomes.{outcome_at, needs_memory};
 ghost use Rattle.engine.specs.Keeping.{KeepsAll};
 
-use proto::{NoMemory, Reply, Request, StatsText};
+use proto::{Gauges, Reply, Request};
 use std::hash::FoldHasher;
 
 /// The greatest moment in seconds.
@@ -44,9 +44,11 @@ pub trait StorageEngine {
     /// speaks of what it reads.
     fn prefetch(&self, hash: u64);
 
-    /// Adds the lines of its gauges. NoMemory where memory was refused.
-    fn tell(&self, text: StatsText) -> Result<StatsText, NoMemory>
-        ensures told { IfOk result (λ told. told ≡ text) };
+    /// Leaves what it tells of itself for `stats`. No clause speaks of it.
+    fn tell(&self, gauges: &Gauges);
+
+    /// How often room was made so far by forgetting something. No clause speaks of it.
+    fn evictions(&self) -> u64;
 
     /// Executes the request at this moment in seconds, which is at most `MAX_MOMENT`. The hits of a `get` may take the
     /// buffer that its keys were lent; no clause speaks of that.

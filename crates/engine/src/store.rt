@@ -19,7 +19,7 @@ ghost use Rattle.engine.specs.Outcomes.{outcome_at, needs_memory};
 
 use crate::scratch::Scratch;
 use crate::{Engine, LiveMap, StorageEngine};
-use proto::{Dialect, Eviction, Geometry, NoMemory, Reply, Request, StatsText};
+use proto::{Dialect, Eviction, Gauges, Geometry, NoMemory, Reply, Request};
 use std::alloc::Global;
 use std::hash::FoldHasher;
 
@@ -172,11 +172,12 @@ impl<M: StoreMap> StorageEngine for Engine<M> {
         self.map.prefetch(hash);
     }
 
-    /// Adds the lines of the map's gauges. NoMemory where memory was refused.
-    fn tell(&self, text: StatsText) -> Result<StatsText, NoMemory>
-        ensures told { IfOk result (λ told. told ≡ text) }
-    {
-        self.map.tell(text)
+    fn tell(&self, gauges: &Gauges) {
+        self.map.tell(gauges);
+    }
+
+    fn evictions(&self) -> u64 {
+        self.map.evictions()
     }
 
     /// Executes the request at this moment, in seconds. The hits of a `get` stand in the buffer that its keys were

@@ -64,6 +64,11 @@ impl IdleTurns {
         }
     }
 
+    /// Whether the next idle turn parks.
+    pub fn parks_next(&self) -> bool {
+        self.announced
+    }
+
     /// Whether the thread has spun often or long enough in this row. One that can't read the clock doesn't spin for a time.
     fn has_spun<R: Clock>(&mut self, rt: &R) -> bool {
         let Some(spin) = self.spin else {

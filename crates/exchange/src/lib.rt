@@ -10,6 +10,7 @@ mod signals;
 mod steps;
 mod storage;
 mod told;
+mod waits;
 mod worker;
 
 pub use idle_turns::IdleTurns;
@@ -19,4 +20,5 @@ pub use proto::{Answered, MAX_POSTS, Posted, WINDOW};
 pub use signals::{ParkingWord, StorageSignals};
 pub use storage::{StorageBatch, StorageEnd};
 pub use told::{ExchangeName, ToldHistory};
+pub use waits::Waits;
 pub use worker::{SentList, WorkerBatch, WorkerEnd};

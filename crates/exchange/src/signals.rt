@@ -1,7 +1,7 @@
-//! What workers and the storage thread leave for each other beside their lanes: words to park on, and hints.
+//! What workers and the storage thread leave for each other beside their lanes: words to park on, gauges, and hints.
 
 use crate::steps::slot_at;
-use proto::{MAX_WORKERS, WINDOW};
+use proto::{Gauge, Gauges, LISTENER_GAUGES, MAX_WORKERS, WINDOW, WORKER_GAUGES};
 use std::alloc::{AllocError, Global};
 use std::hash::{FoldHasher, Hasher};
 use std::sync::Wait;
@@ -56,13 +56,15 @@ impl ParkingWord {
     }
 }
 
-/// The words that the storage thread and the workers park on, and a row of hints, one for each slot of a lane: the hashes of
-/// the keys that the requests on their way begin with. By these storage reads ahead what it will look up. No answer rests on a
-/// hint: one that is missing, or of another request, costs time alone.
+/// The words that the storage thread and the workers park on, what each of them tells of itself, and a row of hints, one for each
+/// slot of a lane: the hashes of the keys that the requests on their way begin with. By these storage reads ahead what it will
+/// look up. No answer rests on a hint: one that is missing, or of another request, costs time alone.
 #[derive(Drop)]
 pub struct StorageSignals {
     parking: ParkingWord,
     workers: Vec<ParkingWord>,
+    gauges: Vec<Gauges>,
+    storage_gauges: Gauges,
     hasher: FoldHasher,
     hints: Vec<AtomicU64>,
     spin: Option<u32>,
@@ -83,8 +85,10 @@ impl StorageSignals {
         spin: Option<u32>,
     ) -> Result<StorageSignals, AllocError> {
         let mut words = Vec::with_capacity(alloc, workers)?;
+        let mut gauges = Vec::with_capacity(alloc, workers)?;
         for _ in 0..workers {
             words.push(ParkingWord::new())?;
+            gauges.push(Gauges::new(alloc)?)?;
         }
         let count = if workers > 1 {
             MAX_WORKERS * WINDOW as usize
@@ -98,6 +102,8 @@ impl StorageSignals {
         Ok(StorageSignals {
             parking: ParkingWord::new(),
             workers: words,
+            gauges,
+            storage_gauges: Gauges::new(alloc)?,
             hasher,
             hints,
             spin,
@@ -127,6 +133,36 @@ impl StorageSignals {
     /// The word that the worker of this number parks on, while it waits for answers.
     pub fn worker_parking(&self, worker: usize) -> Option<&ParkingWord> {
         self.workers.get(worker)
+    }
+
+    /// What the worker of this number tells of itself.
+    pub fn gauges(&self, worker: usize) -> Option<&Gauges> {
+        self.gauges.get(worker)
+    }
+
+    /// What the storage thread tells.
+    pub fn storage_gauges(&self) -> &Gauges {
+        &self.storage_gauges
+    }
+
+    /// Adds up what the workers tell, into what the storage thread does. What the listener tells is as this worker left it.
+    pub fn gather_gauges(&self, worker: usize) {
+        for gauge in WORKER_GAUGES {
+            self.storage_gauges.set(gauge, self.sum_of(gauge));
+        }
+        if let Some(left) = self.gauges.get(worker) {
+            for gauge in LISTENER_GAUGES {
+                self.storage_gauges.set(gauge, left.get(gauge));
+            }
+        }
+    }
+
+    fn sum_of(&self, gauge: Gauge) -> u64 {
+        let mut sum: u64 = 0;
+        for left in &self.gauges {
+            sum = sum.wrapping_add(left.get(gauge));
+        }
+        sum
     }
 
     /// Unparks the worker of this number, if it has parked or is about to.

@@ -18,6 +18,7 @@ use crate::polls::Polls;
 use crate::streams::{OPEN_SESSIONS, Streams};
 use exchange::{ExchangeName, WorkerBatch};
 use mio::{Events, Poll};
+use proto::{Gauge, Gauges};
 use std::alloc::Global;
 use std::mem;
 use std::net::Net;
@@ -48,6 +49,8 @@ pub struct MioPort<R: Drop> {
     has_streams: bool,
     // Some sessions may have been idle for long enough at the last look.
     has_idle: bool,
+    // Sessions that were ended as idle.
+    idle_kicks: u64,
 }
 
 impl<R: Wait + Clock + Net + Drop> MioPort<R> {
@@ -77,6 +80,7 @@ impl<R: Wait + Clock + Net + Drop> MioPort<R> {
             idle_looks: None,
             has_streams: true,
             has_idle: false,
+            idle_kicks: 0,
         })
     }
 }
@@ -138,6 +142,7 @@ impl<R: Wait + Clock + Drop> MioPort<R> {
         }
         if self.has_idle {
             if let Some(event) = self.served.end_idle() {
+                self.idle_kicks = self.idle_kicks.saturating_add(1);
                 return event;
             }
             self.has_idle = false;
@@ -257,5 +262,10 @@ impl<R: Wait + Clock + Drop> Port for MioPort<R> {
 
     fn shut(&mut self, session: u64) {
         self.served.shut(&self.rt, session);
+    }
+
+    fn tell(&self, gauges: &Gauges) {
+        gauges.set(Gauge::IdleKicks, self.idle_kicks);
+        self.hand.tell(gauges);
     }
 }

@@ -6,6 +6,7 @@ ghost use Rattle.proto.specs.ClockAnswers.{GivenAnswer, IsRead};
 use crate::system_clock::ClockAnswer;
 use crate::trace::{Noted, Trace};
 use std::marker::Model;
+use std::time::Instant;
 
 /// A clock, by the list of its answers, where it tells them.
 pub trait Clock: Drop {
@@ -74,6 +75,8 @@ impl Noted<ClockAnswer> for ClockAnswers {
 pub struct AskedClock<C: Clock> {
     pub(crate) clock: C,
     pub(crate) answers: ClockAnswers,
+    /// When the monotonic clock was read last, where it was read. No clause speaks of it.
+    at: Option<Instant>,
 }
 
 impl<C: Clock> AskedClock<C> {
@@ -86,6 +89,7 @@ impl<C: Clock> AskedClock<C> {
         AskedClock {
             clock,
             answers: ClockAnswers::none(),
+            at: None,
         }
     }
 
@@ -101,6 +105,7 @@ impl<C: Clock> AskedClock<C> {
     {
         let answer = self.clock.now();
         self.answers.answers.note_as(&answer);
+        self.at = answer.at;
         answer.seconds
     }
 
@@ -111,6 +116,11 @@ impl<C: Clock> AskedClock<C> {
         let mut answers = Trace::new();
         answers.note_as(&self.answers);
         ClockAnswers { answers }
+    }
+
+    /// When the monotonic clock was read last; None where it wasn't.
+    pub fn at(&self) -> Option<Instant> {
+        self.at
     }
 
     pub fn into_clock(self) -> C

@@ -166,6 +166,7 @@ impl Counts {
                 let (asked, shown) = (keys.len() as u64, hits.len() as u64);
                 self.gets.add(shown, asked.saturating_sub(shown));
             }
+            (Request::Set(_), Reply::Stored) => self.sets.add(1, 0),
             (_, Reply::NoMemory) => self.refused = self.refused.wrapping_add(1),
             _ => self.count_by(request, reply),
         }

@@ -8,6 +8,7 @@ mod counts;
 mod dialect;
 mod eviction;
 mod examples;
+mod gauges;
 mod geometry;
 mod history;
 mod hits;
@@ -34,6 +35,7 @@ pub use clock::{AskedClock, Clock, ClockAnswers};
 pub use counts::{Counts, Tally};
 pub use dialect::Dialect;
 pub use eviction::Eviction;
+pub use gauges::{Gauge, Gauges, LISTENER_GAUGES, WORKER_GAUGES};
 pub use geometry::{
     BadSize, Geometry, ITEM_HEADER, MAX_SEGMENT_SIZE, MAX_SEGMENTS, MIN_SEGMENT_SIZE, MIN_SEGMENTS,
     item_size,

@@ -5,14 +5,15 @@ ghost use Rattle.proto.specs.StatTexts.{stat_bytes, number_bytes, total_lines, t
 
 use crate::byte_string::ByteString;
 use crate::counts::{Counts, Tally};
+use crate::gauges::{GAUGES, Gauges, busy_name, connections_name};
 use crate::no_memory::NoMemory;
 use itoa::Buffer;
 use std::alloc::Global;
 use std::marker::Model;
 use std::snapshot::Snapshot;
 
-/// The room that is taken first. The lines of today have some 800 bytes.
-const FIRST_ROOM: usize = 2048;
+/// The room that is taken first: the lines have less than 3,000 bytes.
+const FIRST_ROOM: usize = 4096;
 
 /// Appends a line.
 #[tactic(auto, unfolding(crate::specs::StatTexts::stat_bytes))]
@@ -130,12 +131,36 @@ impl StatsText {
     }
 
     /// The same, of a gauge whose value is a number.
-    pub fn with(self, name: &[u8], n: u64) -> Result<StatsText, NoMemory>
+    fn with(self, name: &[u8], n: u64) -> Result<StatsText, NoMemory>
         requires name { IsTrue (names_gauge self name.now) }
         ensures { IfOk result (λ text. text ≡ self) }
     {
         let mut buffer = Buffer::new();
         self.with_word(name, buffer.format(n).as_bytes())
+    }
+
+    /// The same with a line for each gauge.
+    pub fn with_gauges(self, gauges: &Gauges) -> Result<StatsText, NoMemory>
+        ensures { IfOk result (λ text. text ≡ self) }
+    {
+        let mut text = self;
+        for gauge in GAUGES {
+            text = text.with(gauge.name(), gauges.get(gauge))?;
+        }
+        Ok(text)
+    }
+
+    /// The same with the lines of one worker: how many connections it has, and how many microseconds it was busy.
+    pub fn with_worker(
+        self,
+        worker: usize,
+        connections: u64,
+        busy: u64,
+    ) -> Result<StatsText, NoMemory>
+        ensures { IfOk result (λ text. text ≡ self) }
+    {
+        self.with(connections_name(worker), connections)?
+            .with(busy_name(worker), busy)
     }
 
     pub fn into_lines(self) -> ByteString

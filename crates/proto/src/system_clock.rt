@@ -15,6 +15,8 @@ use std::time::{self, Instant, SystemTime, UNIX_EPOCH};
 pub struct ClockAnswer {
     pub(crate) seconds: u64,
     read: Trace<ClockReading>,
+    /// The reading of the monotonic clock, where there was one. No clause speaks of it.
+    pub(crate) at: Option<Instant>,
 }
 
 impl Model for ClockAnswer {
@@ -33,6 +35,7 @@ impl ClockAnswer {
         ClockAnswer {
             seconds,
             read: Trace::new(),
+            at: None,
         }
     }
 
@@ -106,7 +109,11 @@ impl<R: time::Clock + Drop> SystemClock<R> {
         let seconds = self.began + seconds_between(reading.start().monotonic(), reading.now());
         let mut read = Trace::new();
         read.note_as(&reading);
-        ClockAnswer { seconds, read }
+        ClockAnswer {
+            seconds,
+            read,
+            at: reading.now(),
+        }
     }
 }
 

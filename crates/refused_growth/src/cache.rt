@@ -7,8 +7,8 @@ use proto::{Geometry, Message, Reply, Request, show};
 use segcache::Store;
 use std::alloc::Global;
 
-/// Requests that store, show, change, join, touch, expire and flush.
-const INPUTS: [&[u8]; 17] = [
+/// Requests that store, show, change, join, touch, expire and flush, and a `stats`, of which a store knows nothing.
+const INPUTS: [&[u8]; 18] = [
     b"set a 1 0 1\r\nx\r\n",
     b"set b 2 9 2\r\nyy\r\n",
     b"add c 3 0 3\r\nccc\r\n",
@@ -25,6 +25,7 @@ const INPUTS: [&[u8]; 17] = [
     b"set e 0 0 1\r\ne\r\n",
     b"append e 9 9 2\r\nff\r\n",
     b"touch e 60\r\n",
+    b"stats\r\n",
     b"gets a b c d e n\r\n",
 ];
 

@@ -3,11 +3,14 @@
 ghost use Rattle.std.specs.Prelude.{◌≡◌, true};
 ghost use Rattle.proto.specs.Answers.{is_ask};
 
-use proto::{Dialect, Message, Next, Reply, Request, next_message_in, show};
+use proto::{
+    ByteString, Counts, Dialect, Gauges, Message, Next, Reply, Request, StatsText, next_message_in,
+    show,
+};
 use std::alloc::Global;
 
 /// A request of each form that is copied, and what the reply Stored makes of it.
-const INPUTS: [&[u8]; 7] = [
+const INPUTS: [&[u8]; 8] = [
     b"set key 7 0 5\r\nvalue\r\n",
     b"cas key 7 0 5 1\r\nvalue\r\n",
     b"append key 7 0 5\r\nvalue\r\n",
@@ -15,6 +18,7 @@ const INPUTS: [&[u8]; 7] = [
     b"delete key\r\n",
     b"incr key 1\r\n",
     b"touch key 60\r\n",
+    b"stats\r\n",
 ];
 
 /// The message, where it is read at the first or the second try.
@@ -61,7 +65,28 @@ fn check_input(alloc: Global, input: &[u8]) -> bool {
     }
 }
 
+/// The lines of a `stats` before any request; None where memory was refused.
+fn stats_lines(alloc: Global) -> Option<ByteString> {
+    let gauges = Gauges::new(alloc).ok()?;
+    let text = StatsText::of(alloc, &Counts::new()).ok()?;
+    let text = text.with_gauges(&gauges).ok()?.with_worker(0, 1, 2).ok()?;
+    Some(text.into_lines())
+}
+
+/// Whether they are made at the first or the second try.
+fn are_told(alloc: Global) -> bool {
+    for _ in 0..2 {
+        if let Some(lines) = stats_lines(alloc) {
+            return lines.as_slice().ends_with(b"STAT worker_busy_us_0 2\r\n");
+        }
+    }
+    false
+}
+
 pub fn is_repeatable(alloc: Global) -> bool {
+    if !are_told(alloc) {
+        return false;
+    }
     for input in &INPUTS {
         if !check_input(alloc, input) {
             return false;

@@ -109,7 +109,7 @@ fn cas_command(alloc: Global, key: &str, unique: u64) -> Result<String, Fail> {
 fn command(alloc: Global, numbers: &mut Numbers) -> Result<String, Fail> {
     let key = numbers.key();
     let amount = numbers.below(7);
-    match numbers.below(12) {
+    match numbers.below(13) {
         0 | 1 => write_command(alloc, numbers, "set"),
         2 => write_command(alloc, numbers, "add"),
         3 => write_command(alloc, numbers, "replace"),
@@ -120,6 +120,7 @@ fn command(alloc: Global, numbers: &mut Numbers) -> Result<String, Fail> {
         8 => Ok(format!(in alloc; "flush_all {amount} noreply\r\n")?),
         9 => key_command(alloc, "gets", "a bb ccc n"),
         10 => key_command(alloc, "nonsense", key),
+        11 => Ok(format!(in alloc; "stats\r\n")?),
         _ => key_command(alloc, "get", key),
     }
 }

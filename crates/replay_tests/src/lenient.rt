@@ -191,7 +191,7 @@ const COUNTS: [&str; 22] = [
     "STAT touch_misses 1\r\n",
     "STAT cas_hits 1\r\n",
     "STAT cas_misses 1\r\n",
-    "STAT uptime ",
+    "STAT version ",
 ];
 
 fn joined(alloc: Global, parts: &[&str]) -> Result<String, AllocError> {

@@ -24,6 +24,7 @@ impl SegmentMap {
         ensures moment { self.new.moment ≡ self.old.moment }
     {
         let moves = self.pool.moves();
+        self.counts.forget(&self.pool, moves);
         self.index.relocate(&self.pool);
         self.marks.carry(moves);
         self.pool.merge_next();
@@ -74,12 +75,12 @@ impl SegmentMap {
     {
         let keys = self.index.len();
         let merged = self.forget_some();
-        self.forgotten
-            .count(merged, keys.saturating_sub(self.index.len()));
+        self.counts
+            .forgot(merged, keys.saturating_sub(self.index.len()));
     }
 
-    /// Makes a segment free: gives back those without a live item, and if there are none forgets something.
-    pub fn free_segment(&mut self)
+    /// Gives back the segments without a live item, and if there are none forgets something.
+    fn free_some(&mut self)
         requires full { IsPoolFull self.old.pool }
         ensures made { IsRoomMade self.old.pool self.old.index self.old.moment self.new.pool self.new.index }
         ensures room { (bucket : ℕ) → (i : Item) → HasNoRoom self.old.pool bucket self.old.moment i
@@ -91,5 +92,23 @@ impl SegmentMap {
         if self.pool.give_back(&self.marks) == 0 {
             self.evict();
         }
+    }
+
+    /// Makes a segment free: gives back those without a live item, and if there are none forgets something. What was done is
+    /// counted.
+    pub fn free_segment(&mut self)
+        requires full { IsPoolFull self.old.pool }
+        ensures made { IsRoomMade self.old.pool self.old.index self.old.moment self.new.pool self.new.index }
+        ensures room { (bucket : ℕ) → (i : Item) → HasNoRoom self.old.pool bucket self.old.moment i
+            → HasMadeRoom (live_marks self.old.marks self.old.moment) self.old.pool self.old.index bucket
+            self.old.moment i self.new.pool self.new.index }
+        ensures moment { self.new.moment ≡ self.old.moment }
+    {
+        let before = self.counts;
+        let keys = self.index.len();
+        self.free_some();
+        let gone = keys.saturating_sub(self.index.len());
+        self.counts
+            .freed(before, gone as u64, self.pool.free_count() as u64);
     }
 }

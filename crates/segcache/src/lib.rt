@@ -2,6 +2,7 @@
 //! or merged if room is needed; an index finds the entries.
 #![tactic(auto)]
 
+mod counts;
 mod freeing;
 mod segment_map;
 mod unindexing;

@@ -8,9 +8,10 @@ ghost use Rattle.engine.specs.Shown.{entry_of};
 ghost use Rattle.segcache.specs.Shown.{entry_at, shown_entries};
 ghost use Rattle.segcache.specs.Writes.{stays_as};
 
+use crate::counts::StoreCounts;
 use engine::{EntryRef, LiveMap, StoreMap, has_arrived};
 use index::{Index, layout_for, slots_for};
-use proto::{Eviction, Geometry, NoMemory, StatsText};
+use proto::{Eviction, Gauge, Gauges, Geometry, NoMemory};
 use segments::{ItemRef, LiveMarks, Place, Pool, bucket_of};
 use std::alloc::Global;
 use std::hash::FoldHasher;
@@ -27,8 +28,8 @@ pub struct SegmentMap {
     pub(crate) moment: u64,
     /// Some of what was read ahead last, so that a compiler doesn't leave the reads out.
     read_ahead: AtomicU64,
-    /// What was forgotten to make room.
-    pub(crate) forgotten: Forgotten,
+    /// For `stats` alone.
+    pub(crate) counts: StoreCounts,
 }
 
 impl Model for SegmentMap {
@@ -40,34 +41,6 @@ impl Model for SegmentMap {
 
     ghost invariant = { λ a. IsSegmentedMap
         (record { pool = a.pool; index = a.index; marks = a.marks; moment = a.moment }) };
-}
-
-/// How often something was forgotten to make room, and how many keys.
-#[derive(Clone, Copy)]
-pub(crate) struct Forgotten {
-    merges: u64,
-    cleared: u64,
-    keys: u64,
-}
-
-impl Forgotten {
-    const fn new() -> Forgotten {
-        Forgotten {
-            merges: 0,
-            cleared: 0,
-            keys: 0,
-        }
-    }
-
-    /// Counts a merge, or a segment that was cleared, which forgot so many keys.
-    pub(crate) fn count(&mut self, merged: bool, keys: usize) {
-        if merged {
-            self.merges = self.merges.wrapping_add(1);
-        } else {
-            self.cleared = self.cleared.wrapping_add(1);
-        }
-        self.keys = self.keys.wrapping_add(keys as u64);
-    }
 }
 
 /// The time to live in seconds of an entry that is written at the moment.
@@ -129,24 +102,22 @@ fn entry_at<'a>(pool: &'a Pool, place: Place) -> EntryRef<'a>
 }
 
 impl SegmentMap {
-    /// The lines with those of the map's gauges.
-    #[tactic(auto, unfolding(proto::specs::StatTexts::names_gauge, proto::specs::StatTexts::count_lines, proto::specs::StatTexts::total_lines, proto::specs::StatTexts::tally_lines))]
-    fn with_gauges(&self, text: StatsText) -> Result<StatsText, NoMemory>
-        ensures { IfOk result (λ told. told ≡ text) }
-    {
+    /// What the pool tells, and the bytes of what is current.
+    fn tell_of_pool(&self, gauges: &Gauges) {
         let geometry = self.pool.geometry();
-        let (size, segments) = (
-            u64::from(geometry.segment_size()),
+        let size = u64::from(geometry.segment_size());
+        let (segments, free) = (
             u64::from(geometry.segments()),
+            self.pool.free_count() as u64,
         );
-        text.with(b"limit_maxbytes", size.wrapping_mul(segments))?
-            .with(b"curr_items", self.index.len() as u64)?
-            .with(b"evictions", self.forgotten.keys)?
-            .with(b"segment_size", size)?
-            .with(b"segments", segments)?
-            .with(b"segments_free", self.pool.free_count() as u64)?
-            .with(b"merges", self.forgotten.merges)?
-            .with(b"segments_cleared", self.forgotten.cleared)
+        let used = size.wrapping_mul(segments.saturating_sub(free));
+        gauges.set(Gauge::LimitBytes, size.wrapping_mul(segments));
+        gauges.set(Gauge::SegmentSize, size);
+        gauges.set(Gauge::Segments, segments);
+        gauges.set(Gauge::SegmentsFree, free);
+        gauges.set(Gauge::CurrItems, self.index.len() as u64);
+        gauges.set(Gauge::Bytes, self.counts.bytes);
+        gauges.set(Gauge::DeadBytes, used.saturating_sub(self.counts.bytes));
     }
 }
 
@@ -200,8 +171,20 @@ impl LiveMap for SegmentMap {
         self.read_ahead.store(read, Ordering::Relaxed);
     }
 
-    fn tell(&self, text: StatsText) -> Result<StatsText, NoMemory> {
-        self.with_gauges(text)
+    fn tell(&self, gauges: &Gauges) {
+        let counts = &self.counts;
+        self.tell_of_pool(gauges);
+        gauges.set(Gauge::Evictions, counts.evicted_keys());
+        gauges.set(Gauge::EvictedByMerge, counts.merged_keys);
+        gauges.set(Gauge::EvictedByClearing, counts.cleared_keys);
+        gauges.set(Gauge::Reclaimed, counts.expired_keys);
+        gauges.set(Gauge::SegmentsEmptied, counts.emptied);
+        gauges.set(Gauge::Merges, counts.merges);
+        gauges.set(Gauge::SegmentsCleared, counts.cleared);
+    }
+
+    fn evictions(&self) -> u64 {
+        self.counts.evictions()
     }
 
     fn advance(&mut self, now: u64) {
@@ -293,7 +276,7 @@ impl StoreMap for SegmentMap {
             marks: LiveMarks::new(alloc, geometry)?,
             moment: 0,
             read_ahead: AtomicU64::new(0),
-            forgotten: Forgotten::new(),
+            counts: StoreCounts::default(),
         })
     }
 

@@ -33,6 +33,7 @@ impl SegmentMap {
         ensures moment { self.new.moment ≡ self.old.moment }
     {
         if let Some(place) = self.index.look_up(&self.pool, key) {
+            self.counts.take_out(&self.pool, place);
             unindex(&self.pool, &mut self.index, &mut self.marks, key, place);
         }
     }
@@ -47,6 +48,7 @@ impl SegmentMap {
         let mut walk = self.pool.walk(segment);
         while let Some((place, item)) = walk.next() {
             if self.marks.is_marked(place) {
+                self.counts.take_out(&self.pool, place);
                 unindex(
                     &self.pool,
                     &mut self.index,
@@ -81,6 +83,7 @@ impl SegmentMap {
         ensures moment { self.new.moment ≡ self.old.moment }
     {
         self.index.clear();
+        self.counts.bytes = 0;
         for segment in 0..self.pool.geometry().segments() {
             self.marks.clear_segment(segment);
         }

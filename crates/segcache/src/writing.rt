@@ -53,6 +53,7 @@ impl SegmentMap {
     {
         let place = self.pool.append(bucket, self.moment, item)?;
         let source = self.index.insert(&self.pool, item.key, place);
+        self.counts.put(&self.pool, source, place);
         mark_instead(&mut self.marks, source, place);
         Ok(place)
     }

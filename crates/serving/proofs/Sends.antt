@@ -101,7 +101,7 @@ port_sends R sends =
             search (crosses, sendable) depth 30,
             (
               streams_send,
-              (search sendable depth 30, (search sendable depth 30, (search sendable, (search sendable, tt)))),
+              (search sendable depth 30, (search sendable depth 30, (search sendable, (search sendable, (search sendable, tt))))),
             ),
           ),
         ),

@@ -16,7 +16,7 @@ use crate::session::{Offer, Session};
 use crate::upkeep::{Task, Upkeep};
 use bytes::Bytes;
 use indexmap::IndexMap;
-use proto::{Answered, Dialect, MAX_POSTS, MAX_SESSIONS, NoMemory, Request, WINDOW};
+use proto::{Answered, Dialect, Gauge, Gauges, MAX_POSTS, MAX_SESSIONS, NoMemory, Request, WINDOW};
 use std::alloc::Global;
 use std::collections::VecDeque;
 use std::marker::Model;
@@ -298,7 +298,7 @@ impl Book {
         ensures { ChangesSession self.old self.new session None }
     {
         if let Some(open) = self.sessions.swap_remove(&session) {
-            self.upkeep.waiting = self.upkeep.waiting.saturating_sub(open.out().len());
+            open.forget(&mut self.upkeep);
         }
     }
 
@@ -422,6 +422,23 @@ impl Book {
     /// the hits of the unsettled ones take 41,943,040 bytes at most, or in the strict dialect 167,772,160.
     pub fn is_crowded(&self) -> bool {
         self.upkeep.keys > MAX_KEYS
+    }
+
+    /// Leaves what it counted, and how much is unfinished.
+    pub fn tell(&self, gauges: &Gauges) {
+        let counts = &self.upkeep.counts;
+        gauges.set(Gauge::CurrConnections, self.sessions.len() as u64);
+        gauges.set(Gauge::TotalConnections, self.opened);
+        gauges.set(Gauge::BytesRead, counts.read);
+        gauges.set(Gauge::BytesWritten, counts.written);
+        gauges.set(Gauge::InputBytes, counts.unread);
+        gauges.set(Gauge::OutputBytes, self.upkeep.waiting as u64);
+        gauges.set(Gauge::RequestsInFlight, self.unsettled.len() as u64);
+        gauges.set(Gauge::StoreTooLarge, counts.too_large);
+        gauges.set(Gauge::UnknownCommands, counts.unknown);
+        gauges.set(Gauge::BadLines, counts.bad_lines);
+        gauges.set(Gauge::ClosedMalformed, counts.malformed);
+        gauges.set(Gauge::ClosedBinary, counts.binary);
     }
 
     /// How often the parser was called, for tests alone. The count stays at the greatest number.

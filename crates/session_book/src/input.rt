@@ -82,6 +82,11 @@ impl Input {
         self.kept.as_slice()
     }
 
+    /// How many bytes there are, with those that were dropped.
+    pub fn len(&self) -> usize {
+        self.kept.len().saturating_add(self.dropped)
+    }
+
     /// Puts a piece after the others. What is still to be dropped of a message is dropped.
     pub fn append(&mut self, piece: &[u8], spares: &mut SpareBuffers) -> Result<(), NoMemory>
         ensures ok { OnOk result (self.new ≡ record self.old { unread = self.old.unread ++ piece.now }) }

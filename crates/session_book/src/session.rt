@@ -105,6 +105,7 @@ impl Session {
     pub fn receive(&mut self, session: u64, piece: Bytes, upkeep: &mut Upkeep) -> Received
         ensures { TakesPiece self.old piece result self.new }
     {
+        upkeep.counts.read = upkeep.counts.read.wrapping_add(piece.len() as u64);
         if self.held.is_some() {
             return Received::Refused;
         }
@@ -144,6 +145,7 @@ impl Session {
                 return Ok(false);
             }
             self.input.append(piece, &mut upkeep.spares)?;
+            upkeep.counts.unread = upkeep.counts.unread.wrapping_add(piece.len() as u64);
         }
         upkeep.add(Task::Ask, session, &mut self.tickets.ask);
         Ok(true)
@@ -171,6 +173,7 @@ impl Session {
             };
             put_behind(&mut self.queue, &mut self.output, &message, upkeep)?;
             self.input.take(length, &mut upkeep.spares);
+            upkeep.counts.count(&message, length);
             self.ended = cause_of(&message);
             if let Message::Ask(request, _) = message {
                 return Ok(Some(request));
@@ -223,7 +226,7 @@ impl Session {
             Ok(()) => upkeep.add(Task::Give, session, &mut self.tickets.give),
             Err(NoMemory) => {
                 self.queue.clear();
-                upkeep.waiting = upkeep.waiting.saturating_sub(self.output.len());
+                self.forget(upkeep);
             }
         }
         answered
@@ -264,6 +267,7 @@ impl Session {
     {
         let left = self.output.discard(n, Use::Output, &mut upkeep.spares);
         upkeep.waiting = upkeep.waiting.saturating_sub(n);
+        upkeep.counts.written = upkeep.counts.written.wrapping_add(n as u64);
         if left.saturating_add(n) > MAX_WAITING {
             upkeep.add(Task::Ask, session, &mut self.tickets.ask);
         }
@@ -291,6 +295,12 @@ impl Session {
             return Some(EndCause::EndOfInput);
         }
         None
+    }
+
+    /// What is left of its input and its output counts no more: the session is closed.
+    pub fn forget(&self, upkeep: &mut Upkeep) {
+        upkeep.waiting = upkeep.waiting.saturating_sub(self.output.len());
+        upkeep.counts.unread = upkeep.counts.unread.wrapping_sub(self.input.len() as u64);
     }
 
     /// No more input comes.

@@ -4,7 +4,7 @@
 ghost use Rattle.std.specs.Prelude.{◌≡◌};
 
 use crate::buffer::{SpareBuffers, Use};
-use proto::{Answered, Request, SpareBuffer};
+use proto::{Answered, FatalKind, LocalKind, Message, Reply, Request, SpareBuffer};
 use std::alloc::{AllocError, Global};
 use std::collections::VecDeque;
 
@@ -76,6 +76,43 @@ impl Tickets {
     }
 }
 
+/// What a book counts for `stats`. After the greatest number a count goes on from 0.
+#[derive(Clone, Copy, Default)]
+pub(crate) struct BookCounts {
+    /// Bytes that came of open sessions.
+    pub(crate) read: u64,
+    /// Bytes of output that were given.
+    pub(crate) written: u64,
+    /// Bytes of open sessions that no message was read from yet.
+    pub(crate) unread: u64,
+    pub(crate) unknown: u64,
+    pub(crate) bad_lines: u64,
+    pub(crate) malformed: u64,
+    pub(crate) binary: u64,
+    pub(crate) too_large: u64,
+}
+
+impl BookCounts {
+    /// Counts a message of this length that was read.
+    pub(crate) fn count(&mut self, message: &Message, length: usize) {
+        self.unread = self.unread.wrapping_sub(length as u64);
+        match message {
+            Message::Ask(..) | Message::Quit => {}
+            Message::Local(LocalKind::Unknown) => self.unknown = self.unknown.wrapping_add(1),
+            Message::Local(LocalKind::BadLine) => self.bad_lines = self.bad_lines.wrapping_add(1),
+            Message::Local(LocalKind::TooLarge(_)) => self.refused_item(),
+            Message::Local(_) => {}
+            Message::Fatal(FatalKind::Binary) => self.binary = self.binary.wrapping_add(1),
+            Message::Fatal(_) => self.malformed = self.malformed.wrapping_add(1),
+        }
+    }
+
+    /// Counts a storage command that was refused as too large.
+    fn refused_item(&mut self) {
+        self.too_large = self.too_large.wrapping_add(1);
+    }
+}
+
 /// Which sessions have something to do, how much is unfinished in all of them, and the memory of buffers that are empty. No
 /// clause speaks of it.
 #[derive(Drop)]
@@ -93,6 +130,7 @@ pub(crate) struct Upkeep {
     pub(crate) reads_on: bool,
     /// How many sessions were taken out to be asked while another one was put off.
     pub(crate) passed: u64,
+    pub(crate) counts: BookCounts,
 }
 
 impl Upkeep {
@@ -111,6 +149,7 @@ impl Upkeep {
             waiting: 0,
             reads_on: false,
             passed: 0,
+            counts: BookCounts::default(),
         }
     }
 
@@ -164,6 +203,9 @@ impl Upkeep {
     pub(crate) fn settled(&mut self, answered: Answered) {
         if let Request::Get { keys, .. } = &answered.request {
             self.keys = self.keys.saturating_sub(keys.len());
+        }
+        if matches!(answered.reply, Reply::TooLarge) {
+            self.counts.refused_item();
         }
         if let Some(spare) = answered.reply.into_buffer() {
             self.spares.keep(Use::Hits, spare.into_bytes());

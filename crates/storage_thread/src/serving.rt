@@ -12,7 +12,9 @@ ghost use Rattle.storage_thread.specs.Keeping.{LeadsKeeping, MayAlwaysForgetNoth
 
 use crate::telling::Telling;
 use engine::{Clock, MAX_MOMENT, StorageEngine};
-use exchange::{Answered, IdleTurns, Posted, StorageBatch, StorageEnd, StorageSignals, Taken};
+use exchange::{
+    Answered, IdleTurns, Posted, StorageBatch, StorageEnd, StorageSignals, Taken, Waits,
+};
 use proto::{AskedClock, Counts};
 use std::sync::Wait;
 use std::time;
@@ -106,8 +108,12 @@ fn execute<S: StorageEngine, C: Clock, R: time::Clock>(
         number,
         mut request,
     } = posted;
+    let evictions = store.evictions();
     let stored = store.handle(moment, &mut request);
-    let reply = telling.reply(counts, store, &request, stored);
+    if store.evictions() != evictions {
+        telling.note_eviction(clock.at());
+    }
+    let reply = telling.reply(counts, store, worker, &request, stored);
     counts.count(&request, &reply);
     let answered = Answered {
         worker,
@@ -159,10 +165,14 @@ fn pass_turn<R: Wait + time::Clock>(
     rt: &R,
     _end: &StorageBatch,
     idle: &mut IdleTurns,
+    waits: &mut Waits,
     signals: &StorageSignals,
 )
     requires told { _end.now.told ≡ _end.now.end.history }
 {
+    if signals.spin().is_some() || idle.parks_next() {
+        waits.begin(rt);
+    }
     idle.turn(rt, signals.parking());
 }
 
@@ -206,6 +216,7 @@ pub fn run_storage<R: Wait + time::Clock, S: StorageEngine + Drop, C: Clock>(
     let telling = Telling::new(rt, signals);
     let mut left = end.workers();
     let mut idle = IdleTurns::new(IDLE_TURNS, signals.spin());
+    let mut waits = Waits::new(rt, Some(signals.storage_gauges()));
     let mut ahead = 0;
     for _ in rt.forever() {
         if left == 0 {
@@ -218,6 +229,7 @@ pub fn run_storage<R: Wait + time::Clock, S: StorageEngine + Drop, C: Clock>(
         }
         match take_next(&mut end, &clock, executed, signals) {
             Some(Taken::Asked { worker, posted }) => {
+                waits.end(rt);
                 ahead = read_ahead(ahead, &store, &end, signals);
                 let told = execute(
                     &mut store,
@@ -238,7 +250,7 @@ pub fn run_storage<R: Wait + time::Clock, S: StorageEngine + Drop, C: Clock>(
                 left -= 1;
                 idle.reset(signals.parking());
             }
-            None => pass_turn(rt, &end, &mut idle, signals),
+            None => pass_turn(rt, &end, &mut idle, &mut waits, signals),
         }
     }
     unreachable!()

@@ -5,8 +5,8 @@ ghost use Rattle.proto.specs.Tallies.{TellsCounts};
 
 use engine::StorageEngine;
 use exchange::StorageSignals;
-use proto::{Counts, NoMemory, Reply, Request, StatsText, VERSION};
-use std::time::{Clock, Instant};
+use proto::{Counts, Gauge, NoMemory, Reply, Request, StatsText, VERSION};
+use std::time::{Clock, Duration, Instant};
 
 /// By what a `stats` is told more than counts: the system's clock, when the thread began, and the signals.
 #[derive(Clone, Copy)]
@@ -26,36 +26,75 @@ impl<'a, R: Clock> Telling<'a, R> {
         }
     }
 
-    // Seconds since the thread began, 0 if the clock can't be read.
-    fn uptime(&self) -> u64 {
-        let Some(began) = self.began else {
-            return 0;
+    // How long ago that was; no time if the clock can't be read.
+    fn passed(&self, since: Option<Instant>) -> Duration {
+        let Some(since) = since else {
+            return Duration::ZERO;
         };
-        match began.elapsed(self.rt) {
-            Ok(passed) => passed.as_secs(),
-            Err(_) => 0,
+        match since.elapsed(self.rt) {
+            Ok(passed) => passed,
+            Err(_) => Duration::ZERO,
         }
     }
 
-    // These counts, and the gauges.
-    #[tactic(auto, unfolding(proto::specs::StatTexts::names_gauge, proto::specs::StatTexts::count_lines, proto::specs::StatTexts::total_lines, proto::specs::StatTexts::tally_lines))]
-    fn text<S: StorageEngine>(&self, counts: &Counts, store: &S) -> Result<StatsText, NoMemory>
-        ensures { IfOk result (λ text. text ≡ counts.now) }
-    {
-        let text = StatsText::of(self.signals.allocator(), counts)?
-            .with(b"uptime", self.uptime())?
-            .with(b"time", store.last_moment())?
-            .with_word(b"version", VERSION.as_bytes())?
-            .with(b"pointer_size", 64)?
-            .with(b"threads", self.signals.workers() as u64)?;
-        store.tell(text)
+    /// Room was made by a request for which the clock was read then.
+    pub fn note_eviction(&self, since: Option<Instant>) {
+        self.signals
+            .storage_gauges()
+            .raise_micros(Gauge::MergeLongest, self.passed(since));
     }
 
-    /// The reply to a request, to which the store replied so, if these are the counts before it.
+    // Writes what is told beside counts into the gauges, this long after the thread began.
+    fn tell<S: StorageEngine>(&self, store: &S, worker: usize, passed: Duration) {
+        let gauges = self.signals.storage_gauges();
+        gauges.set(Gauge::Pid, u64::from(libc::getpid().unsigned_abs()));
+        gauges.set(Gauge::Uptime, passed.as_secs());
+        gauges.set(Gauge::Time, store.last_moment());
+        gauges.set(Gauge::PointerSize, 64);
+        gauges.set(Gauge::Threads, self.signals.workers() as u64);
+        gauges.set(Gauge::StorageBusy, gauges.busy_micros(passed));
+        self.signals.gather_gauges(worker);
+        store.tell(gauges);
+    }
+
+    // These counts, and the gauges, for a worker that asks.
+    #[tactic(auto, unfolding(proto::specs::StatTexts::names_gauge, proto::specs::StatTexts::count_lines, proto::specs::StatTexts::total_lines, proto::specs::StatTexts::tally_lines))]
+    fn text<S: StorageEngine>(
+        &self,
+        counts: &Counts,
+        store: &S,
+        worker: usize,
+    ) -> Result<StatsText, NoMemory>
+        ensures { IfOk result (λ text. text ≡ counts.now) }
+    {
+        let passed = self.passed(self.began);
+        self.tell(store, worker, passed);
+        let text = StatsText::of(self.signals.allocator(), counts)?
+            .with_word(b"version", VERSION.as_bytes())?
+            .with_gauges(self.signals.storage_gauges())?;
+        self.with_workers(text, passed)
+    }
+
+    // The same with the lines of each worker.
+    fn with_workers(&self, text: StatsText, passed: Duration) -> Result<StatsText, NoMemory>
+        ensures { IfOk result (λ told. told ≡ text) }
+    {
+        let mut text = text;
+        for worker in 0..self.signals.workers() {
+            if let Some(gauges) = self.signals.gauges(worker) {
+                let connections = gauges.get(Gauge::CurrConnections);
+                text = text.with_worker(worker, connections, gauges.busy_micros(passed))?;
+            }
+        }
+        Ok(text)
+    }
+
+    /// The reply to a request of the worker, to which the store replied so, if these are the counts before it.
     pub fn reply<S: StorageEngine>(
         &self,
         counts: &Counts,
         store: &S,
+        worker: usize,
         request: &Request,
         reply: Reply,
     ) -> Reply
@@ -63,7 +102,7 @@ impl<'a, R: Clock> Telling<'a, R> {
         ensures same { (reply ≡ result) ⊎ (request.now ≡ Request.Stats) }
     {
         match request {
-            Request::Stats => match self.text(counts, store) {
+            Request::Stats => match self.text(counts, store, worker) {
                 Ok(text) => Reply::Stats(text.into_lines()),
                 Err(_) => Reply::NoMemory,
             },

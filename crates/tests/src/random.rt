@@ -179,9 +179,10 @@ fn random_request(
                 exptime: put.exptime,
             }))
         }
-        _ => Ok(Request::FlushAll {
-            delay: random.below(4),
-        }),
+        _ => match random.below(6) {
+            delay @ 0..=3 => Ok(Request::FlushAll { delay }),
+            _ => Ok(Request::Stats),
+        },
     }
 }
 

@@ -1,7 +1,7 @@
 //! What a worker does in a turn in which nothing came.
 
 use crossbeam_utils::Backoff;
-use exchange::{IdleTurns, ParkingWord};
+use exchange::{IdleTurns, ParkingWord, Waits};
 use std::sync::Wait;
 use std::time::Clock;
 
@@ -12,17 +12,23 @@ const IDLE_TURNS: u32 = 40;
 /// Idle turns in a row. A worker that waits for an answer parks until storage has given it; else it yields, as it waits for
 /// a peer that accepts no bytes.
 #[derive(Drop)]
-pub(crate) struct Pauses {
+pub(crate) struct Pauses<'a> {
     idle: IdleTurns,
     backoff: Backoff,
+    /// Whether it spins for a time.
+    is_timed: bool,
+    /// How long the worker waited, for answers or in its port.
+    pub(crate) waits: Waits<'a>,
 }
 
-impl Pauses {
+impl<'a> Pauses<'a> {
     /// A worker that waits for an answer spins for `spin` microseconds before it parks, or for `IDLE_TURNS` turns.
-    pub(crate) fn new(spin: Option<u32>) -> Pauses {
+    pub(crate) fn new(spin: Option<u32>, waits: Waits<'a>) -> Pauses<'a> {
         Pauses {
             idle: IdleTurns::new(IDLE_TURNS, spin),
             backoff: Backoff::new(),
+            is_timed: spin.is_some(),
+            waits,
         }
     }
 
@@ -42,7 +48,13 @@ impl Pauses {
         parking: Option<&ParkingWord>,
     ) {
         match parking {
-            Some(parking) if for_answers => self.idle.turn(rt, parking),
+            Some(parking) if for_answers => {
+                if self.is_timed || self.idle.parks_next() {
+                    self.waits.begin(rt);
+                }
+                self.idle.turn(rt, parking);
+                self.waits.end(rt);
+            }
             _ => self.backoff.snooze(),
         }
     }

@@ -10,7 +10,7 @@ use crate::gate::Gate;
 use crate::pauses::Pauses;
 use crate::session_list::SessionList;
 use crate::worker::{Worker, WorkerState};
-use exchange::{StorageSignals, WorkerBatch, WorkerEnd};
+use exchange::{StorageSignals, Waits, WorkerBatch, WorkerEnd};
 use proto::{Dialect, WINDOW};
 use session_book::Task;
 use std::alloc::Global;
@@ -43,14 +43,34 @@ pub struct WorkerReport<P> {
     pub strangers: u64,
 }
 
+/// Takes one event. The time for which the port may wait isn't busy.
+fn take_event<P: Port, R: Clock>(rt: &R, worker: &mut Worker<P>, pauses: &mut Pauses) -> bool
+    ensures { Continues P.told P.leads_to worker.old worker.new }
+{
+    let may_wait = worker.may_wait();
+    if !may_wait {
+        return worker.take_event(may_wait);
+    }
+    pauses.waits.begin(rt);
+    let came = worker.take_event(may_wait);
+    pauses.waits.end(rt);
+    came
+}
+
 /// Takes what has come, in a few events, and asks at once what they bring: what a session has sent is asked before it is
 /// taken that its peer has gone. Where a session can't be asked further, few are taken.
-fn take_events<P: Port, G: Gate>(worker: &mut Worker<P>, gate: &G, storage: &StorageSignals) -> bool
+fn take_events<P: Port, G: Gate, R: Clock>(
+    rt: &R,
+    worker: &mut Worker<P>,
+    pauses: &mut Pauses,
+    gate: &G,
+    storage: &StorageSignals,
+) -> bool
     ensures { Continues P.told P.leads_to worker.old worker.new }
 {
     let mut moved = false;
     for taken in 1..=EVENTS_A_TURN {
-        if !worker.take_event() {
+        if !take_event(rt, worker, pauses) {
             break;
         }
         moved = true;
@@ -159,11 +179,17 @@ fn limit_output<P: Port>(worker: &mut Worker<P>) -> bool
 
 /// One turn. False where there was nothing to do. It posts the held request, then what has come and what fits by now. Storage
 /// knows of all of it before the answers are looked for, so nothing is kept back while the worker waits.
-fn take_turn<P: Port, G: Gate>(worker: &mut Worker<P>, gate: &G, storage: &StorageSignals) -> bool
+fn take_turn<P: Port, G: Gate, R: Clock>(
+    rt: &R,
+    worker: &mut Worker<P>,
+    pauses: &mut Pauses,
+    gate: &G,
+    storage: &StorageSignals,
+) -> bool
     ensures { Continues P.told P.leads_to worker.old worker.new }
 {
     let held = worker.post(gate, storage);
-    let came = take_events(worker, gate, storage);
+    let came = take_events(rt, worker, pauses, gate, storage);
     let fed = feed_pieces(worker);
     let asked = ask_sessions(worker, gate, storage);
     worker.flush(storage);
@@ -225,11 +251,13 @@ pub fn run_worker<P: Port, G: Gate, R: Wait + Clock>(
     ensures spelled { (trace : PortTrace) → P.told result.port ≡ Some trace → trace.dialect ≡ dialect }
 {
     let parking = storage.worker_parking(worker_end.worker());
+    let gauges = storage.gauges(worker_end.worker());
     let mut worker = Worker::new(alloc, port, worker_end, dialect);
-    let mut pauses = Pauses::new(storage.spin());
+    let mut pauses = Pauses::new(storage.spin(), Waits::new(rt, gauges));
     for _ in rt.forever() {
-        if take_turn(&mut worker, gate, storage) {
+        if take_turn(rt, &mut worker, &mut pauses, gate, storage) {
             pauses.reset(parking);
+            worker.tell(storage);
         } else if has_drained(&mut worker) {
             return leave(worker, storage);
         } else {

@@ -149,17 +149,20 @@ impl<P: Port> Worker<P> {
         }
     }
 
-    /// One event of the port, unless it has ended. The port may wait where nothing is outstanding or held back, and no session
-    /// has anything to do. False where there was no event.
-    pub(crate) fn take_event(&mut self) -> bool
+    /// Whether the port may wait for an event: nothing is outstanding or held back, and no session has anything to do.
+    pub(crate) fn may_wait(&self) -> bool {
+        self.state.request.is_none()
+            && self.state.batch.outstanding() == 0
+            && self.state.book.is_idle()
+    }
+
+    /// One event of the port, for which it may wait or not, unless it has ended. False where there was no event.
+    pub(crate) fn take_event(&mut self, may_wait: bool) -> bool
         ensures { Continues P.told P.leads_to self.old self.new }
     {
         if self.state.ended {
             return false;
         }
-        let may_wait = self.state.request.is_none()
-            && self.state.batch.outstanding() == 0
-            && self.state.book.is_idle();
         match self.state.port.next(may_wait, &self.state.batch) {
             PortEvent::Opened(session) => self.state.admit(session),
             PortEvent::Data(session, bytes) => self.state.receive(session, bytes),
@@ -278,11 +281,20 @@ impl<P: Port> Worker<P> {
         }
     }
 
-    /// Tells storage of all that was posted, and unparks it.
+    /// Leaves what is told of it in a `stats`.
+    pub(crate) fn tell(&self, storage: &StorageSignals) {
+        if let Some(gauges) = storage.gauges(self.state.batch.worker()) {
+            self.state.book.tell(gauges);
+            self.state.port.tell(gauges);
+        }
+    }
+
+    /// Tells storage of all that was posted, and unparks it. A `stats` among it finds what is told of this worker by now.
     pub(crate) fn flush(&mut self, storage: &StorageSignals)
         ensures { Continues P.told P.leads_to self.old self.new }
     {
         if self.state.batch.waiting() > 0 {
+            self.tell(storage);
             self.state.batch.flush();
             storage.parking().unpark();
         }

@@ -12,7 +12,7 @@ use Rattle.segcache.specs.State.{MapState}
 use Rattle.segcache.proofs.GivenBack.{full_given}
 use Rattle.segcache.proofs.RoomMade.{swept_left, swept_made, swept_crowded, swept_evicted, alive_given}
 use Rattle.segcache.proofs.ForgottenKeys.{expired_agree, room_evicted, room_given}
-use Rattle.segcache.proofs.segment_map.SegmentMap.free_segment.Goals as goal
+use Rattle.segcache.proofs.segment_map.SegmentMap.free_some.Goals as goal
 
 pub invariant_of-self : goal.invariant_of-self
 invariant_of-self c =

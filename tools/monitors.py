@@ -1,0 +1,177 @@
+#!/usr/bin/python3
+"""Debian's monitors of memcached against a served program: munin's plugins, collectd, netdata, check_memcached, libmemcached's and memcached's tools.
+
+    tools/monitors.py [--program PROGRAM]
+
+The program serves them with the package's options. Each has to show what it shows of memcached, but for what docs/OPERATIONS.md names. Ends with
+status 1 if one doesn't.
+"""
+import argparse
+import contextlib
+import glob
+import os
+import re
+import signal
+import subprocess
+import sys
+import tempfile
+import time
+
+from served import OF_THE_PACKAGE, PROGRAM, Server
+
+PACKAGES = """munin-plugins-extra libcache-memcached-perl collectd-core netdata-plugins-python netdata-core monitoring-plugins-contrib memcached
+    libmemcached-tools""".split()
+# The most seconds that one of them may take; netdata needs some to begin.
+SECONDS = 20
+# Of each plugin of munin, how many values it shows.
+OF_MUNIN = {"bytes": 2, "counters": 3, "rates": 6}
+# How many series collectd shows of memcached, and those that have no field here.
+SERIES, MISSING = 24, {"ps_cputime", "memcached_command-meta"}
+# How many charts netdata shows, beside the one of its own time.
+CHARTS = 14
+TOOL = "/usr/share/memcached/scripts/memcached-tool"
+COLLECTD = """
+Hostname "here"
+BaseDir "{folder}"
+PIDFile "{folder}/pid"
+Interval 1
+LoadPlugin csv
+LoadPlugin memcached
+<Plugin csv>
+  DataDir "{folder}"
+</Plugin>
+<Plugin memcached>
+  <Instance "cache">
+    Address "127.0.0.1"
+    Port "{port}"
+  </Instance>
+</Plugin>
+"""
+NETDATA = """
+here:
+  host: '127.0.0.1'
+  port: {port}
+"""
+
+
+def run(words, seconds=SECONDS, **environment):
+    """The status of a command, None if it was ended after so many seconds, and what it said."""
+    process = subprocess.Popen(words, stdout=subprocess.PIPE, stderr=subprocess.DEVNULL, text=True, errors="replace", start_new_session=True,
+                               env={**os.environ, **environment})
+    try:
+        said, _ = process.communicate(timeout=seconds)
+        return process.returncode, said
+    except subprocess.TimeoutExpired:
+        os.killpg(process.pid, signal.SIGTERM)
+        with contextlib.suppress(subprocess.TimeoutExpired):
+            return None, process.communicate(timeout=10)[0]
+        os.killpg(process.pid, signal.SIGKILL)
+        return None, process.communicate()[0]
+
+
+def use(server):
+    """A hit and a miss."""
+    with server.connect() as stream:
+        stream.sendall(b"set a 0 0 1\r\nx\r\nget a b\r\n")
+        said = b""
+        while not said.endswith(b"END\r\n"):
+            said += stream.recv(4096)
+
+
+def write(folder, name, text):
+    path = f"{folder}/{name}"
+    os.makedirs(os.path.dirname(path), exist_ok=True)
+    with open(path, "w", encoding="ascii") as file:
+        file.write(text)
+    return path
+
+
+def munin(server, folder):
+    """A symbolic link says which of its three graphs the plugin shows; a value that it doesn't know is U."""
+    for graph, count in OF_MUNIN.items():
+        os.symlink("/usr/share/munin/plugins/memcached_", f"{folder}/memcached_{graph}")
+        status, said = run(["perl", f"{folder}/memcached_{graph}"], host="127.0.0.1", port=str(server.port))
+        values = re.findall(r"^\w+\.value (\S+)$", said, re.MULTILINE)
+        yield f"munin's {graph}", status == 0 and len(values) == count and all(it.isdigit() for it in values), said
+
+
+def collectd(server, folder):
+    """It reads each second, and writes a file for each series."""
+    path = write(folder, "collectd.conf", COLLECTD.format(folder=folder, port=server.port))
+    process = subprocess.Popen(["/usr/sbin/collectd", "-f", "-C", path], stdout=subprocess.DEVNULL, stderr=subprocess.DEVNULL)
+    for _ in range(5):
+        use(server)
+        time.sleep(1)
+    process.terminate()
+    process.wait(SECONDS)
+    found = {re.sub(r"-\d{4}-\d\d-\d\d$", "", os.path.basename(it)) for it in glob.glob(f"{folder}/here/memcached-cache/*")}
+    yield f"collectd: {len(found)} of {SERIES} series", len(found | MISSING) == SERIES and not found & MISSING, " ".join(sorted(found))
+
+
+def netdata(server, folder):
+    write(folder, "python.d/memcached.conf", NETDATA.format(port=server.port))
+    folders = {name: folder for name in ("NETDATA_USER_CONFIG_DIR", "NETDATA_LOCK_DIR", "NETDATA_LIB_DIR")}
+    _, said = run(["/usr/lib/netdata/plugins.d/python.d.plugin", "1", "memcached"], 8, **folders)
+    charts = set(re.findall(r"^CHART memcached_here\.(\w+)", said, re.MULTILINE))
+    values = re.findall(r"^SET '?(\w+)'? = '?(\d+)", said, re.MULTILINE)
+    yield f"netdata: {len(charts)} of {CHARTS} charts", len(charts) == CHARTS and len(values) >= CHARTS, said
+
+
+def nagios(server, _):
+    """It keeps what it was told in the cache itself, and compares it with what it is told half a minute later at least."""
+    words = ["/usr/lib/nagios/plugins/check_memcached", "-H", "127.0.0.1", "-p", str(server.port)]
+    status, said = run(words)
+    yield "check_memcached", status == 0 and said.startswith("OK"), said
+    with server.connect() as stream:
+        stream.sendall(b"get check_memcached\r\n")
+        kept = stream.recv(65536)
+    yield "check_memcached keeps its history", kept.startswith(b"VALUE check_memcached "), kept.decode(errors="replace")
+
+
+def tools(server, _):
+    """memcached-tool reads until `END`; `dump` shows keys, of which it is told none."""
+    where = f"127.0.0.1:{server.port}"
+    status, said = run(["memcstat", f"--servers={where}"])
+    yield "memcstat", status == 0 and "get_hits" in said and "bytes_written" in said, said
+    for mode, wanted in (("stats", "get_hits"), ("display", "#"), ("settings", ""), ("sizes", ""), ("dump", "")):
+        status, said = run(["perl", TOOL, where, mode])
+        yield f"memcached-tool {mode}", status == 0 and wanted in said, said
+
+
+MONITORS = (munin, collectd, netdata, nagios, tools)
+
+
+def install():
+    if run(["dpkg", "-s", *PACKAGES])[0] != 0:
+        subprocess.run(["apt-get", "update"], check=True, stdout=subprocess.DEVNULL)
+        words = ["apt-get", "install", "-y", "--no-install-recommends", *PACKAGES]
+        subprocess.run(words, check=True, stdout=subprocess.DEVNULL)
+
+
+def watch(program):
+    """Of each thing that a monitor has to show whether it does; what it said where it doesn't is printed."""
+    results = {}
+    with Server(program, *OF_THE_PACKAGE) as server:
+        use(server)
+        for monitor in MONITORS:
+            with tempfile.TemporaryDirectory() as folder:
+                for name, holds, said in monitor(server, folder):
+                    results[name] = holds
+                    if not holds:
+                        print(f"{name}:\n{said}", file=sys.stderr)
+    return results
+
+
+def main():
+    parser = argparse.ArgumentParser(description="Debian's monitors of memcached against segcached.")
+    parser.add_argument("--program", default=PROGRAM, help="another build than the proved one")
+    words = parser.parse_args()
+    install()
+    results = watch(os.path.abspath(words.program))
+    for name, holds in results.items():
+        print(f"{'well' if holds else 'NOT '}  {name}")
+    return 0 if results and all(results.values()) else 1
+
+
+if __name__ == "__main__":
+    sys.exit(main())

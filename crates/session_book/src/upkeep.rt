@@ -4,7 +4,7 @@
 ghost use Rattle.std.specs.Prelude.{◌≡◌};
 
 use crate::buffer::{SpareBuffers, Use};
-use proto::{Answered, Request, SpareBuffer};
+use proto::{Answered, Reply, Request, SpareBuffer};
 use std::alloc::{AllocError, Global};
 use std::collections::VecDeque;
 
@@ -162,10 +162,19 @@ impl Upkeep {
 
     /// Uncounts the keys of a `get` that was settled, and keeps the memory of its hits for another one.
     pub(crate) fn settled(&mut self, answered: Answered) {
-        if let Request::Get { keys, .. } = &answered.request {
+        let Answered { request, reply, .. } = answered;
+        self.uncount(&request);
+        self.keep_buffer(reply);
+    }
+
+    fn uncount(&mut self, request: &Request) {
+        if let Request::Get { keys, .. } = request {
             self.keys = self.keys.saturating_sub(keys.len());
         }
-        if let Some(spare) = answered.reply.into_buffer() {
+    }
+
+    fn keep_buffer(&mut self, reply: Reply) {
+        if let Some(spare) = reply.into_buffer() {
             self.spares.keep(Use::Hits, spare.into_bytes());
         }
     }

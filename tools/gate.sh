@@ -65,7 +65,9 @@ mkfifo "$work/said"
 idly='{ echo 19 >/proc/self/autogroup; } 2>/dev/null; chrt --idle 0 true 2>/dev/null && exec chrt --idle 0 "$@"; exec nice -n 19 "$@"'
 setsid sh -c "$idly" sh python3 tools/wrong_bodies.py --beside <"$work/said" >"$work/wrong_bodies" 2>&1 &
 tries_pid=$!
-rt ci 2>&1 | tee -p "$work/log" "$work/said" | with_progress
+# One process for each proof: copies of it would take a third more of the processors' time, which the wrong bodies need.
+at_once=$(python3 -B -c 'import sys; sys.path.insert(0, "tools"); import machine; print(machine.at_once())')
+RT_JOBS=$at_once rt ci 2>&1 | tee -p "$work/log" "$work/said" | with_progress
 count rt "$work/log"
 
 program=crates/segcached/out/segcached

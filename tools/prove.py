@@ -205,12 +205,11 @@ def kit_folder():
 
 @dataclasses.dataclass(frozen=True)
 class How:
-    """How a crate is proved: by how many processes, and with which nice value. If work is kept, each process reads the libraries, and proves some
-    functions at a time; the library that comes of it holds its proofs. Else the processes are copies of one that has read them, which is faster if
-    there is little to read, and the library holds what it states alone, which is read faster."""
+    """How a crate is proved: by how many processes, and with which nice value. Several processes keep their work: each reads the libraries, and proves
+    some functions at a time; the library that comes of it holds its proofs. One process keeps none, and the library holds what it states alone, which is
+    read faster. (Several that keep none would be copies of one, which take a third to a half more of the processors' time and prove no sooner.)"""
 
     processes: int
-    is_kept: bool
     nice: int
 
 
@@ -231,7 +230,7 @@ class Prover:
         words = ["rattle", "build", "--crate-name", name, *self.libraries(name)]
         words += ["--antt-project", f"{self.kit}/rattle/logic/antt-project.json", "--logic-built", f"{self.kit}/logic_built"]
         words += ["--jobs", str(how.processes)]
-        if how.is_kept:
+        if how.processes > 1:
             words += ["--incremental", f"{PROOFS}/{name}"]
         elif name != NAME:
             words.append("--statements")
@@ -281,23 +280,15 @@ class Proof:
         self.ran.wait()
 
 
-def beside(name, crates, ways, proved):
-    """How many other crates are left that don't stand on this one, so that they can be proved beside it."""
-    return sum(name not in with_those_below(crates, it) for it in ways if it not in proved)
-
-
 def how_to_prove(name, crates, ways, proved):
     """How to prove a crate that is ready."""
     whole, longest = max(ways.values()), max(way for it, way in ways.items() if it not in proved)
     is_near = longest - ways[name] <= NEAR * whole
     nice = 0 if is_near else NICE
     if not crates[name]:
-        return How(machine.processors(), machine.processors() > 1, nice)
-    shared = machine.processors() // (1 + beside(name, crates, ways, proved))
-    if shared > 1:
-        return How(shared, False, nice)
+        return How(machine.processors(), nice)
     processes = min(JOBS, machine.processors()) if is_near and ways[name] > LAST * whole else 1
-    return How(processes, processes > 1, nice)
+    return How(processes, nice)
 
 
 def to_start(crates, ways, proved, running):

@@ -180,6 +180,8 @@ leaves_nothing() {
     echo "OPTIONS=--listen 127.0.0.1:11212" >"$options-$instance"
     ln -s /lib/systemd/system/segcached@.service "$wanted_by/segcached@$instance.service" || return 1
   done
+  # (no unit takes options from this line)
+  echo "# OPTIONS=--listen 127.0.0.1:11213" >"$options-none"
   chroot "$root" dpkg --remove segcached
   [ ! -e "$root/usr/bin/segcached" ] && [ -e "$options" ] && [ -e "$options-one" ] && [ -e "$options-two-2" ] || return 1
   chroot "$root" dpkg --purge segcached

@@ -4,6 +4,7 @@
     tools/wrong_bodies.py [NAME[/EDIT]..]   tries those of these crates, or these edits, or all; the last line is 'N passed, M failed'
     tools/wrong_bodies.py --anew [..]       tries those again that an earlier run on this machine has passed, too
     tools/wrong_bodies.py --plan [..]       tries nothing, and says which would stand in one check
+    tools/wrong_bodies.py --beside [..]     runs beside `rt ci`, and reads what that says: it tries those of a crate once all below it are proved
 
 It takes the built libraries of the crates below as they stand: `rt check`, `rt lib` and `rt ci` leave them in crates/NAME/out, and tools/prove.py in
 out/proofs. What the prover says stands in out/wrong_bodies.
@@ -18,8 +19,9 @@ on after a function that it refuses, and has a line for each:
     fn NAME::f_wrong0: no proof: it calls ..             says nothing
 
 What a function's proof sees of another is that one's contract, and no edit of a body changes that; so a copy is refused exactly if it is refused
-alone. A method of a trait's impl can't be copied, nor a function with a Proof.antt: it is edited in its place, beside functions that don't call it. An
-edit that isn't in the body of one function (of a constant, say) names the function that must fall in a line '# in: PATH', and has a check of its own.
+alone. A method of a trait's impl can't be copied, nor a function with a Proof.antt: it is edited in its place, and what is said to call it is tried again
+without it. An edit that isn't in the body of one function (of a constant, say) names the function that must fall in a line '# in: PATH', and has a
+check of its own.
 
 Each check has one function's unedited copy as its control, which must be proved: else nothing is known of the edits. One is enough. A fault of the
 copying that the control doesn't meet is a name that some proof file doesn't find, and the edits of that function fail as 'refused by a lost name'.
@@ -55,10 +57,14 @@ import prove
 LOGS = f"{prove.TOP}/out/wrong_bodies"
 # The memory that a check may take.
 GIGABYTES = 3
+# The seconds between two looks at what is proved, where nothing is tried.
+EVERY = 0.2
 REFUSED, LOST, MISSED, UNTRIED, BAD = "refused", "refused by a lost name", "NOT REFUSED", "NOT TRIED", "BAD EDIT"
 LINE = re.compile(r"^fn (\S+): (.*)$", re.MULTILINE)
+IS_PROVED = re.compile(rb"rt: (\w+) (?:proved$|is kept: )")
 HAS_ENDED = re.compile(r"^only=\d+ holes=\d+$", re.MULTILINE)
 PROVED = re.compile(r"no holes|depends on a hole")
+CALLS = re.compile(r"no proof: it calls")
 OPEN = re.compile(r"not proved(; it stands on|$)|no proof: expected answers")
 LOST_NAME = re.compile(r"has no field|is not in scope|has no `|was not admitted|(was|were) not checked")
 
@@ -169,6 +175,13 @@ class Tries:
             for name, paths in room.falls.items():
                 verdicts = [said.verdict(self.crate, it) for it in paths]
                 self.verdicts[name] = next((it for it in verdicts if it.word != REFUSED), verdicts[0])
+            self.try_callers(tried, label)
+
+    def try_callers(self, tried, label):
+        """Tries those again, without the others, that weren't tried since they call a function that another edit of their check changes in its place."""
+        callers = [it for it in tried.edits() if CALLS.match(self.verdicts[it.name].why)]
+        if 0 < len(callers) < len(tried.edits()):
+            self.try_round(tried.part(callers), f"{label}c", True)
 
     def try_halves(self, tried, control, label, said, is_sound):
         """Tries the halves of a round whose check ended so, or says why it can't."""
@@ -195,22 +208,26 @@ class Asked:
     is_named: bool
 
 
-def asked_for(words, is_tried):
-    """What these words of the command ask for: of each crate the edits that are named, or all."""
+def names_in(words):
+    """The crates that these words of the command name, or all that have edits, and of each the edits that are named."""
     names = {}
     for word in words or sorted({path.split("/")[-3] for path in glob.glob(f"{prove.TOP}/crates/*/wrong/*.edit")}):
         crate, _, edit = word.partition("/")
         names.setdefault(crate, set()).update({edit.removesuffix(".edit")} - {""})
-    for name, chosen in names.items():
-        # (Before the crate is read, so that a change in between is seen.)
-        kept = kept_verdicts.Kept(name) if is_tried else None
-        crate = edited_copies.Crate(name)
-        known = {it.name for it in crate.edits} | set(crate.bad)
-        if chosen - known or not known:
-            sys.exit(f"crates/{name}/wrong has no {', '.join(sorted(chosen - known)) or 'edit'}")
-        is_named, chosen = bool(chosen), chosen or known
-        bad = {it: why for it, why in crate.bad.items() if it in chosen}
-        yield Asked(crate, kept, [it for it in crate.edits if it.name in chosen], bad, is_named)
+    return names
+
+
+def asked_of(name, chosen, is_tried):
+    """What is asked for of a crate: the edits that are named, or all."""
+    # (Before the crate is read, so that a change in between is seen.)
+    kept = kept_verdicts.Kept(name) if is_tried else None
+    crate = edited_copies.Crate(name)
+    known = {it.name for it in crate.edits} | set(crate.bad)
+    if chosen - known or not known:
+        sys.exit(f"crates/{name}/wrong has no {', '.join(sorted(chosen - known)) or 'edit'}")
+    is_named, chosen = bool(chosen), chosen or known
+    bad = {it: why for it, why in crate.bad.items() if it in chosen}
+    return Asked(crate, kept, [it for it in crate.edits if it.name in chosen], bad, is_named)
 
 
 def say_plan(asked):
@@ -223,42 +240,90 @@ def say_plan(asked):
             print(f"  {it.crate.name}/{name}: {Verdict(BAD, why)}")
 
 
-def at_once():
-    """How many checks may run side by side."""
-    return max(1, min(machine.processors(), int(machine.free_gigabytes() / GIGABYTES), int(os.environ.get("JOBS", "99"))))
+class Proofs:
+    """Which crates `rt ci` has proved so far, by what it says, and whether it has ended."""
+
+    def __init__(self, lines):
+        self.names, self.have_ended = set(), False
+        threading.Thread(target=self.read, args=(lines,), daemon=True).start()
+
+    def read(self, lines):
+        try:
+            self.names.update(found[1].decode() for it in lines if (found := IS_PROVED.match(it.rstrip())))
+        finally:
+            self.have_ended = True
+
+    def has_those_below(self, name):
+        return self.names.issuperset(prove.with_those_below(prove.read_crates(), name) - {name})
+
+
+def at_once(running, is_beside):
+    """How many checks may run side by side, of which some run already. Beside proofs one processor is left to them, and memory for one more."""
+    most, free = min(machine.processors(), int(os.environ.get("JOBS", "99"))), machine.free_gigabytes()
+    if not is_beside:
+        return max(1, min(most, running + int(free / GIGABYTES)))
+    return max(1, most - 1) if free > GIGABYTES + machine.GIGABYTES_A_PROOF else 0
 
 
 class Run:
-    """A run over what is asked for. It counts the verdicts, and says those that fail and those that were asked for by name."""
+    """A run over what is asked for, beside the proofs if there are any. It counts the verdicts, and says those that fail and those that were asked for by
+    name."""
 
-    def __init__(self):
-        self.passed, self.failed, self.seconds, self.tasks, self.interrupted = 0, 0, 0.0, [], threading.Event()
+    def __init__(self, names, proofs, anew):
+        self.names, self.proofs, self.anew = names, proofs, anew
+        self.passed, self.failed, self.seconds, self.tasks, self.most, self.interrupted = 0, 0, 0.0, [], None, threading.Event()
 
-    def note(self, asked, verdicts, how):
+    def note(self, crate, verdicts, how, is_named=False):
         fine = sum(it.word == REFUSED for it in verdicts.values())
         if verdicts:
-            print(f"{asked.crate.name}: {fine} of {len(verdicts)} wrong bodies refused, {how}", flush=True)
+            print(f"{crate}: {fine} of {len(verdicts)} wrong bodies refused, {how}", flush=True)
         for name, verdict in verdicts.items():
-            if verdict.word != REFUSED or asked.is_named:
-                print(f"  {asked.crate.name}/{name}: {verdict}", flush=True)
+            if verdict.word != REFUSED or is_named:
+                print(f"  {crate}/{name}: {verdict}", flush=True)
         self.passed, self.failed = self.passed + fine, self.failed + len(verdicts) - fine
 
-    def plan(self, asked, anew):
-        """Counts what an earlier run has passed and what can't be placed, and leaves the rest to be tried."""
-        known = [] if anew else [it for it in asked.edits if asked.kept.has(it)]
-        self.note(asked, {it.name: Verdict(REFUSED) for it in known}, "by an earlier run on this machine, which read the same")
-        self.note(asked, {name: Verdict(BAD, why) for name, why in asked.bad.items()}, "as they can't be placed")
+    def plan(self, asked):
+        """Counts what an earlier run has passed and what can't be placed, and leaves the rest to be tried, the longest first."""
+        name, is_named = asked.crate.name, asked.is_named
+        known = [] if self.anew else [it for it in asked.edits if asked.kept.has(it)]
+        self.note(name, {it.name: Verdict(REFUSED) for it in known}, "by an earlier run on this machine, which read the same", is_named)
+        self.note(name, {it: Verdict(BAD, why) for it, why in asked.bad.items()}, "as they can't be placed", is_named)
         rounds = edited_copies.rounds_of(asked.crate, [it for it in asked.edits if it not in known])
-        self.tasks += [(asked, tried, f"{asked.crate.name}{at}") for at, tried in enumerate(rounds)]
+        self.tasks += [(asked, tried, f"{name}{at}") for at, tried in enumerate(rounds)]
+        self.tasks.sort(key=lambda it: -len(it[1].edits()))
+
+    def plan_what_is_ready(self):
+        """Plans the crates that can be tried now. If the proofs have ended, the others never can."""
+        has_ended = not self.proofs or self.proofs.have_ended
+        for name in list(self.names):
+            if not self.proofs or self.proofs.has_those_below(name):
+                self.plan(asked_of(name, self.names.pop(name), True))
+            elif has_ended:
+                edits = self.names.pop(name) or [it.name for it in edited_copies.Crate(name).edits]
+                self.note(name, {it: Verdict(UNTRIED, "a crate below isn't proved") for it in edits}, "as a crate below isn't proved")
+
+    def room(self, running):
+        """How many checks may run side by side now, of which some run already."""
+        if self.proofs and not self.proofs.have_ended:
+            return at_once(running, True)
+        # (once, since a check that has just begun will take more memory than it has)
+        self.most = self.most or at_once(running, False)
+        return self.most
 
     def try_all(self):
-        """Tries what is left, several checks at a time and the longest first, and keeps what passes."""
-        self.tasks.sort(key=lambda it: -len(it[1].edits()))
-        with concurrent.futures.ThreadPoolExecutor(at_once()) as pool:
-            running = [pool.submit(self.try_task, *it) for it in self.tasks]
+        """Tries all, several checks at a time, and keeps what passes."""
+        running = set()
+        with concurrent.futures.ThreadPoolExecutor(machine.processors()) as pool:
             try:
-                for future in concurrent.futures.as_completed(running):
-                    self.end_task(*future.result())
+                while self.names or self.tasks or running:
+                    self.plan_what_is_ready()
+                    while self.tasks and len(running) < self.room(len(running)):
+                        running.add(pool.submit(self.try_task, *self.tasks.pop(0)))
+                    if not running:
+                        time.sleep(EVERY)
+                    ended, running = concurrent.futures.wait(running, EVERY, concurrent.futures.FIRST_COMPLETED)
+                    for it in ended:
+                        self.end_task(*it.result())
             except BaseException:
                 self.interrupted.set()
                 pool.shutdown(wait=False, cancel_futures=True)
@@ -270,7 +335,7 @@ class Run:
         return asked, tried, tries, time.monotonic() - began
 
     def end_task(self, asked, tried, tries, took):
-        self.note(asked, tries.verdicts, f"in {took:.0f} s ({tries.seconds:.0f} s of a processor)")
+        self.note(asked.crate.name, tries.verdicts, f"in {took:.0f} s ({tries.seconds:.0f} s of a processor)", asked.is_named)
         self.seconds += tries.seconds
         asked.kept.keep([it for it in tried.edits() if tries.verdicts[it.name].word == REFUSED])
 
@@ -279,15 +344,14 @@ def main(words):
     parser = argparse.ArgumentParser(description=__doc__, formatter_class=argparse.RawDescriptionHelpFormatter)
     parser.add_argument("--anew", action="store_true", help="try what an earlier run has passed, too")
     parser.add_argument("--plan", action="store_true", help="try nothing, and say which stand in one check")
+    parser.add_argument("--beside", action="store_true", help="wait for the proofs of `rt ci`, by what it says on standard input")
     parser.add_argument("edits", nargs="*", metavar="NAME[/EDIT]")
     given = parser.parse_args(words)
-    asked = list(asked_for(given.edits, not given.plan))
+    names = names_in(given.edits)
     if given.plan:
-        say_plan(asked)
+        say_plan([asked_of(*it, False) for it in names.items()])
         return 0
-    run = Run()
-    for it in asked:
-        run.plan(it, given.anew)
+    run = Run(names, Proofs(sys.stdin.buffer) if given.beside else None, given.anew)
     run.try_all()
     print(f"{run.seconds / 60:.1f} processor minutes of the prover\n{run.passed} passed, {run.failed} failed")
     return int(run.failed > 0)

@@ -49,25 +49,20 @@ def test_those_with_the_longest_way_start_first_and_are_proved_by_several_proces
     monkeypatch.setattr(prove, "LAST", 0.2)
     monkeypatch.setattr(machine, "processors", lambda: 4)
     monkeypatch.setattr(machine, "at_once", lambda: 2)
-    assert prove.to_start(CRATES, ways, set(), {}) == [("base", how(4, True, 0))]
-    assert prove.to_start(CRATES, ways, {"base"}, {}) == [("left", how(2, True, 0)), ("right", how(1, False, nice))]
+    assert prove.to_start(CRATES, ways, set(), {}) == [("base", how(4, 0))]
+    assert prove.to_start(CRATES, ways, {"base"}, {}) == [("left", how(2, 0)), ("right", how(1, nice))]
     assert prove.to_start(CRATES, ways, {"base"}, {"left": None, "right": None}) == []
-    assert prove.to_start(CRATES, ways, {"base", "right"}, {"left": None}) == [("aside", how(1, False, nice))]
-    assert prove.to_start(CRATES, ways, {"base", "left"}, {}) == [("right", how(2, False, 0)), ("aside", how(1, False, 0))]
-    assert prove.to_start(CRATES, ways, {"base", "left", "right", "aside"}, {}) == [("top", how(4, False, 0))]
+    assert prove.to_start(CRATES, ways, {"base", "right"}, {"left": None}) == [("aside", how(1, nice))]
+    assert prove.to_start(CRATES, ways, {"base", "left"}, {}) == [("right", how(2, 0)), ("aside", how(1, 0))]
+    assert prove.to_start(CRATES, ways, {"base", "left", "right", "aside"}, {}) == [("top", how(1, 0))]
     monkeypatch.setattr(machine, "processors", lambda: 1)
-    assert prove.to_start(CRATES, ways, {"base"}, {"right": None}) == [("left", how(1, False, 0))]
+    assert prove.to_start(CRATES, ways, {"base"}, {"right": None}) == [("left", how(1, 0))]
 
 
-def test_the_last_crates_share_the_processors(monkeypatch):
-    ways = prove.ways_to_the_top(CRATES, MINUTES)
-    monkeypatch.setattr(prove, "LAST", 0.2)
-    monkeypatch.setattr(machine, "processors", lambda: 4)
-    monkeypatch.setattr(machine, "at_once", lambda: 2)
-    assert prove.to_start(CRATES, ways, {"base", "left", "aside"}, {}) == [("right", prove.How(4, False, 0))]
-    assert prove.to_start(CRATES, ways, {"base", "left"}, {"aside": None}) == [("right", prove.How(2, False, 0))]
-    monkeypatch.setattr(machine, "processors", lambda: 3)
-    assert prove.to_start(CRATES, ways, {"base", "left"}, {"aside": None}) == [("right", prove.How(2, True, 0))]
+def test_several_processes_keep_their_work_and_one_leaves_statements():
+    prover = prove.Prover("/kit")
+    assert [("--incremental" in words, "--statements" in words) for words in (prover.words("net", prove.How(it, 0)) for it in (2, 1))] == [(True, False), (False, True)]
+    assert "--statements" not in prover.words(prove.NAME, prove.How(1, 0))
 
 
 def test_each_crate_of_the_repository_has_its_minutes():

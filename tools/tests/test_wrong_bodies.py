@@ -6,6 +6,8 @@ import dataclasses
 import os
 import re
 import sys
+import time
+import types
 
 import pytest
 
@@ -160,6 +162,75 @@ def test_what_does_not_compile_is_found_by_halves(low, capsys):
     status, count, said = run(capsys)
     assert (status, count) == (1, "1 passed, 1 failed")
     assert said.keys() == {"no_code"} and said["no_code"].startswith("BAD EDIT: ") and "nothing" in said["no_code"]
+
+
+def as_refused(room):
+    """What a check says in which each edited function falls."""
+    said = "".join(f"fn low::{it}: {'no holes' if it == room.control else 'not proved'}\n" for it in sorted(room.asked))
+    return wrong_bodies.Said(f"{said}only={len(room.asked)} holes=0\n", 1, 1.0)
+
+
+@pytest.fixture
+def above(low, monkeypatch):
+    """Two crates that stand on a third, each with an edit. What is read of `rt ci` is said by a call with lines, each of which comes once the third is
+    built if it says so."""
+    (low.parents[1] / "crates.txt").write_text("below:\nlow: below\nother: low\n")
+    write(low.parent / "below" / "src" / "lib.rt", "")
+    plant(low, {"value": EDITS["value"]})
+    monkeypatch.setattr(wrong_bodies, "checked", as_refused)
+
+    def lines(said):
+        for line in said:
+            time.sleep(0.3)
+            if line == b"rt: below proved\n":
+                write(low.parent / "below" / "out" / "rlib" / "below.rlib" / "format", "made once")
+            yield line
+
+    return lambda *said: monkeypatch.setattr(sys, "stdin", types.SimpleNamespace(buffer=lines(said)))
+
+
+@pytest.mark.parametrize("proved", [b"rt: below proved\n", b"rt: below is kept: an earlier run\n"])
+def test_beside_the_proofs_a_crate_waits_for_those_below(above, low, capsys, proved):
+    if b"kept" in proved:
+        write(low.parent / "below" / "out" / "rlib" / "below.rlib" / "format", "made once")
+    above(b"== below\n", b"rt: below: its tests are proved\n", proved, b"rt: low NOT PROVED\n", b"0 passed, 2 failed\n")
+    assert run(capsys, "--beside") == (0, "1 passed, 0 failed", {})
+
+
+def test_beside_the_proofs_a_crate_above_one_that_is_refused_is_not_tried(above, low, capsys):
+    above(b"rt: below NOT PROVED\n", b"rt: below: its tests are proved\n", b"1 passed, 1 failed\n")
+    status, count, said = run(capsys, "--beside")
+    assert (status, count) == (1, "0 passed, 1 failed")
+    assert said["value"].startswith("NOT TRIED: ")
+
+
+def test_the_proofs_keep_a_processor_and_memory(monkeypatch):
+    monkeypatch.setattr(wrong_bodies.machine, "processors", lambda: 4)
+    monkeypatch.setattr(wrong_bodies.machine, "free_gigabytes", lambda: 8.0)
+    assert [wrong_bodies.at_once(it, True) for it in (0, 2)] == [3, 3]
+    assert [wrong_bodies.at_once(it, False) for it in (0, 1, 3)] == [2, 3, 4]
+    monkeypatch.setattr(wrong_bodies.machine, "free_gigabytes", lambda: 7.0)
+    assert wrong_bodies.at_once(0, True) == 0
+    monkeypatch.setattr(wrong_bodies.machine, "processors", lambda: 1)
+    assert wrong_bodies.at_once(0, False) == 1
+
+
+@pytest.mark.parametrize("said, count", [("not proved", "3 passed, 0 failed"), ("no proof: it calls `low::f`, which is not proved", "2 passed, 1 failed")])
+def test_a_caller_of_what_is_edited_in_its_place_is_tried_without_it(low, capsys, monkeypatch, said, count):
+    rooms = []
+
+    def checked(room):
+        rooms.append(sorted(room.falls))
+        path = room.falls["caller"][0]
+        words = said if len(room.falls) == 1 else "no proof: it calls `low::SquareSized::size`, which is not proved"
+        whole = as_refused(room)
+        return dataclasses.replace(whole, text=whole.text.replace(f"{path}: not proved", f"{path}: {words}"))
+
+    monkeypatch.setattr(wrong_bodies, "checked", checked)
+    caller = "file: src/lib.rt\nold: square.size()\nnew: square.size() / 2\n"
+    plant(low, {"caller": caller, "greatest": EDITS["greatest"], "of_trait": EDITS["of_trait"]})
+    assert run(capsys)[1] == count
+    assert rooms == [["caller", "greatest", "of_trait"], ["caller"]]
 
 
 def test_a_program_has_edits_too(low, capsys):

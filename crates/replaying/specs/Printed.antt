@@ -1,10 +1,11 @@
 -- What `segcached replay` prints for a script.
-use Rattle.std.specs.Prelude.{◌≡◌, ℕ, ◌+◌, true, false, List, [], ◌∷◌, ◌++◌, ◌==◌, length, codes, decimal, flat_map}
+use Rattle.std.specs.Prelude.{◌≡◌, ℕ, ◌+◌, Bool, true, false, List, [], ◌∷◌, ◌++◌, ◌==◌, length, codes, decimal, flat_map}
 use Rattle.std.specs.Prelude.{map, if◌then◌else◌, Some, ⊤}
 use mathlib.Core.Option.{some}
 use lib.ListN.{get_elem?}
 use Rattle.hex.specs.Hex.{encode_lower}
 use Rattle.proto.specs.declared.dialect.Dialect.{Dialect}
+use Rattle.proto.specs.declared.eviction.Eviction.{Eviction}
 use Rattle.proto.specs.Sizes.{Sizes}
 use Rattle.script.specs.declared.event.ScriptEvent.{ScriptEvent}
 use Rattle.script.specs.Clocks.{ClockState}
@@ -18,6 +19,8 @@ use Rattle.script.specs.PortEvents.{is_playable}
 use Rattle.script.specs.Records.{opened_sessions}
 use Rattle.script.specs.Following.{IsPlayed}
 use Rattle.script.specs.States.{PortState, new_player, with_faults, trace_told, PlaysOn}
+use Rattle.segcache.specs.StoreState.{Store}
+use Rattle.segcache.specs.NewStores.{IsNewStore}
 use Rattle.group.specs.declared.report.GroupWorker.{GroupWorker}
 use Rattle.group.specs.declared.report.GroupReport.{GroupReport}
 use Rattle.group.specs.Headline.{IsRun}
@@ -74,15 +77,23 @@ IsPlayedAt port = is_playable port.player.script ≡ true
 abbrev pub ArePlayed : List (GroupWorker PortState) → Type 0
 ArePlayed workers = (k : ℕ) (x : GroupWorker PortState) → get_elem? workers k ≡ some x → IsPlayedAt x.port
 
--- The script has these events for this number of workers. A group of them ran over ports with these events, and over a
--- new clock; and what each session was given is printed, in order of worker and session.
-pub record IsPrinted (sizes : Sizes) (d : Dialect) (clock : ClockState) (workers accept fail_give : ℕ)
-    (text printed : List ℕ) : Type 0 where
+-- a new store, of whatever seed
+pub record IsReplayStore (sizes : Sizes) (in_place : Bool) (d : Dialect) (eviction : Eviction) (store : Store) : Type 0 where
+  pub seed : ℕ
+  pub new : IsNewStore sizes seed in_place d eviction store
+
+-- The script has these events for this number of workers. A group of them ran over ports with these events, over a new
+-- store that changes values in place or doesn't and evicts by this rule, and over a new clock; and what each session was given is
+-- printed, in order of worker and session.
+pub record IsPrinted (sizes : Sizes) (in_place : Bool) (d : Dialect) (eviction : Eviction) (clock : ClockState)
+    (workers accept fail_give : ℕ) (text printed : List ℕ) : Type 0 where
   pub scripts : Workers
   pub read : AreEventsOf workers text scripts
   pub exchange : ExchangeId
   pub ports : List PortState
   pub ports_are : ArePorts sizes d exchange accept fail_give scripts ports
+  pub store : Store
+  pub store_is : IsReplayStore sizes in_place d eviction store
   pub told : RecordingClock
   pub told_is : (told.clock ≡ clock) × (told.answers.items ≡ [])
   pub report : GroupReport PortState RecordingClock

@@ -6,7 +6,7 @@ ghost use Rattle.std.specs.Io.KnownBytes.{Appends};
 ghost use Rattle.script.specs.Clocks.{clock_at};
 ghost use Rattle.script.specs.Scripts.{AreEventsOf};
 ghost use Rattle.replaying.specs.Printed.{in_hexadecimal, printed_line, printed_lines, lines_from, events_of};
-ghost use Rattle.replaying.specs.Printed.{ArePorts, IsPlayedAt, ArePlayed, IsPrinted};
+ghost use Rattle.replaying.specs.Printed.{ArePorts, IsPlayedAt, ArePlayed, IsReplayStore, IsPrinted};
 ghost use Rattle.replaying.specs.Replayed.{IsReplayOf};
 
 use crate::fault::Fault;
@@ -14,7 +14,7 @@ use crate::reading::script_bytes;
 use command_line::Options;
 use exchange::Exchange;
 use group::{Config, GroupWorker, run_group};
-use proto::{Geometry, Terms, Trace};
+use proto::{Geometry, NoMemory, Terms, Trace};
 use script::{RecordingClock, ScriptClock, ScriptPort, WorkerScript, read_script};
 use segcache::Store;
 use std::alloc::{AllocError, Global};
@@ -129,6 +129,15 @@ fn ports_of(
     Ok(ports)
 }
 
+/// A new store, as the options say.
+fn new_store(alloc: Global, options: &Options, geometry: Geometry) -> Result<Store, NoMemory>
+    ensures { IfOk result (IsReplayStore geometry options.entry.now.update_in_place options.entry.now.dialect
+        options.entry.now.eviction) }
+{
+    let in_place = options.update_in_place;
+    Store::evicting(alloc, geometry, in_place, options.dialect, options.eviction)
+}
+
 /// Reads the script, runs a group of workers over it, and prints what each session was given: its worker, its number
 /// and the bytes, a line each, in order of worker and session. What was printed before a fault stays printed.
 ///
@@ -154,10 +163,11 @@ pub fn replay<H: Threads + Wait + time::Clock + Sync, R: Read + Drop, W: Write>(
         options.entry.now.workers options.entry.now.fail_give read.items printed
         × Appends (W.contents out.old) (W.contents out.new) printed) }
 
-    // it is a group's run over ports with the faults that the options ask for
+    // it is a group's run over ports with the faults that the options ask for, and over a store as they say
     ensures ran { IfOk result (λ read. (printed : List ℕ)
-        × IsPrinted geometry options.entry.now.dialect (clock_at options.entry.now.now options.entry.now.tick)
-        options.entry.now.workers options.entry.now.accept options.entry.now.fail_give read.items printed
+        × IsPrinted geometry options.entry.now.update_in_place options.entry.now.dialect options.entry.now.eviction
+        (clock_at options.entry.now.now options.entry.now.tick) options.entry.now.workers options.entry.now.accept
+        options.entry.now.fail_give read.items printed
         × Appends (W.contents out.old) (W.contents out.new) printed) }
 {
     let (scripts, text) = read_events(alloc, options, script)?;
@@ -173,8 +183,7 @@ pub fn replay<H: Threads + Wait + time::Clock + Sync, R: Read + Drop, W: Write>(
     let exchange = Exchange::new(alloc, scripts.len(), config.terms)?;
     let ports = ports_of(alloc, options, geometry, &exchange, scripts)?;
     let clock = RecordingClock::new(ScriptClock::new(options.now, options.tick));
-    let in_place = options.update_in_place;
-    let store = Store::evicting(alloc, geometry, in_place, options.dialect, options.eviction)?;
+    let store = new_store(alloc, options, geometry)?;
     let report = run_group(rt, alloc, ports, exchange, config, store, clock, &OpenGate)?;
     write_lines(alloc, out, report.workers.as_slice())?;
     Ok(text)

@@ -13,3 +13,4 @@ pub mod Merging
 pub mod Handling
 pub mod StayingFilled
 pub mod Promises
+pub mod NewStores

@@ -11,9 +11,9 @@ use Rattle.net.specs.declared.port.MioPort.{MioPort}
 use Rattle.net.specs.Traces.{trace_of, IsNew}
 use Rattle.proto.specs.ClockAnswers.{ClockLog, seconds_since}
 use Rattle.segcache.specs.StoreState.{Store}
+use Rattle.segcache.specs.NewStores.{IsNewStore}
 use Rattle.group.specs.declared.report.GroupReport.{GroupReport}
 use Rattle.group.specs.Headline.{IsRun}
-use Rattle.serving.specs.NewStores.{IsNewStore}
 
 -- what a port over sockets tells
 abbrev pub socket_told : {R : Type 0} → MioPort R → Option PortTrace
@@ -28,16 +28,21 @@ abbrev pub AreNewPorts : {R : Type 0} → Sizes → Dialect → ExchangeId → L
 AreNewPorts {R} sizes d exchange ports =
     (w : ℕ) (port : MioPort R) → get_elem? ports w ≡ some port → IsNew sizes d w exchange (trace_of port.served)
 
+-- a new store as the options say, which hashes this seed before each key
+abbrev pub IsStoreFor : Sizes → ℕ → ServeOptions → Store → Type 0
+IsStoreFor sizes seed options store = IsNewStore sizes seed options.update_in_place options.dialect options.eviction store
+
 -- A group ran as the options say over new ports and a new store, both of these sizes, and over the system's clock, which
--- was not read yet, and left this report. Each answer of its clock is the seconds of a reading.
-pub record IsServed {R : Type 0} (sizes : Sizes) (options : ServeOptions)
+-- was not read yet, and left this report. The store hashes this seed before each key. Each answer of the clock is the seconds of a
+-- reading.
+pub record IsServed {R : Type 0} (sizes : Sizes) (seed : ℕ) (options : ServeOptions)
     (report : GroupReport (MioPort R) ClockLog) : Type 0 where
   pub exchange : ExchangeId
   pub ports : List (MioPort R)
   pub new_ports : AreNewPorts sizes options.dialect exchange ports
   pub count : length ports ≡ options.workers
   pub store : Store
-  pub new_store : IsNewStore sizes options store
+  pub new_store : IsStoreFor sizes seed options store
   pub clock : ClockLog
   pub unread : clock.readings ≡ []
   pub run : IsRun socket_told (λ _ _. ⊤) clock_told (λ _ _. ⊤) ⊤ false sizes ports clock report

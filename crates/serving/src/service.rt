@@ -4,11 +4,10 @@ ghost use Rattle.std.specs.Prelude.{◌≡◌, ℕ, List, vec_len, IfOk, OnOk};
 ghost use Rattle.std.specs.String.{string_bytes};
 ghost use Rattle.std.specs.Io.KnownBytes.{Appends};
 ghost use Rattle.serving.specs.Listening.{IsListeningLine};
-ghost use Rattle.serving.specs.NewStores.{IsNewStore};
 ghost use Rattle.worker_port.specs.Giving.{by_system_clock};
 ghost use Rattle.proto.specs.ClockAnswers.{ClockLog};
 ghost use Rattle.net.specs.Traces.{trace_of, IsNew};
-ghost use Rattle.serving.specs.Runs.{AreNewPorts, IsServed};
+ghost use Rattle.serving.specs.Runs.{AreNewPorts, IsStoreFor, IsServed};
 
 use crate::fault::Fault;
 use crate::operator::{Operator, Watch};
@@ -150,7 +149,7 @@ fn open<H>(
 ) -> Result<Opened<H>, Fault>
 where
     H: Wait + Net + time::Clock + Copy + Drop,
-    ensures store { IfOk result (λ opened. IsNewStore geometry options.entry.now opened.store) }
+    ensures store { IfOk result (λ opened. IsStoreFor geometry seed options.entry.now opened.store) }
     ensures exchange { IfOk result (λ opened. (opened.exchange.workers ≡ options.entry.now.workers)
         × (opened.exchange.terms ≡ by_system_clock geometry)) }
     ensures ports { IfOk result (λ opened. AreNewPorts geometry options.entry.now.dialect opened.exchange.id
@@ -215,15 +214,16 @@ fn run_workers<H>(
     exchange: Exchange,
     store: Store,
     geometry: Geometry,
+    _seed: u64,
     options: &ServeOptions,
 ) -> Result<Report<H>, Fault>
 where
     H: Threads + Wait + time::Clock + Copy + Drop + Send + Sync + 'static,
-    requires store { IsNewStore geometry options.now store }
+    requires store { IsStoreFor geometry _seed options.now store }
     requires count { vec_len ports ≡ options.now.workers }
     requires exchange { (exchange.workers ≡ vec_len ports) × (exchange.terms ≡ by_system_clock geometry) }
     requires ports { AreNewPorts geometry options.now.dialect exchange.id ports.items }
-    ensures { IfOk result (λ report. IsServed geometry options.entry.now report) }
+    ensures { IfOk result (λ report. IsServed geometry _seed options.entry.now report) }
 {
     let config = Config {
         terms: Terms {
@@ -245,16 +245,17 @@ fn run<H>(
     alloc: Global,
     opened: Opened<H>,
     geometry: Geometry,
+    seed: u64,
     options: &ServeOptions,
 ) -> Result<Report<H>, Fault>
 where
     H: Threads + Wait + Net + time::Clock + Eprint + Copy + Drop + Send + Sync + 'static,
-    requires store { IsNewStore geometry options.now opened.store }
+    requires store { IsStoreFor geometry seed options.now opened.store }
     requires count { vec_len opened.ports ≡ options.now.workers }
     requires exchange { (opened.exchange.workers ≡ vec_len opened.ports)
         × (opened.exchange.terms ≡ by_system_clock geometry) }
     requires ports { AreNewPorts geometry options.now.dialect opened.exchange.id opened.ports.items }
-    ensures { IfOk result (λ report. IsServed geometry options.entry.now report) }
+    ensures { IfOk result (λ report. IsServed geometry seed options.entry.now report) }
 {
     let Opened {
         listener,
@@ -270,7 +271,7 @@ where
         hands,
         options.sessions,
     )?;
-    let report = run_workers(rt, alloc, ports, exchange, store, geometry, options)?;
+    let report = run_workers(rt, alloc, ports, exchange, store, geometry, seed, options)?;
     listening.join(&rt);
     Operator::new(rt, alloc).has_ended();
     Ok(report)
@@ -318,11 +319,11 @@ where
     ensures announced { OnOk result ((port : ℕ) × (line : List ℕ)
         × IsListeningLine (string_bytes options.entry.now.listen) port line
         × Appends (W.contents out.old) (W.contents out.new) line) }
-    ensures served { IfOk result (λ report. IsServed geometry options.entry.now report) }
+    ensures served { IfOk result (λ report. IsServed geometry seed options.entry.now report) }
 {
     let opened = open(rt, alloc, options, geometry, seed)?;
     announce_all(rt, alloc, options, opened.listener.port(), out)?;
-    run(rt, alloc, opened, geometry, options)
+    run(rt, alloc, opened, geometry, seed, options)
 }
 
 /// Serves as `serve` does, and drops what the group left.
@@ -345,7 +346,7 @@ where
         × Appends (W.contents out.old) (W.contents out.new) line) }
     // there was such a report
     ensures served { OnOk result ((report : GroupReport (MioPort H) ClockLog)
-        × IsServed geometry options.entry.now report) }
+        × IsServed geometry seed options.entry.now report) }
 {
     serve(rt, alloc, options, geometry, seed, out)?;
     Ok(())

@@ -201,13 +201,22 @@ impl Upkeep {
 
     /// Uncounts the keys of a `get` that was settled, and keeps the memory of its hits for another one.
     pub(crate) fn settled(&mut self, answered: Answered) {
-        if let Request::Get { keys, .. } = &answered.request {
+        let Answered { request, reply, .. } = answered;
+        self.uncount(&request);
+        self.keep_buffer(reply);
+    }
+
+    fn uncount(&mut self, request: &Request) {
+        if let Request::Get { keys, .. } = request {
             self.keys = self.keys.saturating_sub(keys.len());
         }
-        if matches!(answered.reply, Reply::TooLarge) {
+    }
+
+    fn keep_buffer(&mut self, reply: Reply) {
+        if matches!(reply, Reply::TooLarge) {
             self.counts.refused_item();
         }
-        if let Some(spare) = answered.reply.into_buffer() {
+        if let Some(spare) = reply.into_buffer() {
             self.spares.keep(Use::Hits, spare.into_bytes());
         }
     }

@@ -1,10 +1,10 @@
 //! How many requests a lane holds, whose turn it is, and what is refused.
 
-ghost use Rattle.std.specs.Prelude.{◌≡◌, [], None, IfOk};
+ghost use Rattle.std.specs.Prelude.{◌≡◌, ◌+◌, [], length, None, IfOk};
 
 use crate::clock::Stopped;
 use crate::same::check_same;
-use exchange::{MakeFault, Posted, StorageEnd, Taken, WorkerEnd, make};
+use exchange::{MakeFault, Posted, StorageEnd, Taken, WorkerBatch, WorkerEnd, make};
 use proto::{AskedClock, ByteString, Geometry, Request, Terms};
 use std::alloc::Global;
 use std::process::Abort;
@@ -228,4 +228,49 @@ fn one_to_eight_workers(rt: HostRuntime) -> Result<(), Fail> {
         check_same(&rt, made_counts(rt.alloc(), workers)?, wanted, workers);
     }
     Ok(())
+}
+
+/// Two histories that the worker was told of are compared, and one of them is checked.
+fn apply_laws(batch: &mut WorkerBatch)
+    ensures { batch.new ≡ batch.old }
+{
+    let first = batch.told();
+    let second = batch.told();
+    let first = batch.compare(first, second);
+    batch.check(first);
+}
+
+/// Whether a request can be put and sent after the laws.
+fn is_put_after_laws(end: WorkerEnd, posted: Posted) -> bool
+    requires { posted.number ≡ length end.sent + 1 }
+{
+    let mut batch = end.batched();
+    apply_laws(&mut batch);
+    let is_put = batch.put(posted).is_ok();
+    apply_laws(&mut batch);
+    batch.flush();
+    is_put
+}
+
+fn check_laws(
+    rt: &impl Abort,
+    alloc: Global,
+    end: WorkerEnd,
+    storage: &mut StorageEnd,
+) -> Result<(), Fail>
+    requires { storage.old.history ≡ [] }
+{
+    let posted = deletion(alloc, end.sent() + 1)?;
+    check_same(rt, is_put_after_laws(end, posted), true, "a request is put");
+    check_next(rt, storage, Some((1, true)), "the request");
+    Ok(())
+}
+
+#[test]
+fn laws_of_told_histories_leave_the_lanes_alone(rt: HostRuntime) -> Result<(), Fail> {
+    let mut lanes = made(rt.alloc(), 2)?;
+    match lanes.workers.pop() {
+        Some(end) => check_laws(&rt, rt.alloc(), end, &mut lanes.storage),
+        None => Err("no end".into()),
+    }
 }

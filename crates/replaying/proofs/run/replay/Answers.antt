@@ -29,6 +29,8 @@ returns-clause-ran g c =
         exchange = c.in_ok-exchange.exchange.id;
         ports = c.in_ok-ports.ports.items;
         ports_are = c.in_ok-ports.ensures;
+        store = c.in_ok-store.store;
+        store_is = c.in_ok-store.ensures;
         told = c.new-clock.result;
         told_is = (c.new-clock.ensures.clock ∙ c.new-2.ensures, c.new-clock.ensures.answers);
         report = c.in_ok-report.report;
@@ -36,7 +38,7 @@ returns-clause-ran g c =
             (λ (k : RecordingClock). Some
             k.answers.items) GivesAnswers _ _ _ c.args.geometry c.in_ok-ports.ports.items c.new-clock.result
             c.in_ok-report.report
-            c.in_ok-report.ensures.run c.in_ok-store.ensures.sizes c.in_ok-store.ensures.keeps;
+            c.in_ok-report.ensures.run c.in_ok-store.ensures.new.sizes_are c.in_ok-store.ensures.new.keeps;
         printed_is = refl;
       },
       all.0,
@@ -54,7 +56,7 @@ returns-clause-printed g c =
           (λ (k : RecordingClock). Some
           k.answers.items) GivesAnswers _ _ _ c.args.geometry c.in_ok-ports.ports.items c.new-clock.result
           c.in_ok-report.report
-          c.in_ok-report.ensures.run c.in_ok-store.ensures.sizes c.in_ok-store.ensures.keeps)
+          c.in_ok-report.ensures.run c.in_ok-store.ensures.new.sizes_are c.in_ok-store.ensures.new.keeps)
           all.1,
       all.0,
     )

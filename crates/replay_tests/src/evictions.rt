@@ -9,14 +9,15 @@ use std::test::Fail;
 use std::thread::Threads;
 use std::time;
 
-/// `writes` keys are written with this TTL, the first one is read `reads` times before the 65th write, and then all are
-/// read.
+/// `writes` keys are written with this TTL, the first one is read `reads` times before the 65th write, the last one is written
+/// `again` times, and then all are read.
 #[derive(Clone, Copy)]
 struct Run {
     words: &'static str,
     ttl: u32,
     writes: u32,
     reads: u32,
+    again: u32,
     /// The first and the last key that are forgotten.
     forgotten: (u32, u32),
     /// So of others, with a rule that merges other segments next; (0, 0) if there are none.
@@ -26,13 +27,16 @@ struct Run {
 /// The first merge takes the first four segments, of 32 keys. With `least-read` the second one takes those behind what
 /// the first one left, with the keys 33 to 64; with `oldest` what it left, and three segments behind it. With a TTL whose
 /// bucket is 128 seconds wide and a tick of a second, segments are opened eight seconds apart, and `oldest` merges none;
-/// for `least-read` those of 64 seconds are opened at one moment, which end at 1,088.
-const RUNS: [Run; 12] = [
+/// for `least-read` those of 64 seconds are opened at one moment, which end at 1,088. With `least-read` a key that is written
+/// again goes over its item: one of a segment that was opened at 1,088 and ends at 3,136, until 1,291, when 2,100 seconds end
+/// 255 seconds later.
+const RUNS: [Run; 16] = [
     Run {
         words: "",
         ttl: 0,
         writes: 64,
         reads: 0,
+        again: 0,
         forgotten: (0, 0),
         also: (0, 0),
     },
@@ -41,6 +45,7 @@ const RUNS: [Run; 12] = [
         ttl: 0,
         writes: 65,
         reads: 0,
+        again: 0,
         forgotten: (1, 24),
         also: (0, 0),
     },
@@ -49,6 +54,7 @@ const RUNS: [Run; 12] = [
         ttl: 0,
         writes: 65,
         reads: 1,
+        again: 0,
         forgotten: (2, 25),
         also: (0, 0),
     },
@@ -57,6 +63,7 @@ const RUNS: [Run; 12] = [
         ttl: 0,
         writes: 89,
         reads: 0,
+        again: 0,
         forgotten: (1, 48),
         also: (0, 0),
     },
@@ -65,6 +72,7 @@ const RUNS: [Run; 12] = [
         ttl: 0,
         writes: 89,
         reads: 2,
+        again: 0,
         forgotten: (2, 49),
         also: (0, 0),
     },
@@ -73,6 +81,7 @@ const RUNS: [Run; 12] = [
         ttl: 0,
         writes: 89,
         reads: 0,
+        again: 0,
         forgotten: (1, 48),
         also: (0, 0),
     },
@@ -81,6 +90,7 @@ const RUNS: [Run; 12] = [
         ttl: 0,
         writes: 65,
         reads: 0,
+        again: 0,
         forgotten: (1, 24),
         also: (0, 0),
     },
@@ -89,6 +99,7 @@ const RUNS: [Run; 12] = [
         ttl: 0,
         writes: 89,
         reads: 0,
+        again: 0,
         forgotten: (1, 24),
         also: (33, 56),
     },
@@ -97,6 +108,7 @@ const RUNS: [Run; 12] = [
         ttl: 0,
         writes: 89,
         reads: 1,
+        again: 0,
         forgotten: (2, 25),
         also: (33, 56),
     },
@@ -105,6 +117,7 @@ const RUNS: [Run; 12] = [
         ttl: 2100,
         writes: 65,
         reads: 0,
+        again: 0,
         forgotten: (1, 8),
         also: (0, 0),
     },
@@ -113,6 +126,7 @@ const RUNS: [Run; 12] = [
         ttl: 2100,
         writes: 65,
         reads: 0,
+        again: 0,
         forgotten: (1, 24),
         also: (0, 0),
     },
@@ -121,7 +135,44 @@ const RUNS: [Run; 12] = [
         ttl: 2100,
         writes: 65,
         reads: 0,
+        again: 0,
         forgotten: (9, 32),
+        also: (0, 0),
+    },
+    Run {
+        words: "",
+        ttl: 0,
+        writes: 64,
+        reads: 0,
+        again: 1,
+        forgotten: (1, 24),
+        also: (0, 0),
+    },
+    Run {
+        words: "--evict least-read",
+        ttl: 0,
+        writes: 64,
+        reads: 0,
+        again: 100,
+        forgotten: (0, 0),
+        also: (0, 0),
+    },
+    Run {
+        words: "--now 1088 --tick 1 --evict least-read",
+        ttl: 2100,
+        writes: 64,
+        reads: 0,
+        again: 140,
+        forgotten: (0, 0),
+        also: (0, 0),
+    },
+    Run {
+        words: "--now 1088 --tick 1 --evict least-read",
+        ttl: 2100,
+        writes: 64,
+        reads: 0,
+        again: 141,
+        forgotten: (1, 24),
         also: (0, 0),
     },
 ];
@@ -153,15 +204,28 @@ fn push_times(text: &mut String, piece: &str, times: u32) -> Result<(), AllocErr
     Ok(())
 }
 
+/// Adds a write of a key with this TTL.
+fn push_set(
+    alloc: Global,
+    text: &mut String,
+    key: u32,
+    ttl: u32,
+    value: &str,
+) -> Result<(), AllocError> {
+    let behind = format!(in alloc; " 0 {ttl} 476\r\n")?;
+    push_key(alloc, text, "set ", key, behind.as_str())?;
+    push_value(text, value)
+}
+
 fn push_input(alloc: Global, text: &mut String, run: Run, value: &str) -> Result<(), AllocError> {
     for key in 1..=run.writes {
         if key == 65 {
             push_times(text, "get k001\r\n", run.reads)?;
         }
-        let ttl = run.ttl;
-        let behind = format!(in alloc; " 0 {ttl} 476\r\n")?;
-        push_key(alloc, text, "set ", key, behind.as_str())?;
-        push_value(text, value)?;
+        push_set(alloc, text, key, run.ttl, value)?;
+    }
+    for _ in 0..run.again {
+        push_set(alloc, text, run.writes, run.ttl, value)?;
     }
     for key in 1..=run.writes {
         push_key(alloc, text, "get ", key, "\r\n")?;
@@ -190,6 +254,7 @@ fn push_output(alloc: Global, text: &mut String, run: Run, value: &str) -> Resul
         }
         text.push_str("STORED\r\n")?;
     }
+    push_times(text, "STORED\r\n", run.again)?;
     for key in 1..=run.writes {
         if !is_within(run.forgotten, key) && !is_within(run.also, key) {
             push_hit(alloc, text, key, value)?;

@@ -157,7 +157,7 @@ deadline_may t bucket opened (Some asked) waits is was unclosed =
     subst (MayLive t (Some asked)) (sym e) (may_be_shared t asked opened bucket later is was b a)
 
 -- a deadline that an entry may get at a moment hasn't come at that moment
-may_wait : (t : ℕ) (asked given : Option ℕ) → MayLive t asked given → has_arrived given t ≡ false
+pub may_wait : (t : ℕ) (asked given : Option ℕ) → MayLive t asked given → has_arrived given t ≡ false
 may_wait t None None h = refl
 may_wait t None (Some d) h = absurd h
 may_wait t (Some a) None h = refl

@@ -37,7 +37,7 @@ use Rattle.segcache.proofs.WritesWithRoom.{written_more, all_last}
 -- ---- what is shown
 
 -- an item that is put over another one is shown where it stands
-over_entry : (p : PoolState) (place : Place) (new : Item) → KeepsSize (λ _. new) (item_in p place)
+pub over_entry : (p : PoolState) (place : Place) (new : Item) → KeepsSize (λ _. new) (item_in p place)
     → entry_at (with_item_at p place new) place ≡ kept_entry (place_deadline p place) new
 over_entry p place new k =
     let itself = same_place_itself place in
@@ -45,13 +45,13 @@ over_entry p place new k =
     changed_entry (λ _. new) p place place k ∙ rw (itself, is) refl
 
 -- and elsewhere is shown what was
-other_entry : (p : PoolState) (place r : Place) (new : Item) → KeepsSize (λ _. new) (item_in p place)
+pub other_entry : (p : PoolState) (place r : Place) (new : Item) → KeepsSize (λ _. new) (item_in p place)
     → same_place r place ≡ false → entry_at (with_item_at p place new) r ≡ entry_at p r
 unfolding entry_at
 other_entry p place r new k n = changed_entry (λ _. new) p place r k ∙ rw n refl
 
 -- places of different keys differ
-apart : (p : PoolState) (index : Table) (key q : List ℕ) (place r : Place)
+pub apart : (p : PoolState) (index : Table) (key q : List ℕ) (place r : Place)
     → finite.get (current p index) key ≡ Some place → finite.get (current p index) q ≡ Some r
     → bytes_eq q key ≡ false → same_place r place ≡ false
 apart p index key q place r there here n =
@@ -67,7 +67,7 @@ apart p index key q place r there here n =
     ]
 
 -- a key whose place shows another entry now, where all others show what they did
-shown_over : (p after : PoolState) (m : Places) (t : ℕ) (key : List ℕ) (place : Place) (e : Entry)
+pub shown_over : (p after : PoolState) (m : Places) (t : ℕ) (key : List ℕ) (place : Place) (e : Entry)
     → finite.get m key ≡ Some place → entry_at after place ≡ e → is_live e t ≡ true
     → ((q : List ℕ) (r : Place) → bytes_eq q key ≡ false → finite.get m q ≡ Some r → entry_at after r ≡ entry_at p r)
     → live_entries after m t ≡ finite.insert (live_entries p m t) key e
@@ -119,7 +119,7 @@ over old key e place kept there changed =
     }
 
 -- an item that may be stored may be so with the read count of another one
-with_reads : (limit : ℕ) (i j : Item) → IsStorable limit i → IsStorable limit j
+pub with_reads : (limit : ℕ) (i j : Item) → IsStorable limit i → IsStorable limit j
     → IsStorable limit (record i { reads = j.reads })
 with_reads limit i j s r =
     record {
@@ -132,11 +132,11 @@ with_reads limit i j s r =
     }
 
 -- an entry whose deadline hasn't come is live
-waiting : (e : Entry) (t : ℕ) → has_arrived e.deadline t ≡ false → is_live e t ≡ true
+pub waiting : (e : Entry) (t : ℕ) → has_arrived e.deadline t ≡ false → is_live e t ≡ true
 waiting e t h = rw h refl
 
 -- an item put over the one of its key leaves size and key
-over_keeps : (p : PoolState) (place : Place) (new i : Item) → item_in p place ≡ Some i → i.key ≡ new.key
+pub over_keeps : (p : PoolState) (place : Place) (new i : Item) → item_in p place ≡ Some i → i.key ≡ new.key
     → fits_over new (item_in p place) ≡ true → KeepsKey (λ _. new) p place
 over_keeps p place new i at same fits =
     record {

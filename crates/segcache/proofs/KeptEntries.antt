@@ -28,7 +28,7 @@ use Rattle.segcache.specs.Shown.{current, shown_entries, live_entries, entry_at,
 use Rattle.segcache.specs.State.{MapState}
 use Rattle.segcache.specs.Kept.{IsPast}
 use Rattle.segcache.specs.Living.{live_others}
-use Rattle.segcache.specs.Writes.{unread, WritesToSegments}
+use Rattle.segcache.specs.Writes.{StandsAt, unread, goes_over, WritesAnew}
 use Rattle.segcache.specs.Forgetting.{PlacesItem, keys_forgotten}
 use Rattle.segcache.specs.Keeping.{AllLast, KeepsStored}
 use Rattle.segcache.proofs.ShownItems.{get-live_in, entry_is}
@@ -45,7 +45,7 @@ undated_segment None all = refl
 undated_segment (Some u) all = let z = eq-eqb u.bucket lasting (all u refl) in rw z refl
 
 -- where all segments are of that bucket, no place has a deadline
-undated_place : (p : PoolState) (r : Place) → AllLast p → place_deadline p r ≡ None
+pub undated_place : (p : PoolState) (r : Place) → AllLast p → place_deadline p r ≡ None
 undated_place p r all = undated_segment (segment_at p r.segment) (all r.segment)
 
 -- the deadline of an entry, none where there is no entry
@@ -137,19 +137,21 @@ same_put all m n key a b one other =
     cc
 
 -- An item that was placed is that of the entry, with the deadline that is shown.
-pub writes_to_segments : (old new : MapState) (key : List ℕ) (e : Entry)
+pub writes_anew : (old new : MapState) (key : List ℕ) (e : Entry)
+    → ((place : Place) → StandsAt old key place → goes_over old e.deadline (unread key e) place ≡ false)
     → IsStorable (item_limit old.pool.sizes) (unread key e)
     → PlacesItem (live_others key old.marks old.moment) old.pool old.index
     (bucket_of (time_to_live e.deadline old.moment)) old.moment (unread key e) new.pool new.index
     → (deadline : Option ℕ) → MayLive old.moment e.deadline deadline → (kept : Entries)
     → shown_entries new.pool new.index old.moment ≡ finite.insert kept key (kept_entry deadline (unread key e))
-    → WritesToSegments old key e new
-writes_to_segments old new key e storable placed deadline may kept entries =
+    → WritesAnew old key e new
+writes_anew old new key e anew storable placed deadline may kept entries =
     let lives = live_others key old.marks old.moment in
     let bucket = bucket_of (time_to_live e.deadline old.moment) in
     let keys = keys_forgotten lives old.pool bucket old.moment
     (unread key e) placed.written.roomy placed.written.room in
     record {
+      anew = anew;
       storable = storable;
       placed = placed;
       deadline = deadline;

@@ -38,6 +38,8 @@ pub mod WritesWithRoom
 pub mod KeptEntries
 -- the contract of `rewrite`: an item put over the one of its key
 pub mod ChangedItems
+-- the contracts of `put_over`, and of `write` where an item goes over another
+pub mod ItemsPutOver
 -- the contract of `may_stay`: an entry that is left as it is
 pub mod LeftEntries
 -- the promise `HandlesSegments` of `Store::handle`

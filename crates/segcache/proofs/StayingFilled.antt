@@ -23,7 +23,8 @@ use Rattle.engine.specs.Keeping.{ForgetsNone}
 use Rattle.engine.specs.Outcomes.{outcome_at}
 use Rattle.engine.specs.Engines.{Way, way_of}
 use Rattle.engine.proofs.KeepingLemmas.{answered_item}
-use Rattle.segments.specs.Pools.{PoolState, item_in}
+use Rattle.segments.specs.Items.{Item}
+use Rattle.segments.specs.Pools.{PoolState, item_in, place_deadline}
 use Rattle.segments.specs.Changes.{with_read, with_item_at}
 use Rattle.segments.specs.Items.{read_again}
 use Rattle.segments.specs.Filling.{IsFilled, HoldsLittle, held_size}
@@ -34,12 +35,13 @@ use Rattle.segcache.specs.Shown.{shown_entries}
 use Rattle.segcache.specs.State.{MapState, IsSegmentedMap}
 use Rattle.segcache.specs.StoreState.{sizes_in, segmented_cache}
 use Rattle.segcache.specs.Living.{live_others}
-use Rattle.segcache.specs.Writes.{WritesToSegments, ChangesInPlace, StaysDated, IsReadAgain, unread, with_value}
+use Rattle.segcache.specs.Writes.{WritesToSegments, WritesAnew, GoesOver, ChangesInPlace, StaysDated, IsReadAgain, unread, with_value}
 use Rattle.segcache.specs.Handling.{LeavesSegments, HandlesSegments}
 use Rattle.segcache.specs.Handling.LeavesSegments.{writes, changes, dates, reads, stays, refuses}
 use Rattle.segcache.specs.StayingFilled.{StaysFilled}
 use Rattle.segcache.proofs.TiedParts.{current_some}
 use Rattle.segcache.proofs.ChangedItems.{sized_over}
+use Rattle.segcache.proofs.ItemsPutOver.{sized_below}
 use Rattle.segcache.proofs.WritesWithRoom.{kept_with}
 
 -- reads leave segments filled, and holding what they held
@@ -75,14 +77,14 @@ LeavesFilled t found done reply after =
     IsFilled found.pool → AllByRecursion (λ (i : StoredItem). HoldsLittle found.pool i.bucket t) (items_by t done reply)
     → IsLeftFilled t found done reply after (items_by t done reply)
 
--- an item that was written where little is held
-written_filled : (found after : MapState) (done : Outcome) (key : List ℕ) (e : Entry) → IsSegmentedMap found
+-- an item that was written anew where little is held
+anew_filled : (found after : MapState) (done : Outcome) (key : List ℕ) (e : Entry) → IsSegmentedMap found
     → (done.reply ≡ NoMemory → ⊥)
     → done.stored ≡ Some key
     → done.entries ≡ finite.insert (shown_entries found.pool found.index found.moment) key e
-    → WritesToSegments found key e after
+    → WritesAnew found key e after
     → LeavesFilled found.moment found done done.reply after
-written_filled found after done key e kept other stored asked w filled little =
+anew_filled found after done key e kept other stored asked w filled little =
     let p = found.pool in
     let t = found.moment in
     let one : StoredItem = record { size = entry_size key e; bucket = bucket_of (time_to_live e.deadline t) } in
@@ -112,6 +114,45 @@ written_filled found after done key e kept other stored asked w filled little =
       filled = k.filled;
       held = omega arith;
     }
+
+-- an item that went over the one of its key
+over_filled : (found after : MapState) (done : Outcome) (key : List ℕ) (e : Entry)
+    → done.stored ≡ Some key
+    → done.entries ≡ finite.insert (shown_entries found.pool found.index found.moment) key e
+    → GoesOver found (unread key e) e.deadline after → (items : List StoredItem) → IsFilled found.pool
+    → IsLeftFilled found.moment found done done.reply after items
+over_filled found after done key e stored asked w items filled =
+    let p = found.pool in
+    let t = found.moment in
+    let shown = shown_entries p found.index t in
+    let d = place_deadline p w.place in
+    let left : Entry = record e { deadline = d } in
+    let i : Item = record (unread key e) { reads = w.found.reads } in
+    let same : after.pool ≡ with_item_at p w.place i = ap (λ (m : MapState). m.pool) w.new_is in
+    let f = filled_changed (λ _. i) p w.place (sized_below found after (unread key e) e.deadline w) filled in
+    let exact : IsDated t done.reply (finite.insert shown key e) (Some key) (finite.insert shown key left) =
+    dated-insert t done.reply shown key e d (live_dated t e.deadline d done.reply w.may_live) in
+    let held : held_size after.pool ≡ held_size p = ap held_size same ∙ f.1 in
+    record {
+      dated = inr (inr (subst (λ (o : Option (List ℕ)). IsDated t done.reply done.entries o
+          (shown_entries after.pool after.index t)) (sym stored)
+          (subst (λ (m : Entries). IsDated t done.reply m (Some key) (shown_entries after.pool after.index t)) (sym asked)
+          (subst (λ (m : Entries). IsDated t done.reply (finite.insert shown key e) (Some key) m) (sym w.entries) exact))));
+      filled = subst IsFilled (sym same) f.0;
+      held = omega arith;
+    }
+
+-- an item that was written
+written_filled : (found after : MapState) (done : Outcome) (key : List ℕ) (e : Entry) → IsSegmentedMap found
+    → (done.reply ≡ NoMemory → ⊥)
+    → done.stored ≡ Some key
+    → done.entries ≡ finite.insert (shown_entries found.pool found.index found.moment) key e
+    → WritesToSegments found key e after
+    → LeavesFilled found.moment found done done.reply after
+written_filled found after done key e kept other stored asked (inl w) =
+    λ filled little. over_filled found after done key e stored asked w (items_by found.moment done done.reply) filled
+written_filled found after done key e kept other stored asked (inr w) =
+    anew_filled found after done key e kept other stored asked w
 
 -- an item that was changed where it stands
 changed_filled : (found after : MapState) (done : Outcome) (key : List ℕ) (e : Entry)

@@ -9,9 +9,9 @@ use Rattle.proto.specs.Buckets.{bucket_of, time_to_live, life_width, MayLive}
 use Rattle.segments.specs.declared.place.Place.{Place}
 use Rattle.segments.specs.Items.{Item, IsStorable, fits_over}
 use Rattle.segments.specs.Pools.{item_in, place_deadline}
-use Rattle.segments.specs.Changes.{with_read, with_item_at, with_segment_hit}
+use Rattle.segments.specs.Changes.{with_read, with_item_at, with_segment_hit, goes_over_by}
 use Rattle.segcache.specs.State.{MapState, IsSegmentedMap}
-use Rattle.segcache.specs.Shown.{current, entry_at, shown_entries}
+use Rattle.segcache.specs.Shown.{current, entry_at, kept_entry, shown_entries}
 use Rattle.segcache.specs.Living.{live_others}
 use Rattle.segcache.specs.Forgetting.{PlacesItem}
 
@@ -27,9 +27,39 @@ unread key e = record { cas = e.cas; flags = e.flags; key = key; value = e.value
 abbrev pub with_value : Entry → Item → Item
 with_value e i = record i { value = e.value; cas = e.cas }
 
--- The entry's item, which a segment can hold, was placed in the bucket of its time to live, at the map's moment,
+-- whether a life, of which what is above 8,388,608 seconds doesn't count, loses less than two widths of its bucket
+abbrev pub loses_little : ℕ → ℕ → ℕ → Bool
+loses_little t asked given = nat_lt (min asked (t + 8388608)) (given + 2 * life_width (asked - t))
+
+-- whether a write at the moment t that asks for the first deadline may give the second one
+abbrev pub may_give : ℕ → Option ℕ → Option ℕ → Bool
+may_give t None None = true
+may_give t (Some asked) (Some given) = nat_lt t given && nat_le given asked && loses_little t asked given
+may_give t _ _ = false
+
+-- whether an item goes over the one of its key at a place: by the rule of the least read, where it takes as many bytes, and
+-- the deadline there is one that a write may give
+abbrev pub goes_over : MapState → Option ℕ → Item → Place → Bool
+goes_over m asked i place =
+    goes_over_by m.pool.eviction && may_give m.moment asked (place_deadline m.pool place) && fits_over i (item_in m.pool place)
+
+-- The item went over the one of its key, of which the read count and the deadline stay. Nothing else changed, and of
+-- what was shown nothing was forgotten.
+pub record GoesOver (old : MapState) (i : Item) (asked : Option ℕ) (new : MapState) : Type 0 where
+  pub place : Place
+  pub stands : StandsAt old i.key place
+  pub goes : IsTrue (goes_over old asked i place)
+  pub found : Item
+  pub is_at : item_in old.pool place ≡ Some found
+  pub may_live : MayLive old.moment asked (place_deadline old.pool place)
+  pub new_is : new ≡ record old { pool = with_item_at old.pool place (record i { reads = found.reads }) }
+  pub entries : shown_entries new.pool new.index old.moment
+      ≡ finite.insert (shown_entries old.pool old.index old.moment) i.key (kept_entry (place_deadline old.pool place) i)
+
+-- The entry's item, which a segment can hold and which doesn't go over another, was placed in the bucket of its time to live, at the map's moment,
 -- where the key's old item is no longer live; the entry stands there with a deadline that it may get.
-pub record WritesToSegments (old : MapState) (key : List ℕ) (entry : Entry) (new : MapState) : Type 0 where
+pub record WritesAnew (old : MapState) (key : List ℕ) (entry : Entry) (new : MapState) : Type 0 where
+  pub anew : (place : Place) → StandsAt old key place → goes_over old entry.deadline (unread key entry) place ≡ false
   pub storable : IsStorable (item_limit old.pool.sizes) (unread key entry)
   pub placed : PlacesItem (live_others key old.marks old.moment) old.pool old.index
       (bucket_of (time_to_live entry.deadline old.moment)) old.moment
@@ -37,6 +67,10 @@ pub record WritesToSegments (old : MapState) (key : List ℕ) (entry : Entry) (n
   pub deadline : Option ℕ
   pub may_live : MayLive old.moment entry.deadline deadline
   pub stands : entry_at new.pool placed.place ≡ record entry { deadline = deadline }
+
+-- the entry's item went over the one of its key, or is written anew
+abbrev pub WritesToSegments : MapState → List ℕ → Entry → MapState → Type 0
+WritesToSegments old key entry new = GoesOver old (unread key entry) entry.deadline new ⊎ WritesAnew old key entry new
 
 -- The key's item stands where it stood, with its flags and its deadline, and has the entry's value and cas number: it
 -- takes as many bytes. Nothing else changed, and of what was shown nothing was forgotten.
@@ -69,7 +103,7 @@ abbrev pub stays_as : ℕ → Option ℕ → Option ℕ → Bool
 stays_as t None None = true
 stays_as t (Some asked) (Some given) =
     nat_lt t given && nat_le given asked
-    && (nat_lt (min asked (t + 8388608)) (given + 2 * life_width (asked - t)) || nat_le (asked - given) ((asked - t) / 8))
+    && (loses_little t asked given || nat_le (asked - given) ((asked - t) / 8))
 stays_as t _ _ = false
 
 -- a hit of the segment of the key's item was counted, and nothing else changed

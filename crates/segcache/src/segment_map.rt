@@ -1,12 +1,12 @@
 //! The map of live entries that stand in segments.
 
-ghost use Rattle.std.specs.Prelude.{◌≡◌, false, IfOk, IsSome};
+ghost use Rattle.std.specs.Prelude.{◌≡◌, ◌≤◌, false, IfOk, IsSome};
 ghost use Rattle.std.specs.FinMap as map;
 ghost use Rattle.proto.specs.Buckets.{time_to_live, life_width};
 ghost use Rattle.segments.specs.Pools.{item_in, place_deadline};
 ghost use Rattle.engine.specs.Shown.{entry_of};
 ghost use Rattle.segcache.specs.Shown.{entry_at, shown_entries};
-ghost use Rattle.segcache.specs.Writes.{stays_as};
+ghost use Rattle.segcache.specs.Writes.{loses_little, may_give, stays_as};
 
 use crate::counts::StoreCounts;
 use engine::{EntryRef, LiveMap, StoreMap, has_arrived};
@@ -66,6 +66,28 @@ fn life_width(life: u64) -> u64
     }
 }
 
+/// Whether a life, of which what is above 8,388,608 seconds doesn't count, loses less than two widths of its bucket.
+fn loses_little(now: u64, asked: u64, given: u64) -> bool
+    requires { now ≤ asked }
+    ensures { result ≡ loses_little now asked given }
+{
+    let most = asked.min(now.saturating_add(8_388_608));
+    most.saturating_sub(given) < 2 * life_width(asked - now)
+}
+
+/// Whether a write at the moment that asks for one deadline may give the other.
+pub(crate) fn may_give(now: u64, asked: Option<u64>, given: Option<u64>) -> bool
+    ensures { result ≡ may_give now asked given }
+{
+    match (asked, given) {
+        (None, None) => true,
+        (Some(asked), Some(given)) => {
+            now < given && given <= asked && loses_little(now, asked, given)
+        }
+        _ => false,
+    }
+}
+
 /// Whether an entry with this deadline may stay where another one is asked for at the moment: it may be one that a write gives, or at
 /// most an eighth of the life asked for is missing.
 fn stays_as(now: u64, asked: Option<u64>, given: Option<u64>) -> bool
@@ -76,11 +98,7 @@ fn stays_as(now: u64, asked: Option<u64>, given: Option<u64>) -> bool
         (Some(asked), Some(given)) => {
             now < given
                 && given <= asked
-                && (asked
-                    .min(now.saturating_add(8_388_608))
-                    .saturating_sub(given)
-                    < 2 * life_width(asked - now)
-                    || asked - given <= (asked - now) / 8)
+                && (loses_little(now, asked, given) || asked - given <= (asked - now) / 8)
         }
         _ => false,
     }
@@ -221,6 +239,10 @@ impl LiveMap for SegmentMap {
             cas: entry.cas,
             reads: 0,
         };
+        if let Some(place) = self.place_over(item) {
+            self.put_over(place, item);
+            return Ok(());
+        }
         let bucket = bucket_of(time_to_live(entry.deadline, self.moment));
         self.write_item(bucket, item);
         Ok(())

@@ -1,13 +1,13 @@
 //! How an item is written: into its bucket's tail or a free segment, in place of the one that its key has.
 
-ghost use Rattle.std.specs.Prelude.{◌≡◌, ◌⊎◌, ◌<◌, None, false, IfSome, MatchResult};
+ghost use Rattle.std.specs.Prelude.{◌≡◌, ◌⊎◌, ◌<◌, None, false, IfSome, IsSome, IsTrue, MatchOption, MatchResult};
 ghost use Rattle.std.specs.FinMap as map;
 ghost use Rattle.proto.specs.Sizes.{item_limit};
 ghost use Rattle.proto.specs.Cache.{has_arrived};
 ghost use Rattle.proto.specs.Buckets.{bucket_of, time_to_live};
 ghost use Rattle.segments.specs.Items.{IsStorable};
 ghost use Rattle.segments.specs.Shown.{item_of};
-ghost use Rattle.segments.specs.Pools.{bucket_count};
+ghost use Rattle.segments.specs.Pools.{bucket_count, item_in};
 ghost use Rattle.segments.specs.Changes.{HasNoRoom, IsAddedToTail, IsAddedToFree};
 ghost use Rattle.segments.specs.Marks.{IsWithin};
 ghost use Rattle.segcache.specs.Shown.{current};
@@ -16,8 +16,10 @@ ghost use Rattle.segcache.specs.Room.{IsPut, IsPutOver};
 ghost use Rattle.segcache.specs.Leaving.{marked_instead};
 ghost use Rattle.segcache.specs.Living.{live_marks, live_others};
 ghost use Rattle.segcache.specs.Forgetting.{PlacesItem};
+ghost use Rattle.segcache.specs.Writes.{GoesOver, StandsAt, goes_over};
+ghost use Rattle.segments.specs.declared.place.Place.{Place as Spot};
 
-use crate::segment_map::SegmentMap;
+use crate::segment_map::{SegmentMap, may_give};
 use segments::{ItemRef, LiveMarks, NoRoom, Place};
 
 /// Marks the place of an item in place of the one that its key had.
@@ -36,6 +38,51 @@ fn mark_instead(marks: &mut LiveMarks, source: Option<Place>, place: Place)
 }
 
 impl SegmentMap {
+    /// Whether an item goes over the one at a place.
+    fn goes_over(&self, place: Place, item: ItemRef) -> bool
+        requires there { IsSome (item_in self.now.pool place) }
+        requires storable { IsStorable (item_limit self.now.pool.sizes) (item_of item) }
+        ensures { result ≡ goes_over self.now item.entry.deadline (item_of item.entry) place }
+    {
+        let deadline = self.pool.item(place).deadline;
+        self.pool.lets_go_over()
+            && may_give(self.moment, item.deadline, deadline)
+            && self.pool.fits_over(place, item)
+    }
+
+    /// The place of the item of its key over which an item goes; None if it is written anew.
+    pub(crate) fn place_over(&self, item: ItemRef) -> Option<Place>
+        requires { IsStorable (item_limit self.now.pool.sizes) (item_of item) }
+        ensures { MatchOption result
+            ((place : Spot) → StandsAt self.now item.entry.key.now place
+            → goes_over self.now item.entry.deadline (item_of item.entry) place ≡ false)
+            (λ place. StandsAt self.now item.entry.key.now place
+            × IsTrue (goes_over self.now item.entry.deadline (item_of item.entry) place)) }
+    {
+        if !self.pool.lets_go_over() {
+            return None;
+        }
+        let place = self.index.look_up(&self.pool, item.key)?;
+        if self.goes_over(place, item) {
+            Some(place)
+        } else {
+            None
+        }
+    }
+
+    /// Puts an item over the one of its key, which stands at the place. The read count and the deadline there stay.
+    pub(crate) fn put_over(&mut self, place: Place, item: ItemRef)
+        requires stands { StandsAt self.old item.key.now place }
+        requires storable { IsStorable (item_limit self.old.pool.sizes) (item_of item) }
+        requires goes { IsTrue (goes_over self.old item.deadline (item_of item) place) }
+        ensures over { GoesOver self.old (item_of item.entry) item.entry.deadline self.new }
+        // for callers that read no field
+        ensures kept { IsSegmentedMap self.old }
+    {
+        let reads = self.pool.item(place).reads;
+        self.pool.overwrite(place, ItemRef { reads, ..item });
+    }
+
     /// Puts an item, in place of the one that its key has, into its bucket's tail or a free segment. NoRoom if the tail
     /// doesn't take it and no segment is free.
     fn append(&mut self, bucket: usize, item: ItemRef) -> Result<Place, NoRoom>

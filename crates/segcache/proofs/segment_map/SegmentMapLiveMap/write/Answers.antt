@@ -1,14 +1,17 @@
-use Rattle.std.proofs.Common.{◌≡◌, ℕ, refl, sym, subst, rules}
+use Rattle.std.proofs.Common.{◌≡◌, ℕ, false, refl, sym, subst, inr, rules}
+use Rattle.std.specs.Prelude.{IsTrue, MatchOption}
 use Rattle.proto.specs.Buckets.{bucket_of, time_to_live}
 use Rattle.engine.specs.Written.{IsWritten}
 use Rattle.engine.specs.Shown.{entry_of}
 use Rattle.segments.specs.Items.{Item}
+use Rattle.segments.specs.declared.place.Place.{Place}
 use Rattle.segcache.specs.Shown.{shown_entries}
-use Rattle.segcache.specs.Writes.{unread}
+use Rattle.segcache.specs.Writes.{StandsAt, goes_over, unread}
 use Rattle.segcache.specs.Living.{live_others}
 use Rattle.segcache.specs.Forgetting.{PlacesItem}
 use Rattle.segcache.specs.State.{IsSegmentedMap}
-use Rattle.segcache.proofs.KeptEntries.{keeps_entry, writes_to_segments}
+use Rattle.segcache.proofs.KeptEntries.{keeps_entry, writes_anew}
+use Rattle.segcache.proofs.ItemsPutOver.{over_written, keeps_below}
 use Rattle.segcache.proofs.WriteParts.{written_by, may_store}
 use Rattle.segcache.proofs.segment_map.SegmentMapLiveMap.write.Goals as goal
 
@@ -19,6 +22,30 @@ write_item-requires-clause-storable c =
     let i : Item = record { cas = e.cas; flags = e.flags; key = c.args.key.now; value = e.value.now; reads = 0 } in
     let kept : IsSegmentedMap s = rw (← c.self.view_is) c.self.invariant in
     may_store s.pool s.index s.marks s.moment i kept.tied c.requires.fits (search rules) (search rules) refl
+
+pub place_over-requires : goal.place_over-requires
+place_over-requires c =
+    let s = c.args.self.now in
+    let e = c.args.entry in
+    let i : Item = record { cas = e.cas; flags = e.flags; key = c.args.key.now; value = e.value.now; reads = 0 } in
+    let kept : IsSegmentedMap s = rw (← c.self.view_is) c.self.invariant in
+    may_store s.pool s.index s.marks s.moment i kept.tied c.requires.fits (search rules) (search rules) refl
+
+pub put_over-requires-clause-storable : goal.put_over-requires-clause-storable
+put_over-requires-clause-storable c =
+    let s = c.args.self.now in
+    let e = c.args.entry in
+    let i : Item = record { cas = e.cas; flags = e.flags; key = c.args.key.now; value = e.value.now; reads = 0 } in
+    let kept : IsSegmentedMap s = rw (← c.self.view_is) c.self.invariant in
+    may_store s.pool s.index s.marks s.moment i kept.tied c.requires.fits (search rules) (search rules) refl
+
+pub returns-in-Some-clause-written : goal.returns-in-Some-clause-written
+returns-in-Some-clause-written c =
+    over_written c.args.self.now c.put_over.new.self c.args.key.now (entry_of c.args.entry) c.put_over.ensures.over
+
+pub returns-in-Some-clause-kept : goal.returns-in-Some-clause-kept
+returns-in-Some-clause-kept c =
+    keeps_below c.args.self.now c.put_over.new.self c.args.key.now (entry_of c.args.entry) c.put_over.ensures.over
 
 pub returns-clause-written : goal.returns-clause-written
 returns-clause-written c =
@@ -49,7 +76,10 @@ returns-clause-exactly c =
     let storable = may_store s.pool s.index s.marks s.moment i kept.tied c.requires.fits (search rules) (search rules)
     refl in
     let put = c.write_item.ensures.put in
-    writes_to_segments s new key e storable placed put.deadline put.may_live put.kept put.entries
+    let anew = subst (λ o. MatchOption o
+    ((place : Place) → StandsAt s key place → goes_over s e.deadline i place ≡ false)
+    (λ place. StandsAt s key place × IsTrue (goes_over s e.deadline i place))) c.in_default.is c.place_over.ensures in
+    inr (writes_anew s new key e anew storable placed put.deadline put.may_live put.kept put.entries)
 
 pub returns-clause-kept : goal.returns-clause-kept
 returns-clause-kept c =

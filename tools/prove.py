@@ -35,12 +35,10 @@ IGNORED = ("out", "wrong")
 # A crate that no run of the gate has measured is taken to need half a minute, and one more for each of these numbers of lines.
 LINES_A_MINUTE = 2500
 # From a crate the way is near the longest one if it is shorter by at most this share of the longest of all. Such a crate is proved by several
-# processes, which is faster by this factor, while its way is longer than another share: after that few crates stand above it, and its library without
-# its proofs saves them more.
+# processes, which is faster by this factor.
 NEAR = 0.15
 JOBS = 2
 FASTER = 1.5
-LAST = 0.3
 # The nice value of the other crates.
 NICE = 10
 # For the estimate: the share of the processors' time that is used while all of them have work.
@@ -287,8 +285,8 @@ def how_to_prove(name, crates, ways, proved):
     nice = 0 if is_near else NICE
     if not crates[name]:
         return How(machine.processors(), nice)
-    processes = min(JOBS, machine.processors()) if is_near and ways[name] > LAST * whole else 1
-    return How(processes, nice)
+    # (Most of what the program's own crate takes is that the libraries are read, which each process does.)
+    return How(min(JOBS, machine.processors()) if is_near and name != NAME else 1, nice)
 
 
 def to_start(crates, ways, proved, running):

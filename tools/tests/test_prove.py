@@ -46,14 +46,13 @@ def test_those_with_the_longest_way_start_first_and_are_proved_by_several_proces
     how, nice = prove.How, prove.NICE
     monkeypatch.setattr(prove, "NAME", "top")
     monkeypatch.setattr(prove, "NEAR", 0.375)
-    monkeypatch.setattr(prove, "LAST", 0.2)
     monkeypatch.setattr(machine, "processors", lambda: 4)
     monkeypatch.setattr(machine, "at_once", lambda: 2)
     assert prove.to_start(CRATES, ways, set(), {}) == [("base", how(4, 0))]
     assert prove.to_start(CRATES, ways, {"base"}, {}) == [("left", how(2, 0)), ("right", how(1, nice))]
     assert prove.to_start(CRATES, ways, {"base"}, {"left": None, "right": None}) == []
     assert prove.to_start(CRATES, ways, {"base", "right"}, {"left": None}) == [("aside", how(1, nice))]
-    assert prove.to_start(CRATES, ways, {"base", "left"}, {}) == [("right", how(2, 0)), ("aside", how(1, 0))]
+    assert prove.to_start(CRATES, ways, {"base", "left"}, {}) == [("right", how(2, 0)), ("aside", how(2, 0))]
     assert prove.to_start(CRATES, ways, {"base", "left", "right", "aside"}, {}) == [("top", how(1, 0))]
     monkeypatch.setattr(machine, "processors", lambda: 1)
     assert prove.to_start(CRATES, ways, {"base"}, {"right": None}) == [("left", how(1, 0))]

@@ -6,7 +6,7 @@ use Rattle.proto.specs.declared.message.Request.{Request}
 use Rattle.proto.specs.declared.message.Reply.{Reply}
 use Rattle.proto.specs.declared.message.Reply.TheVariants.{NoMemory}
 use Rattle.proto.specs.Sizes.{Sizes, item_limit}
-use Rattle.proto.specs.Cache.{Entries, Cache, found_at}
+use Rattle.proto.specs.Cache.{Entries, Cache}
 use Rattle.proto.specs.Commands.{Outcome}
 use Rattle.proto.specs.Steps.{IsDated, deadline_at}
 use Rattle.proto.specs.Stored.{StoredItem, stored_item_of, item_stored, is_no_memory}

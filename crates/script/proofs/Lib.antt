@@ -15,4 +15,3 @@ pub mod Histories
 pub mod Serving
 pub mod Places
 pub mod Running
-pub mod ClockLemmas

@@ -66,8 +66,7 @@ impl RecordingClock {
 
 impl Clock for RecordingClock {
     ghost use Rattle.std.specs.Prelude.{Some, None};
-    ghost use Rattle.script.specs.ClockLeading.{GivesAnswers};
-    ghost use Rattle.script.proofs.ClockLemmas.{gives_none, gives_more};
+    ghost use Rattle.script.specs.ClockLeading.{GivesAnswers, gives_none, gives_more};
 
     ghost told = { λ clock. Some clock.answers.items };
 

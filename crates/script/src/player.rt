@@ -93,7 +93,8 @@ fn settle(sessions: &Sessions, events: &mut Remaining)
 fn next_piece(bytes: &Bytes) -> Result<Bytes, AllocError>
     ensures { IfOk result (λ piece. piece ≡ take 16384 bytes.now) }
 {
-    bytes.slice(0..bytes.len().min(MAX_PIECE))
+    let piece = bytes.slice(0..bytes.len().min(MAX_PIECE))?;
+    Ok(piece)
 }
 
 impl Player {
@@ -137,7 +138,7 @@ impl Player {
         if self.sessions.open(session).is_err() {
             return PortEvent::Idle;
         }
-        self.records.write(&PortRecord::Opened(session));
+        self.records.write(&PortNote::Opened(session));
         self.events.drop_first();
         PortEvent::Opened(session)
     }
@@ -178,7 +179,7 @@ impl Player {
         requires none { in_order self.old.events ≡ [] }
         ensures { PlaysNext self.old result self.new }
     {
-        self.records.write(&PortRecord::Ended);
+        self.records.write(&PortNote::Ended);
         self.ended = true;
         PortEvent::Ended
     }

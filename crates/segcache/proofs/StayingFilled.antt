@@ -9,7 +9,7 @@ use Rattle.proto.specs.declared.message.Reply.{Reply}
 use Rattle.proto.specs.declared.message.Reply.TheVariants.{NoMemory}
 use Rattle.proto.specs.Sizes.{item_limit}
 use Rattle.proto.specs.Buckets.{bucket_of, time_to_live}
-use Rattle.proto.specs.Cache.{Entry, Entries, found_at}
+use Rattle.proto.specs.Cache.{Entry, Entries}
 use Rattle.proto.specs.Commands.{Outcome}
 use Rattle.proto.specs.Steps.{Step, IsDated, without_keys}
 use Rattle.proto.specs.Stored.{StoredItem, stored_item_of, item_stored, is_no_memory, written}

@@ -68,12 +68,16 @@ sub mem_gets {
     return ($1, $2);
 }
 
-# (`stats` is a command that there isn't: one line)
+# What `stats` tells, by its names: nothing with a word behind it.
 sub mem_stats {
     my ($sock, $kind) = @_;
+    my %told;
     print $sock $kind ? "stats $kind\r\n" : "stats\r\n";
-    <$sock>;
-    return {};
+    while (defined(my $line = <$sock>)) {
+        last unless $line =~ /^STAT (\S+) (.*)\r\n$/;
+        $told{$1} = $2;
+    }
+    return \%told;
 }
 
 # Waits, since the clock is the system's.

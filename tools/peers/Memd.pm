@@ -19,7 +19,7 @@ our %params = (
     servers         => [{ address => "127.0.0.1:$ENV{PORT}" }],
 );
 
-# (tests leave out what an older server doesn't have; there is no `version` to ask, and nothing is to be left out)
+# (tests leave out what an older server doesn't have, by its version; nothing is to be left out)
 sub import {
     *main::memd         = \Cache::Memcached::Fast->new(\%params);
     *main::memd_version = \version->parse('v9.9.9');

@@ -1,7 +1,7 @@
 -- The walk that looks for the session with the most output.
-use Rattle.std.proofs.Common.{ℕ, ◌≡◌, ◌+◌, ◌≤◌, ◌<◌, Option, Some, None, List, [], ◌∷◌, ◌++◌, length, ⊎_elim, inl, inr}
+use Rattle.std.proofs.Common.{ℕ, ◌≡◌, ◌≢◌, ◌+◌, ◌≤◌, ◌<◌, Option, Some, None, List, [], ◌∷◌, ◌++◌, length, ⊎_elim, inl, inr}
 use Rattle.std.proofs.Common.{refl, sym, ap, ◌∙◌, arith}
-use Rattle.std.specs.Prelude.{⊤, MatchOption, IfSome, slice_get, min, ◌^◌, ◌-◌}
+use Rattle.std.specs.Prelude.{MatchOption, IfSome, slice_get, min, ◌^◌, ◌-◌}
 use Rattle.std.specs.Bool.{nat_eq}
 use Rattle.std.specs.Map.{lookup}
 use Rattle.std.specs.HashMap.{IsUnique}
@@ -10,7 +10,7 @@ use Rattle.std.proofs.lemmas.List.Sums.{sum_by-cons}
 use Rattle.std.proofs.lemmas.Map.Entries.{hash_map_get_place}
 use Rattle.indexmap.specs.IndexMap.{IndexMap}
 use Rattle.session_book.specs.Session.{SessionState}
-use Rattle.session_book.specs.Book.{BookState, IsFullest, all_output}
+use Rattle.session_book.specs.Book.{BookState, IsFullest, IsWithinOutput, all_output}
 use Rattle.session_book.proofs.Emptied.{HoldsOrIn, holds_or_later, all_hold}
 
 -- no more output than this
@@ -22,13 +22,15 @@ abbrev pub HasOutput : List (ℕ × SessionState) → ℕ → ℕ → Type 0
 HasOutput entries most n = (s : SessionState) × (lookup (nat_eq n) entries ≡ Some s) × (length s.out ≡ most)
 
 -- What is known before the later entries are seen: the others have no more than the most, which the one that was found has; and
--- so much of the output was counted.
-pub record Seeks (entries later : List (ℕ × SessionState)) (found : Option ℕ) (most waiting : ℕ) : Type 0 where
+-- all but the most was counted of those that were seen.
+pub record Seeks (entries later : List (ℕ × SessionState)) (found : Option ℕ) (most others : ℕ) : Type 0 where
   pub seen : List (ℕ × SessionState)
   pub split : entries ≡ seen ++ later
-  pub others : HoldsOrIn (HasAtMost most) later entries
-  pub is_found : MatchOption found ⊤ (HasOutput entries most)
-  pub counted : waiting + all_output later ≤ all_output entries
+  pub holds : HoldsOrIn (HasAtMost most) later entries
+  pub had : ℕ
+  pub is_found : MatchOption found ((most ≡ 0) × (had ≡ 0)) (HasOutput entries most)
+  pub whole : most + had + all_output later ≡ all_output entries
+  pub counted : others ≡ min had (2 ^ 64 - 1)
 
 -- what stands behind those that were seen
 seam : {A : Type 0} (seen : List A) (x : A) (rest : List A) → slice_get (seen ++ x ∷ rest) (length seen) ≡ Some x
@@ -39,59 +41,107 @@ joined : {A : Type 0} (seen : List A) (x : A) (rest : List A) → seen ++ x ∷ 
 joined [] x rest = refl
 joined (y ∷ seen) x rest = ap (λ l. y ∷ l) (joined seen x rest)
 
--- the count goes up by what one more has
-count : (entries later rest : List (ℕ × SessionState)) (k : ℕ) (v : SessionState) (n waiting then : ℕ) → later ≡ (k, v) ∷ rest
-    → n ≡ length v.out → waiting + all_output later ≤ all_output entries → then ≡ min (waiting + n) (2 ^ 64 - 1)
-    → then + all_output rest ≤ all_output entries
-count entries later rest k v n waiting then split len h e =
+-- the output of one more, and of those behind it
+one_more : (later rest : List (ℕ × SessionState)) (k : ℕ) (v : SessionState) (n : ℕ) → later ≡ (k, v) ∷ rest → n ≡ length v.out
+    → all_output later ≡ n + all_output rest
+one_more later rest k v n split len =
     let one : all_output later ≡ length v.out + all_output rest = ap all_output split
     ∙ sum_by-cons (λ (x : ℕ × SessionState). length x.1.out) (k, v) rest in
-    omega (arith, one, len, h, e)
+    omega (arith, one, len)
+
+-- where none was found yet nobody has any
+none_had : (entries : List (ℕ × SessionState)) (found : Option ℕ) (n most had : ℕ)
+    → MatchOption found ((most ≡ 0) × (had ≡ 0)) (HasOutput entries most)
+    → MatchOption found ((most ≡ 0) × (had + min n most ≡ 0)) (HasOutput entries most)
+none_had entries None n most had h = (h.0, omega (arith, h.0, h.1))
+none_had entries (Some k) n most had h = h
 
 -- one further, which has more
 pub seeks_more : {S : Type 0} (m : IndexMap ℕ SessionState S) (entries later rest : List (ℕ × SessionState)) (k : ℕ) (v : SessionState)
-    (found : Option ℕ) (n most waiting then : ℕ) → IsUnique nat_eq m → m.entries ≡ entries → later ≡ (k, v) ∷ rest
-    → n ≡ length v.out → most < n → then ≡ min (waiting + n) (2 ^ 64 - 1) → Seeks entries later found most waiting
+    (found : Option ℕ) (n most others least then : ℕ) → IsUnique nat_eq m → m.entries ≡ entries → later ≡ (k, v) ∷ rest
+    → n ≡ length v.out → most < n → least ≡ min n most → then ≡ min (others + least) (2 ^ 64 - 1)
+    → Seeks entries later found most others
     → Seeks entries rest (Some k) n then
-seeks_more m entries later rest k v found n most waiting then unique is split len more e h =
+seeks_more m entries later rest k v found n most others least then unique is split len more l e h =
     let whole : entries ≡ h.seen ++ (k, v) ∷ rest = h.split ∙ ap (λ (l : List (ℕ × SessionState)). h.seen ++ l) split in
     let at : slice_get m.entries (length h.seen) ≡ Some (k, v) =
     ap (λ (l : List (ℕ × SessionState)). slice_get l (length h.seen)) (is ∙ whole) ∙ seam h.seen (k, v) rest in
     record {
       seen = h.seen ++ (k, v) ∷ [];
       split = whole ∙ joined h.seen (k, v) rest;
-      others = holds_or_later (HasAtMost n) later rest k v split (omega (arith, len)) entries
-          (λ session s there. ⊎_elim (λ (a : HasAtMost most s). inl (omega (arith, a, more))) (λ b. inr b) (h.others session s there));
+      holds = holds_or_later (HasAtMost n) later rest k v split (omega (arith, len)) entries
+          (λ session s there. ⊎_elim (λ (a : HasAtMost most s). inl (omega (arith, a, more))) (λ b. inr b) (h.holds session s there));
+      had = h.had + most;
       is_found = (
         v,
         sym (ap (λ (l : List (ℕ × SessionState)). lookup (nat_eq k) l) is)
             ∙ hash_map_get_place nat_eq_equiv m (length h.seen) k v unique at,
         sym len,
       );
-      counted = count entries later rest k v n waiting then split len h.counted e;
+      whole = omega (arith, one_more later rest k v n split len, h.whole);
+      counted = omega (arith, l, e, h.counted, more);
     }
 
 -- one further, which has no more
 pub seeks_on : (entries later rest : List (ℕ × SessionState)) (k : ℕ) (v : SessionState) (found : Option ℕ)
-    (n most waiting then : ℕ) → later ≡ (k, v) ∷ rest → n ≡ length v.out → n ≤ most → then ≡ min (waiting + n) (2 ^ 64 - 1)
-    → Seeks entries later found most waiting → Seeks entries rest found most then
-seeks_on entries later rest k v found n most waiting then split len less e h =
+    (n most others least then : ℕ) → later ≡ (k, v) ∷ rest → n ≡ length v.out → n ≤ most → least ≡ min n most → then ≡ min (others + least) (2 ^ 64 - 1)
+    → Seeks entries later found most others → Seeks entries rest found most then
+seeks_on entries later rest k v found n most others least then split len less l e h =
     record {
       seen = h.seen ++ (k, v) ∷ [];
       split = h.split ∙ ap (λ (l : List (ℕ × SessionState)). h.seen ++ l) split ∙ joined h.seen (k, v) rest;
-      others = holds_or_later (HasAtMost most) later rest k v split (omega (arith, len, less)) entries h.others;
-      is_found = h.is_found;
-      counted = count entries later rest k v n waiting then split len h.counted e;
+      holds = holds_or_later (HasAtMost most) later rest k v split (omega (arith, len, less)) entries h.holds;
+      had = h.had + min n most;
+      is_found = none_had entries found n most h.had h.is_found;
+      whole = omega (arith, one_more later rest k v n split len, h.whole, less);
+      counted = omega (arith, l, e, h.counted);
     }
 
 -- at the end none has more than the one that was found
-pub sought : (book : BookState) (later : List (ℕ × SessionState)) (found : Option ℕ) (most waiting : ℕ) → later ≡ []
-    → Seeks book.sessions later found most waiting → IfSome found (IsFullest book)
-sought book later None most waiting none h = tt
-sought book later (Some n) most waiting none h =
+pub sought : (book : BookState) (later : List (ℕ × SessionState)) (found : Option ℕ) (most others : ℕ) → later ≡ []
+    → Seeks book.sessions later found most others → IfSome found (IsFullest book)
+sought book later None most others none h = tt
+sought book later (Some n) most others none h =
     record {
       s = h.is_found.0;
       there = h.is_found.1;
-      most = λ other o at. let a : length o.out ≤ most = all_hold (HasAtMost most) later none book.sessions h.others other o at in
+      most = λ other o at. let a : length o.out ≤ most = all_hold (HasAtMost most) later none book.sessions h.holds other o at in
           omega (arith, a, h.is_found.2);
     }
+
+-- all that waits
+all_of : (book : BookState) (later : List (ℕ × SessionState)) (found : Option ℕ) (most others : ℕ) → later ≡ []
+    → (h : Seeks book.sessions later found most others) → all_output book.sessions ≡ most + h.had
+all_of book later found most others none h =
+    let rest : all_output later ≡ 0 = ap all_output none in omega (arith, rest, h.whole)
+
+-- if the others have none, the one that was found has all of it
+pub has_all : (book : BookState) (later : List (ℕ × SessionState)) (found : Option ℕ) (most others : ℕ) → later ≡ [] → others ≡ 0
+    → Seeks book.sessions later found most others → IsWithinOutput book
+has_all book later None most others none alone h =
+    inl (omega (arith, all_of book later None most others none h, h.is_found.0, h.is_found.1))
+has_all book later (Some n) most others none alone h =
+    inr (
+      n,
+      h.is_found.0,
+      h.is_found.1,
+      omega (arith, all_of book later (Some n) most others none h, h.is_found.2, h.counted, alone),
+    )
+
+-- what was counted is all, as far as a number goes
+pub within : (book : BookState) (later : List (ℕ × SessionState)) (found : Option ℕ) (most others sum : ℕ) → later ≡ []
+    → sum ≡ min (most + others) (2 ^ 64 - 1) → sum ≤ 67108864 → Seeks book.sessions later found most others → IsWithinOutput book
+within book later found most others sum none e few h =
+    inl (omega (arith, all_of book later found most others none h, h.counted, e, few))
+
+pub beyond : (book : BookState) (later : List (ℕ × SessionState)) (found : Option ℕ) (most others sum : ℕ) → later ≡ []
+    → sum ≡ min (most + others) (2 ^ 64 - 1) → 67108864 < sum → Seeks book.sessions later found most others
+    → 67108864 < all_output book.sessions
+beyond book later found most others sum none e much h =
+    omega (arith, all_of book later found most others none h, h.counted, e, much)
+
+-- if the others have some, one was found
+pub is_found : {P : Type 0} (entries later : List (ℕ × SessionState)) (found : Option ℕ) (most others : ℕ) → others ≢ 0 → found ≡ None
+    → Seeks entries later found most others → P
+is_found entries later None most others some none h = absurd (some (omega (arith, h.counted, h.is_found.1)))
+is_found entries later (Some n) most others some none h = absurd (cc)

@@ -18,7 +18,8 @@ use Rattle.session_book.specs.declared.causes.Settled.{Settled}
 use Rattle.session_book.specs.declared.causes.Settled.TheVariants as outcomes
 use Rattle.proto.specs.declared.limits.TheConstants.{WINDOW}
 use Rattle.proto.specs.declared.limits.TheConstants.{MAX_SESSIONS, MAX_POSTS}
-use Rattle.session_book.specs.Session.{SessionState, begins_asked, TakesPiece, IsInputFull, held_fed, ReadsUpTo, IsReady, Stops, with_reply}
+use Rattle.session_book.specs.declared.book.TheConstants.{MAX_OUTPUT}
+use Rattle.session_book.specs.Session.{SessionState, begins_asked, TakesPiece, IsInputFull, held_fed, ReadsUpTo, IsReady, Stops, with_reply, IsEmptied}
 
 -- A worker's book: the worker's number; the dialect of its sessions' lines; the open sessions by their numbers; how many requests got a number;
 -- the unsettled requests in the order of their numbers; the greatest number of a session opened, and how many
@@ -171,6 +172,12 @@ Settles before answered outcomes.Dropped after =
 Settles before answered outcomes.Kept after = SettlesReply before after answered
 Settles before answered outcomes.Starved after = Starves before after answered
 
+-- the session is open, and something of it is left to be read, given or shut
+pub record HasLeft (book : BookState) (session : ℕ) : Type 0 where
+  pub s : SessionState
+  pub there : session_of book session ≡ Some s
+  pub left : ¬ (IsEmptied s)
+
 -- how many bytes of output wait, over all sessions
 abbrev pub all_output : List (ℕ × SessionState) → ℕ
 all_output sessions = sum_by (λ (e : ℕ × SessionState). length e.1.out) sessions
@@ -180,3 +187,8 @@ pub record IsFullest (book : BookState) (session : ℕ) : Type 0 where
   pub s : SessionState
   pub there : session_of book session ≡ Some s
   pub most : (other : ℕ) (o : SessionState) → session_of book other ≡ Some o → length o.out ≤ length s.out
+
+-- no more output waits than may, or a session has all of it
+abbrev pub IsWithinOutput : BookState → Type 0
+IsWithinOutput book = (all_output book.sessions ≤ MAX_OUTPUT)
+    ⊎ ((session : ℕ) × (s : SessionState) × (session_of book session ≡ Some s) × (all_output book.sessions ≤ length s.out))

@@ -85,7 +85,7 @@ impl Model for Book {
 
 impl Book {
     ghost use Rattle.session_book.specs.Book.{session_of, out_of, ChangesSession, Receives, FeedsHeldOf};
-    ghost use Rattle.session_book.specs.Book.{OnlyAt, IsKnown, NextAsk, Settles, IsFullest, all_output};
+    ghost use Rattle.session_book.specs.Book.{OnlyAt, IsKnown, NextAsk, Settles, HasLeft, IsFullest, IsWithinOutput, all_output};
 
     /// No session is open yet. The worker's number is kept for its owner.
     pub fn new(alloc: Global, worker: usize, dialect: Dialect) -> Self
@@ -302,12 +302,13 @@ impl Book {
         }
     }
 
-    /// A session that has input or output left, or has finished, if there is one.
+    /// An open session that has input or output left, or has finished, if there is one.
     pub fn find_unemptied(&self) -> Option<u64>
-        ensures { result ≡ None → (session : ℕ) (s : SessionState) → session_of self.now session ≡ Some s
+        ensures none { result ≡ None → (session : ℕ) (s : SessionState) → session_of self.now session ≡ Some s
             → IsEmptied s }
+        ensures some { IfSome result (HasLeft self.now) }
     {
-        for (session, open) in &self.sessions {
+        for (session, open) in self.sessions.iter() {
             if !open.is_emptied() {
                 return Some(*session);
             }
@@ -348,21 +349,30 @@ impl Book {
         if self.upkeep.waiting <= MAX_OUTPUT {
             return None;
         }
+        self.find_fullest()
+    }
+
+    /// The same, however much was counted.
+    fn find_fullest(&self) -> Option<u64>
+        ensures above { IsSome result → MAX_OUTPUT < all_output self.now.sessions }
+        ensures fullest { IfSome result (IsFullest self.now) }
+        ensures none { result ≡ None → IsWithinOutput self.now }
+    {
         let mut fullest = None;
-        let mut most = 0;
-        let mut waiting: usize = 0;
+        let mut most: usize = 0;
+        let mut others: usize = 0;
         for (session, open) in self.sessions.iter() {
             let length = open.out().len();
-            waiting = waiting.saturating_add(length);
+            others = others.saturating_add(length.min(most));
             if length > most {
                 most = length;
                 fullest = Some(*session);
             }
         }
-        if waiting <= MAX_OUTPUT {
+        if others == 0 {
             return None;
         }
-        if waiting == most {
+        if most.saturating_add(others) <= MAX_OUTPUT {
             return None;
         }
         fullest

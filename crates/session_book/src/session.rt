@@ -344,7 +344,8 @@ impl Session {
 
     /// Whether nothing is left to be read and to be given.
     pub fn is_emptied(&self) -> bool
-        ensures { OnTrue result (IsEmptied self.now) }
+        ensures emptied { OnTrue result (IsEmptied self.now) }
+        ensures left { OnFalse result (¬ (IsEmptied self.now)) }
     {
         self.out().is_empty()
             && self.held().is_empty()

@@ -1,21 +1,21 @@
 use Rattle.std.proofs.Common.{rules, ℕ, List, length, ap}
 use Rattle.session_book.specs.Book.{BookState}
 use Rattle.session_book.proofs.Fullest.{seeks_more, seeks_on, sought}
-use Rattle.session_book.proofs.book.Book.fullest.Goals as goal
+use Rattle.session_book.proofs.book.Book.find_fullest.Goals as goal
 
 pub loop-session-preserved-then-length-most : goal.loop-session-preserved-then-length-most
 loop-session-preserved-then-length-most c = seeks_more c.self.inside.sessions c.args.self.now.sessions
     c.loop-session.session-iterator c.next.new.self c.in-Some.session.now c.in-Some.open.now c.loop-session.fullest _
-    c.loop-session.most c.loop-session.waiting c.saturating_add-waiting.result c.iter-session-items.ensures.unique
+    c.loop-session.most c.loop-session.others c.min.result c.saturating_add-others.result c.iter-session-items.ensures.unique
     (ap (λ (b : BookState). b.sessions) c.self.view_is) c.in-Some.ensures.steps (ap (λ (l : List ℕ). length l) c.out-length.ensures) c.if-length-most.true
-    c.saturating_add-waiting.ensures c.loop-session.invariant
+    c.min.ensures c.saturating_add-others.ensures c.loop-session.invariant
 
 pub loop-session-preserved : goal.loop-session-preserved
 loop-session-preserved c = seeks_on c.args.self.now.sessions c.loop-session.session-iterator c.next.new.self
-    c.in-Some.session.now c.in-Some.open.now c.loop-session.fullest _ c.loop-session.most c.loop-session.waiting
-    c.saturating_add-waiting.result c.in-Some.ensures.steps (ap (λ (l : List ℕ). length l) c.out-length.ensures) c.if-length-most.false
-    c.saturating_add-waiting.ensures c.loop-session.invariant
+    c.in-Some.session.now c.in-Some.open.now c.loop-session.fullest _ c.loop-session.most c.loop-session.others
+    c.min.result c.saturating_add-others.result c.in-Some.ensures.steps (ap (λ (l : List ℕ). length l) c.out-length.ensures) c.if-length-most.false
+    c.min.ensures c.saturating_add-others.ensures c.loop-session.invariant
 
 pub returns-clause-fullest : goal.returns-clause-fullest
 returns-clause-fullest c = sought c.args.self.now c.loop-session.session-iterator c.loop-session.fullest c.loop-session.most
-    c.loop-session.waiting (search rules) c.loop-session.invariant
+    c.loop-session.others (search rules) c.loop-session.invariant

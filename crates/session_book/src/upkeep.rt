@@ -3,7 +3,7 @@
 
 ghost use Rattle.std.specs.Prelude.{◌≡◌};
 
-use crate::buffer::{SpareBuffers, Use};
+use crate::buffer::{LARGE_MESSAGE, SpareBuffers, Use};
 use proto::{Answered, Request, SpareBuffer};
 use std::alloc::{AllocError, Global};
 use std::collections::VecDeque;
@@ -160,13 +160,20 @@ impl Upkeep {
         }
     }
 
-    /// Uncounts the keys of a `get` that was settled, and keeps the memory of its hits for another one.
+    /// Uncounts the keys of a `get` that was settled, and keeps the memory of its hits for another one. That of a large value is kept
+    /// for input.
     pub(crate) fn settled(&mut self, answered: Answered) {
         if let Request::Get { keys, .. } = &answered.request {
             self.keys = self.keys.saturating_sub(keys.len());
         }
         if let Some(spare) = answered.reply.into_buffer() {
             self.spares.keep(Use::Hits, spare.into_bytes());
+        }
+        if let Some(spare) = answered.request.into_buffer() {
+            let bytes = spare.into_bytes();
+            if bytes.capacity() >= LARGE_MESSAGE {
+                self.spares.keep(Use::Input, bytes);
+            }
         }
     }
 }

@@ -32,7 +32,11 @@
 #define OWN atomic           /* a port that is no socket: what it brings is the worker's own matter */
 #endif
 
-typedef ParkingWord { bool is_parked, sleeps };
+#define AWAKE 0
+#define ANNOUNCED 1
+#define PARKED 2
+
+typedef ParkingWord { byte word; bool sleeps };
 
 ParkingWord storage_word, worker_words[WORKERS];   /* exchange/signals.rt: parking, worker_parking */
 byte posted[WORKERS];                              /* exchange/worker.rt: flush */
@@ -46,22 +50,27 @@ bool is_registered[WORKERS], has_closed[WORKERS];
 byte clients_left = WORKERS;
 byte input[WORKERS], given[WORKERS];               /* requests in a stream, and answers that its peer was given */
 
-inline announce(word) { word.is_parked = true }    /* exchange/signals.rt: announce */
+inline announce(parking) { parking.word = ANNOUNCED }   /* exchange/signals.rt: announce */
 
-inline cancel(word) { word.is_parked = false }     /* exchange/signals.rt: cancel */
+inline cancel(parking) { parking.word = AWAKE }    /* exchange/signals.rt: cancel */
 
-inline park(word) {                                /* exchange/signals.rt: park */
-  atomic { if :: word.is_parked -> word.sleeps = true :: else fi };
-  !word.sleeps;
-  cancel(word)
+inline park(parking) {                             /* exchange/signals.rt: park */
+#ifdef PARKS_OVER_A_WAKE
+  parking.word = PARKED;
+#else
+  atomic { if :: parking.word == ANNOUNCED -> parking.word = PARKED :: else fi };
+#endif
+  atomic { if :: parking.word == PARKED -> parking.sleeps = true :: else fi };
+  !parking.sleeps;
+  cancel(parking)
 }
 
-inline unpark(word) {                              /* exchange/signals.rt: unpark */
+inline unpark(parking) {                           /* exchange/signals.rt: unpark */
 #ifndef NO_UNPARK
   if
-  :: word.is_parked ->
-     atomic { was_parked = word.is_parked; word.is_parked = false };
-     if :: was_parked -> d_step { word.sleeps = false; was_parked = false } :: else fi
+  :: parking.word != AWAKE ->
+     atomic { old_word = parking.word; parking.word = AWAKE };
+     if :: old_word == PARKED -> d_step { parking.sleeps = false; old_word = AWAKE } :: else -> old_word = AWAKE fi
   :: else
   fi
 #else
@@ -69,17 +78,17 @@ inline unpark(word) {                              /* exchange/signals.rt: unpar
 #endif
 }
 
-inline reset(word) {                               /* exchange/idle_turns.rt: reset */
-  if :: announced -> cancel(word); announced = false :: else fi
+inline reset(parking) {                            /* exchange/idle_turns.rt: reset */
+  if :: announced -> cancel(parking); announced = false :: else fi
 }
 
-inline turn(word) {                                /* exchange/idle_turns.rt: turn */
+inline turn(parking) {                             /* exchange/idle_turns.rt: turn */
   if
-  :: announced -> park(word); announced = false
+  :: announced -> park(parking); announced = false
   :: else ->
-     announce(word); announced = true;
+     announce(parking); announced = true;
 #ifdef NO_SECOND_LOOK
-     park(word); announced = false
+     park(parking); announced = false
 #endif
   fi
 }
@@ -164,7 +173,8 @@ proctype storage() {                               /* storage_thread/serving.rt:
   byte counts[WORKERS];
   byte last = WORKERS - 1, looked_lane, named, lane, looks, waiting_lane, untold, executed;
   byte left = WORKERS, told = NOBODY;
-  bool waiting, found, is_bye, announced, was_parked;
+  byte old_word;
+  bool waiting, found, is_bye, announced;
   do
   :: left == 0 -> tell(); break
   :: else ->
@@ -330,8 +340,8 @@ inline give_output() {                             /* worker/run.rt: give_output
 }
 
 proctype worker(byte me) {                         /* worker/run.rt: run_worker */
-  byte unsent = REQUESTS - me, unasked, asked, put, sent, back, known, unoffered;
-  bool is_open, is_ready, has_streams = true, saw_close, port_ended, woken, event, may_wait, moved, known_all, announced, was_parked;
+  byte unsent = REQUESTS - me, unasked, asked, put, sent, back, known, unoffered, old_word;
+  bool is_open, is_ready, has_streams = true, saw_close, port_ended, woken, event, may_wait, moved, known_all, announced;
   do
   :: OWN {                                         /* worker/run.rt: take_turn */
        take_events();

@@ -10,13 +10,15 @@ use std::time::Duration;
 
 const AWAKE: u64 = 0;
 
-const PARKED: u64 = 1;
+const ANNOUNCED: u64 = 1;
+
+const PARKED: u64 = 2;
 
 /// The word that one thread parks on, and that those which make work for it read.
 ///
 /// The thread announces that it parks, looks for work once more, and then parks, or cancels where it found some. One that
 /// has made work unparks it. So work that the last look didn't see was made after the announcement, and its maker finds
-/// the word at `PARKED`: the thread doesn't sleep over it.
+/// the word at `ANNOUNCED` or `PARKED`: the thread doesn't sleep over it. Only one that has parked has to be woken.
 #[derive(Drop)]
 pub struct ParkingWord {
     word: AtomicU64,
@@ -31,13 +33,19 @@ impl ParkingWord {
 
     /// The thread says that it is about to park.
     pub fn announce(&self) {
-        self.word.store(PARKED, Ordering::SeqCst);
+        self.word.store(ANNOUNCED, Ordering::SeqCst);
     }
 
-    /// Parks, unless there was an `unpark` since the announcement, for `longest` at most. It may return early.
-    pub fn park<R: Wait>(&self, rt: &R, longest: Duration) {
-        self.word.park_timeout(rt, PARKED as u32, longest);
-        self.cancel();
+    /// Parks, unless there was an `unpark` since the announcement, for `longest` at most. It may return early. Whether there was
+    /// an `unpark`.
+    pub fn park<R: Wait>(&self, rt: &R, longest: Duration) -> bool {
+        let parks = self
+            .word
+            .compare_exchange(ANNOUNCED, PARKED, Ordering::SeqCst, Ordering::SeqCst);
+        if parks.is_ok() {
+            self.word.park_timeout(rt, PARKED as u32, longest);
+        }
+        self.word.swap(AWAKE, Ordering::SeqCst) == AWAKE
     }
 
     /// The thread doesn't park after all.
@@ -45,10 +53,10 @@ impl ParkingWord {
         self.word.store(AWAKE, Ordering::SeqCst);
     }
 
-    /// Wakes the thread, if it has parked or is about to. Where it hasn't, this is one load. To be called after work was
-    /// made.
+    /// Wakes the thread, if it has parked, and keeps it from parking, if it is about to. Otherwise this is one load. To be called
+    /// after work was made.
     pub fn unpark(&self) {
-        if self.word.load(Ordering::SeqCst) == PARKED
+        if self.word.load(Ordering::SeqCst) != AWAKE
             && self.word.swap(AWAKE, Ordering::SeqCst) == PARKED
         {
             self.word.wake_one();

@@ -3,6 +3,7 @@ pub mod Reading
 pub mod AccountLaws
 pub mod Needing
 pub mod Inputs
+pub mod Blocks
 pub mod Steps
 pub mod Books
 pub mod Asking

@@ -17,31 +17,13 @@ use Rattle.proto.proofs.MessageReader.{spelling_nonempty}
 use Rattle.session_book.specs.declared.causes.EndCause.{EndCause}
 use Rattle.session_book.specs.declared.session.TheConstants.{MAX_WAITING}
 use Rattle.session_book.specs.Session.{SessionState, messages_left, ended_by, need_after, begins_asked, ReadsMessages}
-use Rattle.session_book.specs.Session.{AskAtLast, Stops, no_message, IsReady, ReadsAsk}
+use Rattle.session_book.specs.Session.{AskAtLast, Stops, no_message, IsReady, ReadsMessage, TakesNothing, ReadsAsk}
 use Rattle.proto.specs.declared.no_memory.NoMemory.{NoMemory}
 use Rattle.session_book.proofs.Needing.{unfinished_short}
 use Rattle.session_book.proofs.Answering.{said-append, left-append, left_waits, said_waits}
 use Rattle.session_book.proofs.Reading.{ended_by-append, not_ended_before, none_ends}
 use Rattle.proto.proofs.AskLemmas.{asks-append}
 use Rattle.proto.proofs.ReadingLemmas.{reads_empty, reads_one, reads_on}
-
--- A message is read: its spelling leaves the unread bytes, and it goes after the queue.
-pub record ReadsMessage (before : SessionState) (m : Message) (after : SessionState) : Type 0 where
-  pub piece : List ℕ
-  pub spells : Spells before.dialect piece m
-  pub dialect : after.dialect ≡ before.dialect
-  pub unread : before.unread ≡ piece ++ after.unread
-  pub ended : after.ended ≡ ended_by before.ended (m ∷ [])
-  pub queue : after.queue ≡ messages_left (before.queue ++ m ∷ []) []
-  pub out : after.out ≡ before.out ++ said (before.queue ++ m ∷ []) []
-  pub need : after.need ≡ 1
-  pub held : after.held ≡ before.held
-  pub over : after.is_over ≡ before.is_over
-
--- the parser finds no message, and the session keeps what it needs
-pub record TakesNothing (before after : SessionState) : Type 0 where
-  pub unfinished : IsUnfinished before.dialect after.unread after.need
-  pub rest : after ≡ record before { need = after.need }
 
 -- each message takes a byte at least
 pub takes_less : (before after : SessionState) (m : Message) → ReadsMessage before m after
@@ -58,6 +40,12 @@ left_stays (m ∷ ms) e = left_waits m ms e
 pub said_stays : (queue : List Message) → begins_asked queue ≡ true → said queue [] ≡ []
 said_stays [] e = refl
 said_stays (m ∷ ms) e = said_waits m ms e
+
+-- nor does a request behind it change that
+pub asked_behind : (queue : List Message) (q : Request) (quiet : Bool) → begins_asked queue ≡ true
+    → begins_asked (queue ++ Ask q quiet ∷ []) ≡ true
+asked_behind [] q quiet e = refl
+asked_behind (m ∷ ms) q quiet e = e
 
 -- nothing was read yet
 pub reads_nothing : (s : SessionState) → begins_asked s.queue ≡ true → ReadsMessages s [] s

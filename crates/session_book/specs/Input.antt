@@ -1,14 +1,16 @@
 -- The unread bytes of a session, and what they begin with.
-use Rattle.std.specs.Prelude.{◌≡◌, ℕ, ◌-◌, ◌<◌, ◌≤◌, ◌⊎◌, Bool, List, [], ◌++◌, length, take, nat_lt, if◌then◌else◌}
-use Rattle.std.specs.Prelude.{Option, Some, None, Result, Ok, Err}
+use Rattle.std.specs.Prelude.{◌≡◌, ℕ, ◌-◌, ◌<◌, ◌≤◌, ◌⊎◌, Bool, List, [], ◌++◌, length, take, drop, nat_lt, if◌then◌else◌}
+use Rattle.std.specs.Prelude.{Result, Ok, Err}
 use Rattle.proto.specs.declared.dialect.Dialect.{Dialect}
 use Rattle.proto.specs.declared.limits.TheConstants.{MAX_KEPT}
 use Rattle.proto.specs.declared.message.Message.{Message}
-use Rattle.proto.specs.declared.message.Message.TheVariants.{Local}
+use Rattle.proto.specs.declared.message.Message.TheVariants.{Ask, Local}
 use Rattle.proto.specs.declared.message.LocalKind.TheVariants as local
 use Rattle.proto.specs.declared.no_memory.NoMemory.{NoMemory}
 use Rattle.proto.specs.Grammar.{Spells}
 use Rattle.proto.specs.Needs.{IsUnfinished}
+use Rattle.session_book.specs.declared.input.Found.{Found}
+use Rattle.session_book.specs.declared.input.Found.TheVariants as found
 
 -- the dialect of the lines, the bytes, and how many there have to be before the parser is asked again
 pub record InputState : Type 0 where
@@ -37,9 +39,16 @@ pub record Begins (i : InputState) (m : Message) (n : ℕ) : Type 0 where
   pub within : n ≤ length i.unread
   pub spells : Spells i.dialect (take n i.unread) m
 
--- A message is found, or none is there yet and more bytes are needed; or there was no memory for its copy.
-abbrev pub Finds : InputState → Result (Option (Message × ℕ)) NoMemory → InputState → Type 0
-Finds before (Ok (Some found)) after = Begins before found.0 found.1 × (after ≡ before)
-Finds before (Ok None) after =
+-- a message is found, and its bytes are taken away
+pub record Takes (before : InputState) (m : Message) (after : InputState) : Type 0 where
+  pub count : ℕ
+  pub begins : Begins before m count
+  pub taken : after ≡ record before { unread = drop count before.unread; need = 1 }
+
+-- A message is found, which may be taken, or none is there yet and more bytes are needed; or there was no memory for its copy.
+abbrev pub Finds : InputState → Result Found NoMemory → InputState → Type 0
+Finds before (Ok (found.Copied m n)) after = Begins before m n × (after ≡ before)
+Finds before (Ok (found.Taken q quiet)) after = Takes before (Ask q quiet) after
+Finds before (Ok found.Nothing) after =
     IsUnfinished before.dialect before.unread after.need × (after ≡ record before { need = after.need })
 Finds before (Err e) after = after ≡ before

@@ -8,7 +8,7 @@ use Rattle.proto.specs.declared.message.Reply.{Reply}
 use Rattle.proto.specs.declared.message.Message.{Message}
 use Rattle.proto.specs.declared.message.Message.TheVariants.{Ask, Local, Quit, Fatal}
 use Rattle.proto.specs.declared.no_memory.NoMemory.{NoMemory}
-use Rattle.proto.specs.Grammar.{SpellsNone}
+use Rattle.proto.specs.Grammar.{Spells, SpellsNone}
 use Rattle.proto.specs.Reading.{Reads, asks}
 use Rattle.proto.specs.Needs.{IsUnfinished}
 use Rattle.proto.specs.Answers.{said, is_ask}
@@ -165,6 +165,30 @@ pub record IsReady (s : SessionState) : Type 0 where
   pub not_ended : s.ended ≡ None
   pub room : length s.out ≤ MAX_WAITING
   pub enough : s.need ≤ length s.unread
+
+-- A message is read: its spelling leaves the unread bytes, and it goes after the queue.
+pub record ReadsMessage (before : SessionState) (m : Message) (after : SessionState) : Type 0 where
+  pub piece : List ℕ
+  pub spells : Spells before.dialect piece m
+  pub dialect : after.dialect ≡ before.dialect
+  pub unread : before.unread ≡ piece ++ after.unread
+  pub ended : after.ended ≡ ended_by before.ended (m ∷ [])
+  pub queue : after.queue ≡ messages_left (before.queue ++ m ∷ []) []
+  pub out : after.out ≡ before.out ++ said (before.queue ++ m ∷ []) []
+  pub need : after.need ≡ 1
+  pub held : after.held ≡ before.held
+  pub over : after.is_over ≡ before.is_over
+
+-- the parser finds no message, and the session keeps what it needs
+pub record TakesNothing (before after : SessionState) : Type 0 where
+  pub unfinished : IsUnfinished before.dialect after.unread after.need
+  pub rest : after ≡ record before { need = after.need }
+
+-- The next message is read, or there is none yet; or there was no memory for it, and it stays unread.
+abbrev pub ReadsNext : SessionState → Result (Option Message) NoMemory → SessionState → Type 0
+ReadsNext before (Ok (Some m)) after = ReadsMessage before m after
+ReadsNext before (Ok None) after = TakesNothing before after
+ReadsNext before (Err e) after = after ≡ before
 
 -- Messages of a session are read, none where too much output waits, and looks counts the calls of the parser.
 -- Only the last message may be a request: these are the requests read.

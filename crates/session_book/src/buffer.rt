@@ -1,14 +1,20 @@
 //! Bytes that come in at the back and go out in front, and the memory of buffers that are empty.
 
-ghost use Rattle.std.specs.Prelude.{◌≡◌, ◌++◌, [], length, drop, ◌≤◌, OnOk, OnErr, is_some, IsOk, IsTrue};
+ghost use Rattle.std.specs.Prelude.{◌≡◌, ◌++◌, [], length, take, drop, ◌≤◌, OnOk, OnErr, IfOk, is_some, IsOk, IsTrue};
 ghost use Rattle.std.specs.Option.{option_copied_mut};
 ghost use Rattle.proto.specs.Answers.{answer, is_ask, is_silent};
 
 use crate::upkeep::Upkeep;
-use proto::{NoMemory, PendingAnswer, Reply};
+use proto::{ByteString, NoMemory, PendingAnswer, Reply};
 use std::alloc::Global;
 use std::marker::Model;
 use std::mem;
+
+/// The bytes of a message from which on its value stands in the memory of the input.
+pub(crate) const LARGE_MESSAGE: usize = 4096;
+
+/// How many times as many bytes that memory has at most, so that few bytes don't stand in much memory.
+const LARGEST_MEMORY: usize = 4;
 
 /// A queue of bytes that lends them as one slice. The bytes in front that have gone out are kept until they are
 /// at least half of all, so each byte is moved at most once for each byte that goes out. Its first bytes borrow the memory of
@@ -51,8 +57,13 @@ impl Buffer {
         &self.bytes.as_slice()[self.start..]
     }
 
-    /// Puts input after the others. None at all needs no memory.
-    pub fn append(&mut self, piece: &[u8], spares: &mut SpareBuffers) -> Result<(), NoMemory>
+    /// Puts input after the others, with room for as many bytes as there have to be. None at all needs no memory.
+    pub fn append(
+        &mut self,
+        piece: &[u8],
+        need: usize,
+        spares: &mut SpareBuffers,
+    ) -> Result<(), NoMemory>
         ensures ok { OnOk result (self.new ≡ self.old ++ piece.now) }
         ensures err { OnErr result (self.new ≡ self.old) }
     {
@@ -60,8 +71,37 @@ impl Buffer {
             return Ok(());
         }
         spares.lend(Use::Input, &mut self.bytes);
+        let missing = need.saturating_sub(self.len());
+        self.bytes.reserve(missing.max(piece.len()))?;
         self.bytes.extend_from_slice(piece)?;
         Ok(())
+    }
+
+    /// Whether the first `n` bytes are to be taken out with the memory of all, and the others copied: they are many, and most.
+    pub fn is_worth_taking(&self, n: usize) -> bool {
+        n >= LARGE_MESSAGE
+            && n >= self.len().saturating_sub(n)
+            && n >= self.bytes.capacity() / LARGEST_MEMORY
+    }
+
+    /// Takes the first `n` bytes out. Those from `from` up to `to` are answered in the memory of all; what is left gets other memory.
+    pub fn take_part(
+        &mut self,
+        from: usize,
+        to: usize,
+        n: usize,
+        spares: &mut SpareBuffers,
+    ) -> Result<ByteString, NoMemory>
+        requires { (from ≤ to) × (to ≤ n) × (n ≤ length self.old) }
+        ensures part { IfOk result (λ part. part ≡ drop from (take to self.old)) }
+        ensures ok { OnOk result (self.new ≡ drop n self.old) }
+        ensures err { OnErr result (self.new ≡ self.old) }
+    {
+        let mut rest = Buffer::new(*self.bytes.allocator());
+        rest.append(self.as_slice().split_at(n).1, 0, spares)?;
+        let Buffer { mut bytes, start } = mem::replace(self, rest);
+        bytes.truncate(start + to);
+        Ok(ByteString::behind(bytes, start + from))
     }
 
     /// Puts an answer after the others, and counts its bytes as output that waits.

@@ -7,10 +7,23 @@ ghost use Rattle.proto.specs.Grammar.{SpellsNone};
 
 use crate::buffer::{Buffer, SpareBuffers, Use};
 use proto::{
-    Dialect, LocalKind, MAX_KEPT, Message, NextView, NoMemory, Trace, next_view_behind, to_message,
+    ByteString, Dialect, LocalKind, MAX_KEPT, Message, MessageView, NextView, NoMemory, Put,
+    Request, StorageLineView, Trace, next_view_behind, request_to_store, to_message,
 };
 use std::alloc::Global;
 use std::marker::Model;
+
+/// What the input begins with.
+#[derive(Drop)]
+pub(crate) enum Found {
+    /// No whole message.
+    Nothing,
+    /// A message, copied, and how many bytes spell it.
+    Copied(Message, usize),
+    /// A request whose block is large, and whether `noreply` was given. Its bytes were taken out of the input: the value has
+    /// their memory.
+    Taken(Request, bool),
+}
 
 /// Unread bytes. Contracts see those that were dropped too.
 #[derive(Drop)]
@@ -93,34 +106,56 @@ impl Input {
         ensures err { OnErr result (self.new ≡ self.old) }
     {
         if self.need <= MAX_KEPT {
-            return self.kept.append(piece, spares);
+            return self.kept.append(piece, self.need, spares);
         }
         let (front, behind) = piece.split_at((self.need - self.dropped).min(piece.len()));
-        self.kept.append(behind, spares)?;
+        self.kept.append(behind, 0, spares)?;
         self.gone.note(front);
         self.dropped += front.len();
         Ok(())
     }
 
-    /// The message that the bytes begin with, copied, and how many of them spell it; or None, and the need is what the parser said.
-    /// A line that isn't whole yet is searched for its end from where the last search stopped.
-    pub fn next(
-        &mut self,
-        alloc: Global,
-        spares: &mut SpareBuffers,
-    ) -> Result<Option<(Message, usize)>, NoMemory>
+    /// The message that the bytes begin with; or none, and the need is what the parser said. A line that isn't whole yet is searched
+    /// for its end from where the last search stopped.
+    pub fn next(&mut self, alloc: Global, spares: &mut SpareBuffers) -> Result<Found, NoMemory>
         requires { self.old.need ≤ length self.old.unread }
         ensures { Finds self.old result self.new }
     {
         if self.need > MAX_KEPT {
             let message = Message::Local(LocalKind::TooLarge(self.noreply));
-            return Ok(Some((message, self.need)));
+            return Ok(Found::Copied(message, self.need));
         }
         match next_view_behind(self.dialect, self.kept.as_slice(), &mut self.searched) {
-            NextView::Found(view, length) => Ok(Some((to_message(alloc, view)?, length))),
+            NextView::Found(MessageView::Put(head, data), length) => {
+                if !self.kept.is_worth_taking(length) {
+                    let message = to_message(alloc, MessageView::Put(head, data))?;
+                    return Ok(Found::Copied(message, length));
+                }
+                let size = data.len();
+                let key = ByteString::from_slice(alloc, head.key)?;
+                let StorageLineView {
+                    mode,
+                    flags,
+                    exptime,
+                    noreply,
+                    ..
+                } = head;
+                let end = length - 2;
+                let value = self.kept.take_part(end - size, end, length, spares)?;
+                self.searched = 0;
+                self.need = 1;
+                let put = Put {
+                    key,
+                    flags,
+                    exptime,
+                    value,
+                };
+                Ok(Found::Taken(request_to_store(mode, put), noreply))
+            }
+            NextView::Found(view, length) => Ok(Found::Copied(to_message(alloc, view)?, length)),
             NextView::More(need) => {
                 self.need = need;
-                Ok(None)
+                Ok(Found::Nothing)
             }
             NextView::Drop(need, noreply) => {
                 self.gone.note(self.kept.as_slice());
@@ -129,7 +164,7 @@ impl Input {
                 self.searched = 0;
                 self.need = need;
                 self.noreply = noreply;
-                Ok(None)
+                Ok(Found::Nothing)
             }
         }
     }

@@ -11,7 +11,7 @@ ghost use Rattle.proto.specs.Reading.{asks};
 
 use crate::buffer::{Buffer, Use};
 use crate::causes::{EndCause, Received, Unsettled};
-use crate::input::Input;
+use crate::input::{Found, Input};
 use crate::upkeep::{Task, Tickets, Upkeep};
 use bytes::Bytes;
 use proto::{Dialect, Message, NoMemory, PendingAnswer, Reply, Request};
@@ -82,7 +82,7 @@ impl Model for Session {
 }
 
 impl Session {
-    ghost use Rattle.session_book.specs.Session.{new_session, IsInputFull, once_fed, TakesPiece, FeedsHeld, ReadsAsk};
+    ghost use Rattle.session_book.specs.Session.{new_session, IsInputFull, once_fed, TakesPiece, FeedsHeld, ReadsNext, ReadsAsk};
     ghost use Rattle.session_book.specs.Session.{with_reply, gave, finished_by, once_over, HasReadAll, IsReady};
     ghost use Rattle.session_book.specs.Session.{IsEmptied, Stops};
 
@@ -151,8 +151,35 @@ impl Session {
         Ok(true)
     }
 
+    /// Reads the next message, of which there may be none yet. The bytes are read in place, and a request is copied out of them
+    /// once; one with a large block takes their memory.
+    fn read_message(&mut self, upkeep: &mut Upkeep) -> Result<Option<Message>, NoMemory>
+        requires { IsReady self.old }
+        ensures { ReadsNext self.old result self.new }
+    {
+        self.queue.reserve(1)?;
+        let unread = self.input.kept().len();
+        match self.input.next(self.alloc, &mut upkeep.spares)? {
+            Found::Nothing => Ok(None),
+            Found::Copied(message, length) => {
+                put_behind(&mut self.queue, &mut self.output, &message, upkeep)?;
+                self.input.take(length, &mut upkeep.spares);
+                upkeep.counts.count(&message, length);
+                self.ended = cause_of(&message);
+                Ok(Some(message))
+            }
+            Found::Taken(request, noreply) => {
+                let message = Message::Ask(request, noreply);
+                self.queue.push_back_reserved(PendingAnswer::of(&message));
+                let length = unread.saturating_sub(self.input.kept().len());
+                upkeep.counts.count(&message, length);
+                Ok(Some(message))
+            }
+        }
+    }
+
     /// Reads messages up to the next request, for which there is room among the unsettled ones then, and counts the calls
-    /// of the parser. The bytes are read in place, and a request is copied out of them once.
+    /// of the parser.
     pub fn next_ask(
         &mut self,
         unsettled: &mut VecDeque<Unsettled>,
@@ -164,17 +191,14 @@ impl Session {
         ensures room { (request : Request) → result ≡ Ok (Some request)
             → deque_len unsettled.new < deque_capacity unsettled.new }
     {
-        let alloc = self.alloc;
+        // This read is for the proof: with it is known that the queue begins with a request.
+        let _ = &self.alloc;
         while self.is_ready() {
             unsettled.reserve(1)?;
             *looks = looks.saturating_add(1);
-            let Some((message, length)) = self.input.next(alloc, &mut upkeep.spares)? else {
+            let Some(message) = self.read_message(upkeep)? else {
                 return Ok(None);
             };
-            put_behind(&mut self.queue, &mut self.output, &message, upkeep)?;
-            self.input.take(length, &mut upkeep.spares);
-            upkeep.counts.count(&message, length);
-            self.ended = cause_of(&message);
             if let Message::Ask(request, _) = message {
                 return Ok(Some(request));
             }

@@ -3,7 +3,7 @@
 
 ghost use Rattle.std.specs.Prelude.{◌≡◌};
 
-use crate::buffer::{SpareBuffers, Use};
+use crate::buffer::{LARGE_MESSAGE, SpareBuffers, Use};
 use proto::{Answered, FatalKind, LocalKind, Message, Reply, Request, SpareBuffer};
 use std::alloc::{AllocError, Global};
 use std::collections::VecDeque;
@@ -199,11 +199,13 @@ impl Upkeep {
         }
     }
 
-    /// Uncounts the keys of a `get` that was settled, and keeps the memory of its hits for another one.
+    /// Uncounts the keys of a `get` that was settled, and keeps the memory of its hits for another one. That of a large value is
+    /// kept for input.
     pub(crate) fn settled(&mut self, answered: Answered) {
         let Answered { request, reply, .. } = answered;
         self.uncount(&request);
-        self.keep_buffer(reply);
+        self.keep_hits(reply);
+        self.keep_value(request);
     }
 
     fn uncount(&mut self, request: &Request) {
@@ -212,12 +214,21 @@ impl Upkeep {
         }
     }
 
-    fn keep_buffer(&mut self, reply: Reply) {
+    fn keep_hits(&mut self, reply: Reply) {
         if matches!(reply, Reply::TooLarge) {
             self.counts.refused_item();
         }
         if let Some(spare) = reply.into_buffer() {
             self.spares.keep(Use::Hits, spare.into_bytes());
+        }
+    }
+
+    fn keep_value(&mut self, request: Request) {
+        if let Some(spare) = request.into_buffer() {
+            let bytes = spare.into_bytes();
+            if bytes.capacity() >= LARGE_MESSAGE {
+                self.spares.keep(Use::Input, bytes);
+            }
         }
     }
 }

@@ -122,25 +122,26 @@ class Round:
     def edits(self):
         return self.copied + self.placed
 
-    def part(self, edits):
-        """The round of some of its edits."""
-        return Round([it for it in edits if it in self.copied], [it for it in edits if it in self.placed])
-
     def halves(self):
         edits, half = self.edits(), len(self.edits()) // 2
-        return [self.part(edits[:half]), self.part(edits[half:])]
+        return [Round([it for it in part if it in self.copied], [it for it in part if it in self.placed]) for part in (edits[:half], edits[half:])]
 
-    def takes(self, edit):
-        """Whether an edit can be made in its place here, too: no other one changes that function there. An edit of no body, which may change any function,
-        stands alone."""
+    def takes(self, edit, reach):
+        """Whether an edit can be made in its place here, too. Then no function of this round may call one that it edits; an edit of no body, which may
+        change any function, stands alone."""
         if any(named_in(it) for it in [edit, *self.placed]):
             return False
-        return not any(set(edit.functions) & set(it.functions) for it in self.placed)
+        callers = any(set(edit.functions) & reach[it.functions[0]] for it in self.copied)
+        return not callers and not any(are_joined(f, g, reach) for it in self.placed for f in edit.functions for g in it.functions)
 
 
 def named_in(edit):
     """Whether an edit names the function that must fall, as it isn't in a body."""
     return "\n# in: " in edit.text
+
+
+def are_joined(one, other, reach):
+    return one == other or one in reach[other] or other in reach[one]
 
 
 def rounds_of(crate, edits):
@@ -150,7 +151,7 @@ def rounds_of(crate, edits):
     rounds = [Round(copied[at::count], []) for at in range(count)]
     for edit in edits:
         if not edit.is_copied:
-            found = next((it for it in rounds if it.takes(edit)), None)
+            found = next((it for it in rounds if it.takes(edit, crate.reach)), None)
             if not found:
                 found = Round([], [])
                 rounds.append(found)
@@ -159,15 +160,15 @@ def rounds_of(crate, edits):
 
 
 def control_of(crate, tried):
-    """The function whose unedited copy a round proves, too: a short one, with proof files if there is such; None if there is none. It neither calls a
-    function that is edited in its place, nor names what is edited. It has an edit in a copy here if such a function has."""
+    """The function whose unedited copy a round proves, too: a short one, with proof files if there is such; None if there is none. It has an edit here if
+    any copy has; else it neither calls an edited function nor names what is edited."""
     edited = {f for it in tried.placed for f in it.functions}
     named = {word for it in tried.placed if named_in(it) for word in it.words()}
     # (A law, whose body is empty, may have a long proof.)
     short = [it for it in crate.functions if crate.can_copy(it) and it.first < it.last]
     free = [it for it in short if it not in edited and not edited & crate.reach[it] and not named & it.words]
-    copied = {it.functions[0] for it in tried.copied}
-    return min([it for it in free if it in copied] or free, key=lambda it: (not os.path.isdir(f"{crate.folder}/{crate.proofs_of(it)}"), it.last - it.first, it.path()), default=None)
+    chosen = {it.functions[0] for it in tried.copied} or free
+    return min(chosen, key=lambda it: (not os.path.isdir(f"{crate.folder}/{crate.proofs_of(it)}"), it.last - it.first, it.path()), default=None)
 
 
 def edited(text, pairs, file):

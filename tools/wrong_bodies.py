@@ -19,9 +19,8 @@ on after a function that it refuses, and has a line for each:
     fn NAME::f_wrong0: no proof: it calls ..             says nothing
 
 What a function's proof sees of another is that one's contract, and no edit of a body changes that; so a copy is refused exactly if it is refused
-alone. A method of a trait's impl can't be copied, nor a function with a Proof.antt: it is edited in its place, and what is said to call it is tried again
-without it. An edit that isn't in the body of one function (of a constant, say) names the function that must fall in a line '# in: PATH', and has a
-check of its own.
+alone. A method of a trait's impl can't be copied, nor a function with a Proof.antt: it is edited in its place, beside functions that don't call it. An
+edit that isn't in the body of one function (of a constant, say) names the function that must fall in a line '# in: PATH', and has a check of its own.
 
 Each check has one function's unedited copy as its control, which must be proved: else nothing is known of the edits. One is enough. A fault of the
 copying that the control doesn't meet is a name that some proof file doesn't find, and the edits of that function fail as 'refused by a lost name'.
@@ -64,7 +63,6 @@ LINE = re.compile(r"^fn (\S+): (.*)$", re.MULTILINE)
 IS_PROVED = re.compile(rb"rt: (\w+) (?:proved$|is kept: )")
 HAS_ENDED = re.compile(r"^only=\d+ holes=\d+$", re.MULTILINE)
 PROVED = re.compile(r"no holes|depends on a hole")
-CALLS = re.compile(r"no proof: it calls")
 OPEN = re.compile(r"not proved(; it stands on|$)|no proof: expected answers")
 LOST_NAME = re.compile(r"has no field|is not in scope|has no `|was not admitted|(was|were) not checked")
 
@@ -175,13 +173,6 @@ class Tries:
             for name, paths in room.falls.items():
                 verdicts = [said.verdict(self.crate, it) for it in paths]
                 self.verdicts[name] = next((it for it in verdicts if it.word != REFUSED), verdicts[0])
-            self.try_callers(tried, label)
-
-    def try_callers(self, tried, label):
-        """Tries those again, without the others, that weren't tried since they call a function that another edit of their check changes in its place."""
-        callers = [it for it in tried.edits() if CALLS.match(self.verdicts[it.name].why)]
-        if 0 < len(callers) < len(tried.edits()):
-            self.try_round(tried.part(callers), f"{label}c", True)
 
     def try_halves(self, tried, control, label, said, is_sound):
         """Tries the halves of a round whose check ended so, or says why it can't."""

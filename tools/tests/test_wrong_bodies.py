@@ -215,22 +215,12 @@ def test_the_proofs_keep_a_processor_and_memory(monkeypatch):
     assert wrong_bodies.at_once(0, False) == 1
 
 
-@pytest.mark.parametrize("said, count", [("not proved", "3 passed, 0 failed"), ("no proof: it calls `low::f`, which is not proved", "2 passed, 1 failed")])
-def test_a_caller_of_what_is_edited_in_its_place_is_tried_without_it(low, capsys, monkeypatch, said, count):
-    rooms = []
-
-    def checked(room):
-        rooms.append(sorted(room.falls))
-        path = room.falls["caller"][0]
-        words = said if len(room.falls) == 1 else "no proof: it calls `low::SquareSized::size`, which is not proved"
-        whole = as_refused(room)
-        return dataclasses.replace(whole, text=whole.text.replace(f"{path}: not proved", f"{path}: {words}"))
-
-    monkeypatch.setattr(wrong_bodies, "checked", checked)
+def test_an_edit_in_its_place_stands_beside_no_copy_that_calls_it(low):
     caller = "file: src/lib.rt\nold: square.size()\nnew: square.size() / 2\n"
-    plant(low, {"caller": caller, "greatest": EDITS["greatest"], "of_trait": EDITS["of_trait"]})
-    assert run(capsys)[1] == count
-    assert rooms == [["caller", "greatest", "of_trait"], ["caller"]]
+    plant(low, {"greatest": EDITS["greatest"], "of_trait": EDITS["of_trait"]})
+    assert len(edited_copies.rounds_of(it := edited_copies.Crate("low"), it.edits)) == 1
+    plant(low, {"caller": caller})
+    assert len(edited_copies.rounds_of(it := edited_copies.Crate("low"), it.edits)) == 2
 
 
 def test_a_program_has_edits_too(low, capsys):

@@ -8,6 +8,16 @@ VERSION = b"VERSION 1.6.0-segcached-0.6.0\r\n"
 BUCKETS = 1025
 # Lines that are answered without a look at the cache or at the clock.
 LOCAL = (b"version", b"verbosity")
+JOINS = (b"append", b"prepend")
+ERROR, BAD_LINE = b"ERROR\r\n", b"CLIENT_ERROR bad command line format\r\n"
+
+
+def refused(request):
+    """What the strict dialect answers to a request that the lenient one alone has, whose data block is read as a line; None for others."""
+    verb, *words = request
+    if verb == b"delete" and len(words) > 1:
+        return BAD_LINE
+    return 2 * ERROR if verb in JOINS else ERROR if verb in (b"touch", *LOCAL) else None
 
 
 def bucket_of(ttl):
@@ -292,7 +302,7 @@ class Cache:
         if verb in LOCAL:
             return verb + b"".join(b" " + it for it in words) + b"\r\n", b"OK\r\n" if verb == b"verbosity" else VERSION
         self.begin(now)
-        if verb in (b"append", b"prepend"):
+        if verb in JOINS:
             key, flags, exptime, value, _ = words
             line = b"%b %b %d %d %d\r\n%b\r\n" % (verb, key, flags, exptime, len(value), value)
             return line, self.join(verb, key, value, now)

@@ -14,6 +14,16 @@ COUNTED = """cmd_get cmd_set cmd_touch cmd_flush total_items cas_badval out_of_m
     incr_misses decr_hits decr_misses touch_hits touch_misses cas_hits cas_misses""".split()
 # Which count a reply to `cas` is, and of a `delete`, a `touch` or a change of a number.
 OF_CAS = {b"STORED\r\n": "cas_hits", b"NOT_FOUND\r\n": "cas_misses", b"EXISTS\r\n": "cas_badval"}
+JOINS = (b"append", b"prepend")
+ERROR, BAD_LINE = b"ERROR\r\n", b"CLIENT_ERROR bad command line format\r\n"
+
+
+def refused(request):
+    """What the strict dialect answers to a request that the lenient one alone has, whose data block is read as a line; None for others."""
+    verb, *words = request
+    if verb == b"delete" and len(words) > 1:
+        return BAD_LINE
+    return 2 * ERROR if verb in JOINS else ERROR if verb in (b"touch", b"stats", *LOCAL) else None
 
 
 def bucket_of(ttl):
@@ -349,7 +359,7 @@ class Cache:
         if verb in LOCAL:
             return verb + b"".join(b" " + it for it in words) + b"\r\n", b"OK\r\n" if verb == b"verbosity" else VERSION
         self.begin(now)
-        if verb in (b"append", b"prepend"):
+        if verb in JOINS:
             key, flags, exptime, value, _ = words
             line = b"%b %b %d %d %d\r\n%b\r\n" % (verb, key, flags, exptime, len(value), value)
             return line, self.join(verb, key, value, now)

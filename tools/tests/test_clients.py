@@ -96,7 +96,7 @@ def test_with_lenient_lines_memcflush_flushes(program, run):
 
 PACKAGES = """python3-django python3-memcache python3-binary-memcached php-cli php-memcached php-memcache php-symfony-cache
     libcache-memcached-perl libcache-memcached-fast-perl libmemcached-libmemcached-perl ruby ruby-dalli nginx-light
-    php-symfony-http-foundation simplesamlphp freeradius-memcached python3-tooz python3-celery python3-limits""".split()
+    php-symfony-http-foundation simplesamlphp freeradius-memcached python3-tooz python3-celery python3-limits python3-swift""".split()
 CALLS = [
     *[(sys.executable, f"{name}_calls.py") for name in ("pylibmc", "python_memcached", "binary_memcached", "django", "nginx")],
     *[("php", f"{name}_calls.php") for name in ("php_memcached", "php_memcache")],
@@ -109,7 +109,7 @@ GATE_APPLICATIONS = [(sys.executable, f"{name}_calls.py") for name in ("mediawik
 APPLICATIONS = [
     *GATE_APPLICATIONS,
     *[("php", f"{name}_calls.php") for name in ("symfony", "php_sessions", "simplesamlphp")],
-    *[(sys.executable, f"{name}_calls.py") for name in ("touching", "freeradius")],
+    *[(sys.executable, f"{name}_calls.py") for name in ("touching", "freeradius", "swift")],
 ]
 
 

@@ -2,8 +2,8 @@
 
 Each answer is the same byte for byte, and a `stats` is told what the model counted. Long runs over small pools give back, merge and clear
 all the time, and a tick between requests lets entries expire. Short ones are chosen by hypothesis, which shortens what fails. Some of
-either kind are in the lenient dialect, with spaces before the ends of lines, and with what that dialect alone takes. Half evict the least
-read segment, and half change values in place.
+either kind are in the lenient dialect, with spaces before the ends of lines, and with what that dialect alone takes; the long ones in the
+strict dialect have such requests too, which are refused. Half evict the least read segment, and half change values in place.
 """
 import concurrent.futures
 import itertools
@@ -13,7 +13,7 @@ import tempfile
 
 from hypothesis import given, settings
 from hypothesis import strategies as st
-from model import LOCAL, Cache
+from model import JOINS, LOCAL, Cache, refused
 
 FIRST_MOMENT = 1000
 
@@ -32,12 +32,16 @@ def replay(program, sent, segment_size, segments, tick, *dialect):
     return b"" if digits == "-" else bytes.fromhex(digits)
 
 
-def spelled(cache, requests, tick):
+def spelled(cache, requests, tick, is_lenient):
     """Of each request its bytes and its answer. The clock ticks for those that the cache executes."""
     pairs, executed = [], 0
     for request in requests:
-        pairs.append(cache.answer(request, FIRST_MOMENT + tick * executed))
-        executed += request[0] not in LOCAL
+        moment, refusal = FIRST_MOMENT + tick * executed, None if is_lenient else refused(request)
+        if refusal:
+            pairs.append((Cache(4096, 8).answer(request, moment)[0], refusal))
+        else:
+            pairs.append(cache.answer(request, moment))
+            executed += request[0] not in LOCAL
     return zip(*pairs)
 
 
@@ -69,16 +73,13 @@ def must_be_answered_as(wanted, given_bytes, sent):
 
 # ---- long runs
 
-JOINS = (b"append", b"prepend")
-
-
 def random_lenient_request(chance, key, ttls):
     """One of the lines that have no data and that the lenient dialect alone takes; most are touches."""
     others = (b"delete", key, b"0"), (b"version",), (b"verbosity", b"1"), (b"stats",)
     return chance.choice((*others, *[(b"touch", key, chance.choice(ttls))] * 5))
 
 
-def random_request(chance, keys, ttls, is_lenient):
+def random_request(chance, keys, ttls):
     """A request over this number of keys, some of them asked for more often than others."""
     key = b"key%d" % min(chance.randrange(keys), chance.randrange(keys))
     kind = chance.random()
@@ -86,13 +87,13 @@ def random_request(chance, keys, ttls, is_lenient):
         asked = [key] + [b"key%d" % chance.randrange(keys) for _ in range(chance.randrange(3))]
         return b"gets" if chance.random() < 0.3 else b"get", asked
     if kind < 0.9:
-        verb = chance.choice((b"set", b"set", b"set", b"set", b"add", b"replace", b"cas", *(JOINS if is_lenient else ())))
+        verb = chance.choice((b"set", b"set", b"set", b"set", b"add", b"replace", b"cas", *JOINS))
         number, size = chance.randrange(10 ** chance.randrange(1, 21)), chance.randrange(chance.choice((20, 200, 500)))
         value = b"%d" % number if chance.random() < 0.2 else b"v" * size
         unique = None if chance.random() < 0.7 else chance.randrange(1000)
         return verb, key, chance.randrange(2**32), chance.choice(ttls), value, unique
     if kind < 0.95:
-        if is_lenient and chance.random() < 0.5:
+        if chance.random() < 0.5:
             return random_lenient_request(chance, key, ttls)
         return b"delete", key
     if kind < 0.9995:
@@ -117,10 +118,10 @@ def long_run(program, number):
     segment_size, segments, tick, keys, ttls, dialect = RUNS[number % len(RUNS)]
     is_least_read, is_in_place = number % 2 == 1, number // 2 % 2 == 1
     chance, cache = random.Random(number), Cache(segment_size, segments, is_least_read, is_in_place)
-    requests = (random_request(chance, keys, ttls, bool(dialect)) for _ in range(REQUESTS))
+    requests = (random_request(chance, keys, ttls) for _ in range(REQUESTS))
     # (a lenient one ends with a `stats`)
     requests = itertools.chain(requests, [(b"stats",)] * bool(dialect))
-    sent, wanted = spelled(cache, requests, tick)
+    sent, wanted = spelled(cache, requests, tick, bool(dialect))
     sent = with_spaces(sent) if dialect else sent
     options = dialect + LEAST_READ * is_least_read + IN_PLACE * is_in_place
     must_be_answered_as(wanted, replay(program, sent, segment_size, segments, tick, *options), sent)
@@ -198,9 +199,9 @@ def test_any_requests_are_answered_as_by_the_model(program, sizes, tick, parts, 
     requests = sum(parts, []) + reads(0, ALL_KEYS)
     cache = Cache(*sizes, is_least_read, is_in_place)
     if is_lenient:
-        sent, wanted = spelled(cache, [*map(lenient_form, requests), (b"stats",)], tick)
+        sent, wanted = spelled(cache, [*map(lenient_form, requests), (b"stats",)], tick, True)
         sent, dialect = with_spaces(sent), ["--lenient"]
     else:
-        (sent, wanted), dialect = spelled(cache, requests, tick), []
+        (sent, wanted), dialect = spelled(cache, requests, tick, False), []
     options = dialect + LEAST_READ * is_least_read + IN_PLACE * is_in_place
     must_be_answered_as(wanted, replay(program, sent, *sizes, tick, *options), sent)

@@ -1,7 +1,8 @@
 //! Reads a script's bytes.
 
-ghost use Rattle.std.specs.Prelude.{◌≡◌, ◌++◌, [], take, false, IfOk, OnOk, IfSome, MatchResult};
+ghost use Rattle.std.specs.Prelude.{◌≡◌, ◌++◌, [], take, false, IfOk, OnOk, IfSome, MatchResult, string_bytes};
 ghost use Rattle.std.specs.Io.{ReadsAtMost};
+ghost use Rattle.std.specs.IoError.{error_kind};
 ghost use Rattle.std.specs.Io.KnownBytes.{ReadConsumes, IsAtEnd};
 ghost use Rattle.replaying.specs.Faults.{IsReadFault};
 ghost use Rattle.replaying.specs.Reading.{ReadsPiece};
@@ -18,7 +19,7 @@ const PIECE: usize = 8192;
 
 /// The fault if the options' file can't be read: NoMemory if memory is missing, else CannotRead with the file's path.
 pub fn cannot_read(alloc: Global, options: &Options, error: &io::Error) -> Fault
-    ensures { IsReadFault result }
+    ensures { IsReadFault (string_bytes options.entry.now.file) (error_kind error.now) result }
 {
     if error.kind() == ErrorKind::OutOfMemory {
         return Fault::NoMemory;

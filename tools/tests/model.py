@@ -51,14 +51,21 @@ def life_of(deadline, now):
     return None if deadline is None else max(1, deadline - now)
 
 
-def may_stand_for(has, asked, now):
-    """Whether a `touch` leaves an item that ends at the first moment, if it is to end at the second: a segment might give it that end, or no more
-    than an eighth of its life is missing."""
+def may_be_given(has, asked, now):
+    """Whether a write that asks for one deadline may give the other: less than two widths of its bucket are missing."""
     if has is None or asked is None:
         return has is asked
     life = min(asked - now, 8388608)
     width, _ = width_and_lower_end(bucket_of(life))
-    return now < has <= asked and (has + 2 * width > now + life or asked - has <= (asked - now) // 8)
+    return now < has <= asked and has + 2 * width > now + life
+
+
+def may_stand_for(has, asked, now):
+    """Whether an item with one deadline may stay where another is asked for: a write might have given it, or no more than an eighth of its life
+    is missing."""
+    if may_be_given(has, asked, now):
+        return True
+    return None not in (has, asked) and now < has <= asked and asked - has <= (asked - now) // 8
 
 
 class Segment:
@@ -211,7 +218,19 @@ class Cache:
         item.value, item.cas = value, self.cas
         item.segment.hits += 1
 
+    def goes_over(self, item, ttl, now):
+        """Whether the item goes over the one of its key, and if so puts it there: by the rule of the least read, if both take as many bytes, and the
+        deadline there may be given."""
+        there, asked = self.find(item.key, now), None if ttl is None else now + ttl
+        if not (self.is_least_read and there and there.size == item.size and may_be_given(there.segment.deadline, asked, now)):
+            return False
+        there.value, there.flags, there.cas = item.value, item.flags, item.cas
+        there.segment.hits += 1
+        return True
+
     def store(self, item, ttl, now):
+        if self.goes_over(item, ttl, now):
+            return
         key, bucket = item.key, bucket_of(ttl)
         self.current.pop(key, None)
         if not self.append(item, bucket, now):

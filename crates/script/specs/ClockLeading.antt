@@ -3,18 +3,19 @@ use Rattle.std.specs.Prelude.{◌≡◌, ℕ, zero, suc, ◌+◌, [], ◌∷◌,
 use Rattle.std.proofs.Common.{sym, ap, ◌∙◌, arith, append_assoc, append-nil}
 use Rattle.script.specs.Clocks.{ClockState, answer_of, first_answers}
 use Rattle.script.specs.declared.clock.RecordingClock.{RecordingClock}
+use Rattle.script.specs.Readings.{readings_in_order}
 
 -- The clock gave its next answers, as many as the count, and goes on after them.
 pub record GivesAnswers (old new : RecordingClock) : Type 0 where
   pub count : ℕ
-  pub told : new.answers.items ≡ old.answers.items ++ first_answers old.clock count
+  pub told : readings_in_order new.answers ≡ readings_in_order old.answers ++ first_answers old.clock count
   pub later : (n : ℕ) → answer_of new.clock n ≡ answer_of old.clock (n + count)
 
 -- it may have given none
 pub gives_none : (clock : RecordingClock) → GivesAnswers clock clock
 gives_none clock = record {
   count = 0;
-  told = sym (append-nil clock.answers.items);
+  told = sym (append-nil (readings_in_order clock.answers));
   later = λ n. ap (answer_of clock.clock) (omega arith);
 }
 
@@ -35,9 +36,9 @@ pub gives_more : (first second third : RecordingClock) → GivesAnswers first se
 gives_more first second third some more = record {
   count = some.count + more.count;
   told = more.told ∙ ap (λ answers. answers ++ first_answers second.clock more.count) some.told
-      ∙ append_assoc first.answers.items (first_answers first.clock some.count)
+      ∙ append_assoc (readings_in_order first.answers) (first_answers first.clock some.count)
       (first_answers second.clock more.count)
-      ∙ ap (λ answers. first.answers.items ++ answers)
+      ∙ ap (λ answers. readings_in_order first.answers ++ answers)
       (sym (first_more first.clock second.clock some.count more.count some.later));
   later = λ n. more.later n ∙ some.later (n + more.count)
       ∙ ap (answer_of first.clock) (let e : n + more.count + some.count

@@ -14,4 +14,5 @@ pub mod Players
 pub mod Execution
 pub mod SequentialSessions
 pub mod SequentialReplays
+pub mod Readings
 pub mod ClockLeading

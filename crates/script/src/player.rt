@@ -21,10 +21,11 @@ use crate::sessions::{Sessions, Stage};
 use bytes::Bytes;
 use std::alloc::{AllocError, Global};
 use std::snapshot::Snapshot;
-use worker_port::{Gone, MAX_PIECE, PortEvent, PortNote, PortRecord};
+use worker_port::{Gone, MAX_PIECE, PortEvent, PortRecord};
 
 #[derive(Drop)]
 pub(crate) struct Player {
+    pub(crate) alloc: Global,
     /// The script that was handed in.
     pub(crate) script: Snapshot<Vec<ScriptEvent>>,
     /// The events that weren't played yet, those of closed sessions included.
@@ -89,12 +90,13 @@ fn settle(sessions: &Sessions, events: &mut Remaining)
     }
 }
 
-// The next piece of a send.
-fn next_piece(bytes: &Bytes) -> Result<Bytes, AllocError>
-    ensures { IfOk result (λ piece. piece ≡ take 16384 bytes.now) }
+// The next piece of a send, and a copy of it for the list of events.
+fn next_piece(bytes: &Bytes) -> Result<(Bytes, Bytes), AllocError>
+    ensures { IfOk result (λ r. (r.0 ≡ take 16384 bytes.now) × (r.1 ≡ take 16384 bytes.now)) }
 {
     let piece = bytes.slice(0..bytes.len().min(MAX_PIECE))?;
-    Ok(piece)
+    let copy = piece.clone()?;
+    Ok((piece, copy))
 }
 
 impl Player {
@@ -104,6 +106,7 @@ impl Player {
     {
         let script = Snapshot::of(&events);
         Player {
+            alloc,
             script,
             events: Remaining::new(events),
             sessions: Sessions::new(alloc),
@@ -138,7 +141,7 @@ impl Player {
         if self.sessions.open(session).is_err() {
             return PortEvent::Idle;
         }
-        self.records.write(&PortNote::Opened(session));
+        self.records.write(PortRecord::Opened(session));
         self.events.drop_first();
         PortEvent::Opened(session)
     }
@@ -155,11 +158,10 @@ impl Player {
             Some(&ScriptEvent::Open(session)) => self.open(session),
             Some(ScriptEvent::Send(session, bytes)) => {
                 let session = *session;
-                let Ok(piece) = next_piece(bytes) else {
+                let Ok((piece, copy)) = next_piece(bytes) else {
                     return PortEvent::Idle;
                 };
-                self.records
-                    .write(&PortNote::Data(session, piece.as_slice()));
+                self.records.write(PortRecord::Data(session, copy));
                 self.events.take_piece();
                 PortEvent::Data(session, piece)
             }
@@ -179,7 +181,7 @@ impl Player {
         requires none { in_order self.old.events ≡ [] }
         ensures { PlaysNext self.old result self.new }
     {
-        self.records.write(&PortNote::Ended);
+        self.records.write(PortRecord::Ended);
         self.ended = true;
         PortEvent::Ended
     }
@@ -214,7 +216,7 @@ impl Player {
         ensures same { sessions.is_session_open self.old.sessions session ≡ false → self.new ≡ self.old }
     {
         if self.sessions.change(session, Stage::Closed) {
-            self.records.write(&entry);
+            self.records.write(entry);
         }
     }
 
@@ -244,10 +246,13 @@ impl Player {
         ensures kept { result ≡ true → Keeps self.old session bytes.now self.new }
         ensures same { result ≡ false → SamePlayer self.old self.new }
     {
+        let Ok(copy) = Bytes::copy_from_slice(self.alloc, bytes) else {
+            return false;
+        };
         if self.sessions.accept(session, bytes).is_err() {
             return false;
         }
-        self.records.write(&PortNote::Accepted(session, bytes));
+        self.records.write(PortRecord::Accepted(session, copy));
         true
     }
 

@@ -1,4 +1,5 @@
-use Rattle.std.proofs.Common.{◌≡◌, [], ◌∷◌, ◌++◌, refl, sym, ◌∙◌, ap, not, ne_eqb}
+use Rattle.std.proofs.Common.{◌≡◌, ℕ, List, [], ◌∷◌, ◌++◌, refl, sym, ◌∙◌, ap, not, ne_eqb}
+use Rattle.worker_port.specs.declared.events.PortRecord.{PortRecord}
 use Rattle.worker_port.specs.declared.events.PortRecord.TheVariants as was
 use Rattle.worker_port.specs.Ports.{is_in}
 use Rattle.worker_port.proofs.Lists.{ended_same}
@@ -19,7 +20,9 @@ returns-clause-consistent c =
     let a = ok_of (AcceptsAt ss s b ss') c.accept.result
     (sym c.is_err.ensures.value ∙ c.if-is_err.false) c.accept.ensures.ok in
     let x = open_entry ss s a.was_open in
-    let l_is : l' ≡ l ++ was.Accepted s b ∷ [] = c.write.ensures in
+    let entry_is : was.Accepted s c.in-Ok.copy ≡ was.Accepted s b =
+    ap (λ (g : List ℕ). was.Accepted s g) c.in-Ok.ensures in
+    let l_is : l' ≡ l ++ was.Accepted s b ∷ [] = c.write.ensures ∙ ap (λ (e : PortRecord). l ++ e ∷ []) entry_is in
     record {
       each = each_step ss ss' l l' (was.Accepted s b) s k.each l_is (λ t ne. ne_eqb s t (λ e. ne (sym e))) a.at.others
           (agrees_accepted ss ss' l s b x.0 a.at x.1 (k.each s));

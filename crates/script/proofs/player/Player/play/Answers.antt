@@ -36,7 +36,7 @@ sends : (c : After-take_piece)
 sends c =
     let s = c.in-Some-Send.session in let bytes = c.in-Some-Send.bytes in let f = sent c in record {
       sessions_are = refl;
-      records_are = c.write.ensures ∙ (λ i. c.args.self.now.records ++ was.Data s ((c.as_slice.ensures ∙ c.in-Ok.ensures) i) ∷ []);
+      records_are = c.write.ensures ∙ (λ i. c.args.self.now.records ++ was.Data s (c.in-Ok.ensures.1 i) ∷ []);
       ended_is = refl;
       script_is = refl;
       accept_is = refl;
@@ -51,7 +51,7 @@ returns-in-Ok c =
     let first = sent c in record {
       goes_on = (send_consistent p _ s bytes first.consistent first (sends c), refl, refl, refl);
       played = λ tells. subst (λ (b : List ℕ). TellsNext (player_state p) (event.Data s b)
-          (player_state (record p { events = c.take_piece.new.self; records = c.write.new.self }))) (sym c.in-Ok.ensures)
+          (player_state (record p { events = c.take_piece.new.self; records = c.write.new.self }))) (sym c.in-Ok.ensures.0)
           (send_told p _ s bytes first.consistent first (sends c) first.running tells);
     }
 

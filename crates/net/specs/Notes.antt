@@ -2,8 +2,8 @@
 use Rattle.std.specs.Prelude.{List, [], ◌∷◌}
 use Rattle.worker_port.specs.declared.events.PortRecord.{PortRecord}
 use Rattle.worker_port.specs.declared.events.PortRecord.TheVariants as was
-use Rattle.worker_port.specs.declared.events.PortNote.{PortNote}
-use Rattle.worker_port.specs.declared.events.PortNote.TheVariants as is
+use Rattle.net.specs.declared.streams.PortNote.{PortNote}
+use Rattle.net.specs.declared.streams.PortNote.TheVariants as is
 
 abbrev pub told_by : PortNote → List PortRecord
 told_by (is.Opened s) = was.Opened s ∷ []

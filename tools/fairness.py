@@ -1,5 +1,6 @@
 """How long a client waits that asks for nothing, beside clients that send or read as fast as they can: for tools/hostile.py, which says the
-words. segcached with one worker stands beside memcached (of Debian) with one thread, in one run.
+words. segcached with one worker stands beside memcached (of Debian) with one thread, in one run; then with two beside two threads, since all workers
+share the storage thread.
 """
 import multiprocessing
 import shutil
@@ -12,6 +13,8 @@ from served import OnPort, Server, Trouble, free_port
 
 # What 99 of 100 requests, and each one, may wait on a quiet machine, in seconds.
 MOST = 0.020, 0.060
+# The same beside one client, and beside several, that ask for the longest answers. (How long the longest wait is depends on the machine.)
+BESIDE_LONGEST = {1: (0.030, 0.2), 8: (0.060, 0.2)}
 # A machine is quiet where memcached's clients waited at most these in the same load.
 QUIET = 0.007, 0.015
 # A busy machine makes all wait: so much longer may they wait, or so many times as long as memcached's clients in the same load.
@@ -19,26 +22,39 @@ ROOM = 3
 TIMES_MEMCACHED = 8
 # A load in which they waited too long is tried so often.
 TRIES = 6
-# How long a load is measured, and how long it runs before.
+# How long a load is measured, if its clients ask for the longest answers so many times as long, and how long it runs before.
 SECONDS = 0.7
+TIMES_LONGEST = 3
 BEFORE = 0.15
 # The bytes that a fast client sends, or asks for, at a time.
 AT_A_TIME = 2_000_000
 
 
 class Load(NamedTuple):
-    """So many clients, which send or read values of this size."""
+    """So many clients, which send or read values of this size; and of how many keys one `get` asks."""
 
     clients: int
     size: int
     reads: bool
+    keys: int = 1
 
     def __str__(self):
-        return f"{self.clients} that {'read' if self.reads else 'send'} {self.size // 1000} kB"
+        many = f"{self.keys} times " if self.keys > 1 else ""
+        return f"{self.clients} that {'read' if self.reads else 'send'} {many}{self.size // 1000} kB"
+
+    def most(self):
+        return MOST if self.keys == 1 else BESIDE_LONGEST[self.clients]
+
+    def seconds(self):
+        return SECONDS if self.keys == 1 else SECONDS * TIMES_LONGEST
 
 
-LOADS = [Load(clients, size * 1000, False) for size in (8, 30, 100, 130) for clients in (1, 2, 8)]
-LOADS += [Load(clients, size * 1000, True) for size in (10, 100) for clients in (1, 2, 8)]
+SENDERS = [Load(clients, size * 1000, False) for size in (8, 30, 100, 130) for clients in (1, 2, 8)]
+READERS = [Load(clients, size * 1000, True) for size in (10, 100) for clients in (1, 2, 8)]
+# (a hit more would exceed the limit of an answer)
+LONGEST = [Load(clients, 131_000, True, 64) for clients in BESIDE_LONGEST]
+# By the number of workers. With two the clients are on both of them in turn.
+LOADS = {1: SENDERS + READERS + LONGEST, 2: [it for it in SENDERS + READERS if it.size == 100_000 and it.clients > 1]}
 
 
 def connect(port):
@@ -54,24 +70,24 @@ def send_fast(port, key, size):
             stream.sendall(text)
 
 
-def read_fast(port, key, size):
-    """Sends many requests at once, and reads what it is answered."""
+def read_fast(port, key, size, keys):
+    """Sends many requests at once, or a long one, and reads what it is answered."""
     with connect(port) as stream:
         stream.sendall(b"set %s 0 0 %d\r\n%s\r\n" % (key, size, b"v" * size))
-        answer = len(b"VALUE %s 0 %d\r\n%s\r\nEND\r\n" % (key, size, b"v" * size))
-        count, left, buffer = AT_A_TIME // size, len(b"STORED\r\n"), bytearray(65536)
+        answer = keys * len(b"VALUE %s 0 %d\r\n%s\r\n" % (key, size, b"v" * size)) + len(b"END\r\n")
+        count, left, buffer = max(AT_A_TIME // (keys * size), 1), len(b"STORED\r\n"), bytearray(65536)
         while True:
             while left > 0:
                 left -= stream.recv_into(buffer, min(left, len(buffer)))
-            stream.sendall(b"get %s\r\n" % key * count)
+            stream.sendall((b"get" + b" " + b" ".join([key] * keys) + b"\r\n") * count)
             left = count * answer
 
 
-def waits_beside(port, says):
+def waits_beside(port, seconds, says):
     """How long the requests of a client waited, and those of newcomers from before they connected."""
     waits, began = [], time.monotonic()
     with connect(port) as stream:
-        while time.monotonic() < began + SECONDS:
+        while time.monotonic() < began + seconds:
             waits.append(wait_of(stream))
             time.sleep(0.002)
             if len(waits) % 4 == 0:
@@ -92,10 +108,10 @@ def wait_of(stream):
 
 def measure(port, load):
     """What 99 of 100 requests, and each one, waited at most, in seconds."""
-    run = read_fast if load.reads else send_fast
-    fast = [multiprocessing.Process(target=run, args=(port, b"fast-%d" % it, load.size), daemon=True) for it in range(load.clients)]
+    run, given = (read_fast, (load.size, load.keys)) if load.reads else (send_fast, (load.size,))
+    fast = [multiprocessing.Process(target=run, args=(port, b"fast-%d" % it, *given), daemon=True) for it in range(load.clients)]
     hears, says = multiprocessing.Pipe(False)
-    waiting = multiprocessing.Process(target=waits_beside, args=(port, says), daemon=True)
+    waiting = multiprocessing.Process(target=waits_beside, args=(port, load.seconds(), says), daemon=True)
     for process in fast:
         process.start()
     time.sleep(BEFORE)
@@ -113,11 +129,11 @@ def measure(port, load):
     return waits[len(waits) * 99 // 100], waits[-1]
 
 
-def most_of(beside):
+def most_of(load, beside):
     """What they may wait, where memcached's clients waited so long."""
     if all(it <= most for it, most in zip(beside, QUIET)):
-        return MOST
-    return tuple(max(ROOM * most, TIMES_MEMCACHED * it) for most, it in zip(MOST, beside))
+        return load.most()
+    return tuple(max(ROOM * most, TIMES_MEMCACHED * it) for most, it in zip(load.most(), beside))
 
 
 def install_memcached():
@@ -125,28 +141,38 @@ def install_memcached():
         subprocess.run(["apt-get", "install", "-y", "--no-install-recommends", "memcached"], check=True, stdout=subprocess.DEVNULL)
 
 
-def check(program):
-    """What it says of all loads; Trouble where a client waited too long in each try."""
-    install_memcached()
+def waited_beside(load, server, memcached):
+    """What others waited beside a load, and memcached's clients; Trouble where they waited too long in each try."""
+    for _ in range(TRIES):
+        beside, waited = measure(memcached.port, load), measure(server.port, load)
+        if all(it <= most for it, most in zip(waited, most_of(load, beside))):
+            return waited, beside
+    raise Trouble(f"beside {load}: {said(waited)}, memcached's clients {said(beside)}")
+
+
+def check_workers(program, workers):
+    """What it says of the loads for so many workers."""
     port = free_port()
-    words = ["memcached", "-u", "nobody", "-l", "127.0.0.1", "-p", str(port), "-t", "1", "-m", "64"]
+    words = ["memcached", "-u", "nobody", "-l", "127.0.0.1", "-p", str(port), "-t", str(workers), "-m", "64"]
+    options = ["--lenient", "--workers", str(workers), "--segment-size", "1048576", "--segments", "64"]
     longest, beside_longest, within = (0, 0), (0, 0), 0
-    with Server(program, "--workers", "1", "--segment-size", "1048576", "--segments", "64") as server, OnPort(port, words) as memcached:
-        for load in LOADS:
-            for tried in range(1, TRIES + 1):
-                beside, waited = measure(memcached.port, load), measure(server.port, load)
-                if all(it <= most for it, most in zip(waited, most_of(beside))):
-                    break
-                if tried == TRIES:
-                    raise Trouble(f"beside {load}: {said(waited)}, memcached's clients {said(beside)}")
-            within += all(it <= most for it, most in zip(waited, MOST))
+    with Server(program, *options) as server, OnPort(port, words) as memcached:
+        for load in LOADS[workers]:
+            waited, beside = waited_beside(load, server, memcached)
+            within += all(it <= most for it, most in zip(waited, load.most()))
             longest = tuple(map(max, longest, waited))
             beside_longest = tuple(map(max, beside_longest, beside))
         server.must_run()
     return (
-        f"{len(LOADS)} loads of fast clients, {within} within {said(MOST)}; in the worst others waited {said(longest)}, "
-        f"memcached's {said(beside_longest)}"
+        f"{workers} worker{'s'[: workers - 1]}: {len(LOADS[workers])} loads of fast clients, {within} as on a quiet machine; in the worst others "
+        f"waited {said(longest)}, memcached's {said(beside_longest)}"
     )
+
+
+def check(program):
+    """What it says of all loads; Trouble where a client waited too long in each try."""
+    install_memcached()
+    return "; ".join(check_workers(program, workers) for workers in LOADS)
 
 
 def said(waits):

@@ -4,6 +4,7 @@ binary protocol.
 If a `touch` with `noreply` were answered, each later answer of a connection that clients share would belong to the request before it. Real
 clients would then return other keys' values.
 """
+import collections
 import random
 import socket
 import subprocess
@@ -248,13 +249,13 @@ def is_refused(client, key, value):
     return False
 
 
-def mixed(port, number, seen):
+def mixed(port, number, turns, seen):
     """One of ten clients of a proxy, which shares its connections among them: the first one appends and touches as well, with and without a reply,
     and sends blocks that are too large."""
     chance, client = random.Random(number), Client(("127.0.0.1", port), timeout=20, default_noreply=False)
     values = {f"tw-{number}-{at}": b"value-%d-%d" % (number, at) for at in range(20)}
     assert client.set_many(values) == []
-    for turn in range(140):
+    for turn in range(turns):
         key = chance.choice(list(values))
         if number == 0 and turn % 20 == 19:
             seen.append("refused" if is_refused(client, key, LARGE_BLOCK) else "stored")
@@ -267,12 +268,17 @@ def mixed(port, number, seen):
     client.quit()
 
 
-def test_behind_twemproxy_no_client_reads_a_wrong_value_beside_appends_touches_and_large_blocks(serve, tmp_path):
+def test_behind_twemproxy_no_client_reads_a_wrong_value_beside_appends_touches_and_large_blocks(serve, request, tmp_path, say):
+    """With all clients over 100,000 values are read, which takes a minute."""
+    turns = 10_600 if request.config.getoption("--all-clients") else 140
     with twemproxy([serve("--workers", "1", "--lenient").port for _ in range(3)], tmp_path) as port:
         seen = []
-        clients = [threading.Thread(target=mixed, args=(port, number, seen)) for number in range(10)]
+        clients = [threading.Thread(target=mixed, args=(port, number, turns, seen)) for number in range(10)]
         for client in clients:
             client.start()
         for client in clients:
             client.join()
-    assert {it: seen.count(it) for it in set(seen)} == {"right": 1330, "joined": 63, "refused": 7}
+    found = collections.Counter(seen)
+    say(", ".join(f"{count} {it}" for it, count in sorted(found.items())))
+    # (of 20 turns the first one appends and touches in 9, and sends a large block in one)
+    assert found == {"right": turns * 19 // 2, "joined": turns // 20 * 9, "refused": turns // 20}

@@ -263,8 +263,7 @@ inline next_event() {                              /* net/port.rt: next, look */
      if
      :: event
      :: !event && !may_wait                        /* net/polls.rt: CALLS_EACH_POLL */
-     :: !event && !may_wait -> poll(false); known_event()
-     :: !event && may_wait -> poll(true)           /* (what it heard of is told at the next call) */
+     :: !event -> poll(may_wait); known_event()
      fi
   fi
 }
@@ -317,12 +316,8 @@ inline flush() {                                   /* worker/worker.rt: flush */
      unpark(storage_word);
 #endif
      d_step { sent = sent + put; put = 0; posted[me] = sent };   /* exchange/worker.rt: flush */
-#ifdef EARLY_WAKE_ALONE
-     if :: woke_early -> woke_early = false :: else -> unpark(storage_word) fi
-#else
 #ifndef WAKE_BEFORE_STORE
      unpark(storage_word)
-#endif
 #endif
   :: else
   fi
@@ -346,7 +341,7 @@ inline give_output() {                             /* worker/run.rt: give_output
 
 proctype worker(byte me) {                         /* worker/run.rt: run_worker */
   byte unsent = REQUESTS - me, unasked, asked, put, sent, back, known, unoffered, old_word;
-  bool is_open, is_ready, has_streams = true, saw_close, port_ended, woken, event, may_wait, moved, known_all, announced, woke_early;
+  bool is_open, is_ready, has_streams = true, saw_close, port_ended, woken, event, may_wait, moved, known_all, announced;
   do
   :: OWN {                                         /* worker/run.rt: take_turn */
        take_events();
@@ -360,14 +355,7 @@ proctype worker(byte me) {                         /* worker/run.rt: run_worker 
      :: moved -> moved = false; reset(worker_words[me])   /* worker/pauses.rt: reset */
      :: !moved && port_ended && sent == back && unasked == 0 -> break   /* worker/run.rt: has_drained */
      :: !moved && sent > back -> turn(worker_words[me])   /* worker/pauses.rt: turn */
-     :: !moved && sent == back && !port_ended ->   /* worker/run.rt: wake_early */
-        if
-        :: unpark(storage_word)
-#ifdef EARLY_WAKE_ALONE
-           ; woke_early = true
-#endif
-        :: true
-        fi
+     :: !moved && sent == back && !port_ended      /* (it yields) */
      fi
   od;
   atomic { bye[me] = sent + 1; posted[me] = bye[me] };   /* exchange/steps.rt: put_bye */

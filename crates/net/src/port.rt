@@ -155,8 +155,7 @@ impl<R: Wait + Clock + Drop> MioPort<R> {
     }
 
     // Polls the sockets, unless it is too early, or an event is known already, or the end is to be told; now and then all the
-    // same. False if there is no event, or none is to be told at this call: after a poll that waited, so that the worker can
-    // wake storage before it reads what was heard of.
+    // same. False if there is no event.
     fn look(&mut self, may_wait: bool) -> bool
         ensures { TellsNothing self.old.served self.new.served }
     {
@@ -169,11 +168,10 @@ impl<R: Wait + Clock + Drop> MioPort<R> {
         let limit = self
             .polls
             .next(&self.rt, knows_event, may_wait, is_draining);
-        let Some(limit) = limit else {
-            return knows_event;
-        };
-        self.poll_for(limit);
-        limit.is_zero()
+        if let Some(limit) = limit {
+            self.poll_for(limit);
+        }
+        knows_event || limit.is_some()
     }
 
     // Polls the sockets, for no longer than this, nor beyond the next look for idle sessions.

@@ -5,12 +5,9 @@ use exchange::{IdleTurns, ParkingWord, Waits};
 use std::sync::Wait;
 use std::time::Clock;
 
-/// Idle turns in a row that spin for an answer before the worker parks: at most some ten microseconds, in which storage mostly
-/// answers. In the fewest of them, an eighth, the port polls its sockets once.
+/// Idle turns in a row that spin for an answer before the worker parks: some ten microseconds, in which storage mostly
+/// answers.
 const IDLE_TURNS: u32 = 40;
-
-/// So many requests between two waits are few: those that come next probably are too, and storage sleeps until then.
-const FEW_REQUESTS: u64 = 2;
 
 /// Idle turns in a row. A worker that waits for an answer parks until storage has given it; else it yields, as it waits for
 /// a peer that accepts no bytes.
@@ -18,8 +15,6 @@ const FEW_REQUESTS: u64 = 2;
 pub(crate) struct Pauses<'a> {
     idle: IdleTurns,
     backoff: Backoff,
-    /// How many requests had been sent when the worker last had nothing to do.
-    sent: u64,
     /// Whether it spins for a time.
     is_timed: bool,
     /// How long the worker waited, for answers or in its port.
@@ -32,18 +27,9 @@ impl<'a> Pauses<'a> {
         Pauses {
             idle: IdleTurns::new(IDLE_TURNS, spin),
             backoff: Backoff::new(),
-            sent: 0,
             is_timed: spin.is_some(),
             waits,
         }
-    }
-
-    /// The worker has nothing to do, and has sent so many requests. Whether there were few since it last had nothing to do, but
-    /// some.
-    pub(crate) fn has_sent_few(&mut self, sent: u64) -> bool {
-        let brought = sent.saturating_sub(self.sent);
-        self.sent = sent;
-        brought > 0 && brought <= FEW_REQUESTS
     }
 
     /// Something came: the next idle turn is the first of a row.

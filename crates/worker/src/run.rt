@@ -223,16 +223,6 @@ fn has_drained<P: Port>(worker: &mut Worker<P>) -> bool
     }
 }
 
-/// The worker has nothing to do, or its port has waited, and may have heard that something can be read now. If it brought few
-/// requests last, storage is woken while that is read, as it takes longer to wake than to read a request. It would have slept
-/// again before many were read.
-fn wake_early<P: Port>(worker: &Worker<P>, pauses: &mut Pauses, storage: &StorageSignals) {
-    let batch = &worker.state.batch;
-    if batch.outstanding() == 0 && pauses.has_sent_few(batch.sent()) {
-        storage.parking().unpark();
-    }
-}
-
 /// Serves a port until it has ended and all was answered and given, and then says bye.
 ///
 /// The end has sent nothing yet, and the list of a port that tells it is empty. It may wait: for events, for answers and for a
@@ -271,7 +261,6 @@ pub fn run_worker<P: Port, G: Gate, R: Wait + Clock>(
         } else if has_drained(&mut worker) {
             return leave(worker, storage);
         } else {
-            wake_early(&worker, &mut pauses, storage);
             pauses.turn(rt, worker.state.batch.outstanding() > 0, parking);
         }
     }

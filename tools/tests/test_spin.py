@@ -65,13 +65,11 @@ def shares(server, seconds):
 
 
 def test_storage_and_a_worker_look_for_work_after_each_request_and_then_sleep(serve):
-    """They look for half as long once they looked in vain, and for as long as they may once they found work."""
     server = serve("--workers", "1", "--spin", str(int(SPIN * 1e6)))
     with server.connect() as stream:
-        for count, looks_for in ((6, SPIN), (1, SPIN / 2), (6, SPIN)):
-            for _ in range(count):
-                ask(stream, b"get a\r\n", b"END\r\n")
-            looking = shares(server, looks_for - 0.1)
+        for _ in range(3):
+            ask(stream, b"get a\r\n", b"END\r\n")
+            looking = shares(server, SPIN - 0.1)
             # (each counts its time from when it first found nothing)
             time.sleep(0.4)
             sleeping = shares(server, SPIN)

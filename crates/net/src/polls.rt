@@ -24,40 +24,27 @@ const DRAINING_WAIT_MILLIS: u64 = 5;
 /// How long it waits for peers that take no output.
 const STALLED_WAIT_MILLIS: u64 = 1;
 
-/// A port that may look on for a time before a poll waits does so at least for this share of it.
-const LEAST_SHARE: u32 = 8;
-
-/// The calls in a row that found no event, and the time after the last event for which polls don't wait: half as long after each time
-/// in which no event came, and twice as long after one in which one did.
+/// The calls in a row that found no event, and the time after the last event for which polls don't wait.
 #[derive(Clone, Copy, Default)]
 pub(crate) struct Polls {
     idle_calls: u32,
     // The calls since the last poll.
     unpolled: usize,
-    // In microseconds, the longest time. Zero at first: each poll waits then, if the worker may.
-    most: u32,
-    // The time now.
-    spin: u32,
+    // Zero at first: each poll waits then, if the worker may.
+    spin: Duration,
     // The first poll since the last event that would wait; none if there was none.
     since: Option<Instant>,
-    // It was too early for that poll, and for all since.
-    is_early: bool,
 }
 
 impl Polls {
-    // Polls don't wait until at most this many microseconds after an event.
+    // Polls don't wait until this many microseconds after an event.
     pub(crate) fn set_spin(&mut self, micros: u32) {
-        self.most = micros;
-        self.spin = micros;
+        self.spin = Duration::from_micros(micros as u64);
     }
 
     // Something came or went: idle calls are counted from here.
     pub(crate) fn restart(&mut self) {
         self.idle_calls = 0;
-        if self.is_early {
-            self.spin = self.spin.max(1).saturating_mul(2).min(self.most);
-            self.is_early = false;
-        }
         self.since = None;
     }
 
@@ -113,18 +100,13 @@ impl Polls {
 
     // Whether a poll is too early to wait. The clock is read only here, so that a busy port never reads it.
     fn spins<R: Clock>(&mut self, rt: &R) -> bool {
-        if self.most == 0 {
+        if self.spin.is_zero() {
             return false;
         }
         let Ok(now) = Instant::now(rt) else {
             return false;
         };
         let since = *self.since.get_or_insert(now);
-        let was_early = self.is_early;
-        self.is_early = now.duration_since(since) < Duration::from_micros(self.spin as u64);
-        if was_early && !self.is_early {
-            self.spin = (self.spin / 2).max(self.most / LEAST_SHARE);
-        }
-        self.is_early
+        now.duration_since(since) < self.spin
     }
 }

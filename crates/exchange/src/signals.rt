@@ -36,16 +36,15 @@ impl ParkingWord {
         self.word.store(ANNOUNCED, Ordering::SeqCst);
     }
 
-    /// Parks, unless there was an `unpark` since the announcement, for `longest` at most. It may return early. Whether there was
-    /// an `unpark`.
-    pub fn park<R: Wait>(&self, rt: &R, longest: Duration) -> bool {
+    /// Parks, unless there was an `unpark` since the announcement, for `longest` at most. It may return early.
+    pub fn park<R: Wait>(&self, rt: &R, longest: Duration) {
         let parks = self
             .word
             .compare_exchange(ANNOUNCED, PARKED, Ordering::SeqCst, Ordering::SeqCst);
         if parks.is_ok() {
             self.word.park_timeout(rt, PARKED as u32, longest);
         }
-        self.word.swap(AWAKE, Ordering::SeqCst) == AWAKE
+        self.cancel();
     }
 
     /// The thread doesn't park after all.

@@ -20,9 +20,10 @@ CALLS = {
     "sockets/logged_stream.rt": {"LoggedStream": {"new", "into_stream", "read", "write"}},
 }
 
-# Libraries whose safe calls take any descriptor by its number. Of `os` the product uses this call alone, which takes none.
-BY_NUMBER = {"io", "libc", "std_io"}
+# Libraries whose safe calls take any descriptor by its number. Of `os` and of `libc` the product uses these calls alone, which take none.
+BY_NUMBER = {"io", "std_io"}
 OF_OS = "set_thread_name"
+OF_LIBC = "getpid"
 # What it uses of `std::os`: the type of such a number, for standard error.
 OF_STD_OS = "fd::RawFd"
 
@@ -72,6 +73,7 @@ def test_no_safe_call_takes_a_descriptors_number():
     assert "os" in libraries and not libraries & BY_NUMBER
     uses = [(name, *it) for name, text in sources().items() for it in re.findall(r"(std::|)\bos\b(?:::([\w:]+))?", text)]
     assert {it[1:] for it in uses} == {("", OF_OS), ("std::", OF_STD_OS)}, uses
+    assert {it for text in sources().values() for it in re.findall(r"\blibc\b(?:::([\w:]+))?", text)} == {OF_LIBC}
 
 
 def test_exactly_one_thing_is_unsafe():

@@ -216,17 +216,17 @@ fn lines_of<R: Abort>(rt: &R, alloc: Global, lines: usize, keys: usize) -> Vec<u
     bytes
 }
 
-/// How many keys stand in a line, how many such lines come in a piece, and how many of them are on their way at most. A line of
-/// more than 8 keys isn't asked while those on their way have more than 128, and no line is while they have more than 255: the
-/// hits of 255 keys and one more answer fit into 64 MiB.
-const KEYS: [(usize, usize, u64); 8] = [
+/// How many keys stand in a line, how many such lines come in a piece, and how many of them are on their way at most. No line is
+/// asked while those on their way have more than 255: the hits of 255 keys and one more answer fit into 64 MiB.
+const KEYS: [(usize, usize, u64); 9] = [
     (1, 100, 64),
     (3, 100, 64),
     (4, 100, 64),
     (8, 100, 32),
-    (9, 100, 15),
+    (9, 100, 29),
     (128, 10, 2),
-    (129, 10, 1),
+    (255, 10, 2),
+    (256, 10, 1),
     (1021, 8, 1),
 ];
 

@@ -173,7 +173,7 @@ Settles before answered outcomes.Kept after = SettlesReply before after answered
 Settles before answered outcomes.Starved after = Starves before after answered
 
 -- the session is open, and something of it is left to be read, given or shut
-pub record HasLeft (book : BookState) (session : ℕ) : Type 0 where
+pub record IsUnemptied (book : BookState) (session : ℕ) : Type 0 where
   pub s : SessionState
   pub there : session_of book session ≡ Some s
   pub left : ¬ (IsEmptied s)

@@ -30,8 +30,8 @@ pub const MAX_HIT: usize = 131_128;
 /// strictly, where a line has 1,021 keys at most, no more than 160 MiB.
 pub const MAX_KEYS: usize = 255;
 
-/// Keys of unsettled requests, over all sessions, above which a `get` for many keys is put off. So the others wait for one large
-/// answer at a time.
+/// Keys of unsettled requests, over all sessions, above which a session whose last answer was large is put off. So the others wait
+/// for one large answer at a time.
 pub const MANY_UNSETTLED: usize = 128;
 
 /// Bytes of waiting output, over all sessions, above which the session with the most is closed, unless no other has any.
@@ -85,7 +85,7 @@ impl Model for Book {
 
 impl Book {
     ghost use Rattle.session_book.specs.Book.{session_of, out_of, ChangesSession, Receives, FeedsHeldOf};
-    ghost use Rattle.session_book.specs.Book.{OnlyAt, IsKnown, NextAsk, Settles, HasLeft, IsFullest, IsWithinOutput, all_output};
+    ghost use Rattle.session_book.specs.Book.{OnlyAt, IsKnown, NextAsk, Settles, IsUnemptied, IsFullest, IsWithinOutput, all_output};
 
     /// No session is open yet. The worker's number is kept for its owner.
     pub fn new(alloc: Global, worker: usize, dialect: Dialect) -> Self
@@ -306,7 +306,7 @@ impl Book {
     pub fn find_unemptied(&self) -> Option<u64>
         ensures none { result ≡ None → (session : ℕ) (s : SessionState) → session_of self.now session ≡ Some s
             → IsEmptied s }
-        ensures some { IfSome result (HasLeft self.now) }
+        ensures some { IfSome result (IsUnemptied self.now) }
     {
         for (session, open) in self.sessions.iter() {
             if !open.is_emptied() {
@@ -326,7 +326,7 @@ impl Book {
         }
     }
 
-    /// Whether the session has a `get` for many keys to be read next, and is asked later, as the unsettled requests have many.
+    /// Whether the session's last answer was large, and it is asked later, as the unsettled requests have many keys.
     pub fn put_off(&mut self, session: u64) -> bool
         ensures { self.new ≡ self.old }
     {
@@ -389,7 +389,7 @@ impl Book {
     pub fn next_to_ask(&mut self) -> Option<u64>
         ensures { self.new ≡ self.old }
     {
-        if self.ready(Task::AskMany) == 0 {
+        if self.ready(Task::AskLarge) == 0 {
             self.upkeep.passed = 0;
             return self.next_ready(Task::Ask);
         }
@@ -401,7 +401,7 @@ impl Book {
             return None;
         }
         self.upkeep.passed = 0;
-        self.next_ready(Task::AskMany)
+        self.next_ready(Task::AskLarge)
     }
 
     /// Takes out the next session that is to be taken up for the task.

@@ -34,8 +34,8 @@ const WORTH_GIVING: usize = 16_384;
 /// since no whole message has come, has the room.
 const WORTH_FEEDING: usize = 65_536;
 
-/// The keys of a `get` up to which it needn't wait for a large answer.
-const FEW_KEYS: usize = 8;
+/// The bytes of an answer above which its session is asked after the others, where many keys are on their way.
+const LARGE_ANSWER: usize = 262_144;
 
 /// What is to be done with a session's output now.
 #[derive(Clone, Copy)]
@@ -58,6 +58,8 @@ pub struct Session {
     held: Option<Bytes>,
     /// No more input comes.
     is_over: bool,
+    /// Whether its last answer was large.
+    was_large: bool,
     tickets: Tickets,
 }
 
@@ -97,6 +99,7 @@ impl Session {
             ended: None,
             held: None,
             is_over: false,
+            was_large: false,
             tickets: Tickets::none(),
         }
     }
@@ -245,9 +248,13 @@ impl Session {
         ensures ok { OnOk result (self.new ≡ with_reply self.old reply.old) }
         ensures silent { said self.old.queue (reply.old ∷ []) ≡ [] → IsOk result }
     {
+        let before = self.output.len();
         let answered = answer_first(&mut self.queue, reply, &mut self.output, upkeep);
         match answered {
-            Ok(()) => upkeep.add(Task::Give, session, &mut self.tickets.give),
+            Ok(()) => {
+                self.was_large = self.output.len().saturating_sub(before) > LARGE_ANSWER;
+                upkeep.add(Task::Give, session, &mut self.tickets.give);
+            }
             Err(NoMemory) => {
                 self.queue.clear();
                 self.forget(upkeep);
@@ -340,15 +347,14 @@ impl Session {
         upkeep.add(Task::Ask, session, &mut self.tickets.ask);
     }
 
-    /// Whether a `get` for many keys is read next: then the session is asked later.
+    /// Whether its last answer was large: then the session is asked later.
     pub fn put_off(&mut self, session: u64, upkeep: &mut Upkeep) -> bool
         ensures { self.new ≡ self.old }
     {
-        let asks_for_many = asks_for_many(self.input.kept());
-        if asks_for_many {
-            upkeep.add(Task::AskMany, session, &mut self.tickets.ask);
+        if self.was_large {
+            upkeep.add(Task::AskLarge, session, &mut self.tickets.ask);
         }
-        asks_for_many
+        self.was_large
     }
 
     pub fn held(&self) -> &[u8]
@@ -376,23 +382,6 @@ impl Session {
             && self.finished().is_none()
             && !self.is_ready()
     }
-}
-
-/// Whether the bytes begin with a `get` or `gets` for many keys: so many that its answer may be large.
-fn asks_for_many(bytes: &[u8]) -> bool {
-    if !bytes.starts_with(b"get") {
-        return false;
-    }
-    let mut keys: usize = 0;
-    for byte in bytes {
-        if *byte == b'\n' || keys > FEW_KEYS {
-            break;
-        }
-        if *byte == b' ' {
-            keys = keys.saturating_add(1);
-        }
-    }
-    keys > FEW_KEYS
 }
 
 /// How a message ends its session.

@@ -15,8 +15,8 @@ pub enum Task {
     Feed,
     /// They have input.
     Ask,
-    /// They have input, and were put off: a `get` for many keys is read next.
-    AskMany,
+    /// They have input, and were put off: their last answer was large.
+    AskLarge,
     /// They may have output, or have finished.
     Give,
     /// They have output, of which their client accepted nothing when it was last offered some.

@@ -182,26 +182,30 @@ fn asks_64_at_a_time(rt: HostRuntime) -> Result<(), Fail> {
     checked
 }
 
-/// Session 1 has 17 requests of 8 keys on their way, and another one to be read; session 2, which asks for 9 keys, is put off.
-fn put_off_the_second(rt: &impl Abort, player: &mut Player) -> Result<(), Fail> {
+/// Session 2 was given an answer of this length. Session 1 has 17 requests of 8 keys on their way, and both have one to be read.
+fn give_and_ask(rt: &impl Abort, player: &mut Player, answer: usize) -> Result<(), Fail> {
     player.open(1)?;
     player.open(2)?;
-    for number in 1..=17 {
+    player.feed(2, b"stats\r\n")?;
+    check_same(rt, player.next_to_ask(), Some(2), "the second");
+    check_ask(rt, player, 2, Some(1))?;
+    player.settle_stats(answer)?;
+    check_same(rt, player.output_length(2), answer, "its answer");
+    for number in 2..=18 {
         player.feed(1, b"get b b b b b b b b\r\n")?;
         check_ask(rt, player, 1, Some(number))?;
     }
     player.feed(1, b"get b b b b b b b b\r\n")?;
-    player.feed(2, b"get b b b b b b b b b\r\n")?;
+    player.feed(2, b"get b\r\n")?;
     check_same(rt, player.next_to_ask(), Some(1), "the first");
     player.ask_later(1);
     check_same(rt, player.next_to_ask(), Some(2), "the second");
-    check_same(rt, player.put_off(2), true, "with 136 keys on their way");
     Ok(())
 }
 
-/// Others go before it 64 times. Then none is asked before 128 keys or fewer are on their way.
+/// Session 2 is put off: others go before it 64 times. Then none is asked before 128 keys or fewer are on their way.
 fn check_put_off(rt: &impl Abort, player: &mut Player) -> Result<(), Fail> {
-    put_off_the_second(rt, player)?;
+    check_same(rt, player.put_off(2), true, "with 136 keys on their way");
     for times in 1..=64 {
         check_same(rt, player.next_to_ask(), Some(1), times);
         player.ask_later(1);
@@ -217,12 +221,26 @@ fn check_put_off(rt: &impl Abort, player: &mut Player) -> Result<(), Fail> {
     Ok(())
 }
 
+fn check_large(rt: &impl Abort, player: &mut Player) -> Result<(), Fail> {
+    give_and_ask(rt, player, 262_145)?;
+    check_put_off(rt, player)
+}
+
 #[test]
-fn a_get_for_many_keys_does_not_wait_for_ever(rt: HostRuntime) -> Result<(), Fail> {
-    let mut player = Player::new(rt.alloc(), Dialect::Strict, None);
-    let checked = check_put_off(&rt, &mut player);
+fn a_session_with_large_answers_does_not_wait_for_ever(rt: HostRuntime) -> Result<(), Fail> {
+    let mut player = Player::new(rt.alloc(), Dialect::Lenient, None);
+    let checked = check_large(&rt, &mut player);
     drop(player);
     checked
+}
+
+#[test]
+fn a_session_with_smaller_answers_is_not_put_off(rt: HostRuntime) -> Result<(), Fail> {
+    let mut player = Player::new(rt.alloc(), Dialect::Lenient, None);
+    let asked = give_and_ask(&rt, &mut player, 262_144);
+    check_same(&rt, player.put_off(2), false, "with 136 keys on their way");
+    drop(player);
+    asked
 }
 
 fn check_known(rt: &impl Abort, book: &mut Book, sessions: &[u64]) {

@@ -2,12 +2,15 @@
 
 use bytes::Bytes;
 use proto::{
-    Answered, ClockAnswers, Dialect, HitRef, HitWriter, NoMemory, Posted, Reply, Request,
+    Answered, ByteString, ClockAnswers, Dialect, HitRef, HitWriter, NoMemory, Posted, Reply, Request,
     SpareBuffer,
 };
 use session_book::{Book, EndCause, Received, Settled};
 use std::alloc::Global;
 use std::test::Fail;
+
+/// What stands behind the lines of a `stats`.
+const STATS_END: &[u8] = b"END\r\n";
 
 #[derive(Drop)]
 pub struct Player {
@@ -54,7 +57,7 @@ impl Player {
         Ok(Some(number))
     }
 
-    /// Puts the session off if it is to ask for many keys, and the unsettled requests have many.
+    /// Puts the session off if its last answer was large, and the unsettled requests have many keys.
     pub fn put_off(&mut self, session: u64) -> bool {
         self.book.put_off(session)
     }
@@ -76,6 +79,21 @@ impl Player {
         let reply = reply_to(self.alloc, &self.asked[place].request, self.found)?;
         let answered = answered(self.asked.remove(place), reply);
         Ok(Some(self.book.settle(answered)))
+    }
+
+    /// Settles the first of these requests, a `stats`, with an answer of this length.
+    pub fn settle_stats(&mut self, length: usize) -> Result<(), NoMemory> {
+        let lines = vec![in self.alloc; b'x'; length.saturating_sub(STATS_END.len())]?;
+        let reply = Reply::Stats(ByteString::from_vec(lines));
+        if !self.asked.is_empty() {
+            let answered = answered(self.asked.remove(0), reply);
+            self.book.settle(answered);
+        }
+        Ok(())
+    }
+
+    pub fn output_length(&self, session: u64) -> usize {
+        self.book.out(session).len()
     }
 
     pub fn has_output(&self, session: u64, output: &str) -> bool {

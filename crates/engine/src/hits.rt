@@ -14,6 +14,9 @@ use itoa::Buffer;
 use proto::{Dialect, HitRef, HitWriter, Keys, MAX_ANSWER, NoMemory};
 use std::hash::Hasher;
 
+/// The most keys whose searches are read ahead at once.
+const KEYS_AHEAD: usize = 16;
+
 /// Why no hits are shown.
 #[derive(Clone, Copy)]
 pub enum Unshown {
@@ -217,17 +220,25 @@ pub fn hit_of_only<M: LiveMap>(
     Ok(hits)
 }
 
-/// Reads ahead what the search for these keys will read, for several of them at the same time.
+/// Reads ahead what the searches for these keys will read, for several of them at the same time.
 fn read_ahead<M: LiveMap>(map: &M, keys: &Keys) {
+    let mut hashes = [0; KEYS_AHEAD];
+    let mut count = 0;
     let mut words = keys.iter();
     for _ in 0..keys.len() {
         let Some(key) = words.next() else {
-            return;
+            break;
         };
         let mut hasher = map.key_hasher();
         hasher.write(key);
-        map.prefetch(hasher.finish());
+        hashes[count] = hasher.finish();
+        count += 1;
+        if count == KEYS_AHEAD {
+            map.prefetch(&hashes);
+            count = 0;
+        }
     }
+    map.prefetch(&hashes[..count]);
 }
 
 /// Writes the hits of the keys, each of which is looked up once, and counts a read of each. Memory is taken in two

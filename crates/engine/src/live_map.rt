@@ -80,9 +80,9 @@ pub trait LiveMap {
     /// What hashes the keys for `prefetch`.
     fn key_hasher(&self) -> FoldHasher;
 
-    /// Reads what the search for a key with this hash will read, so that it is in the processor's cache. No clause
-    /// speaks of what it reads.
-    fn prefetch(&self, hash: u64);
+    /// Reads what the searches for keys with these hashes will read, for all at once, so that it is in the processor's
+    /// cache. No clause speaks of what it reads.
+    fn prefetch(&self, hashes: &[u64]);
 
     /// Leaves what it tells of itself for `stats`. No clause speaks of it.
     fn tell(&self, gauges: &Gauges);

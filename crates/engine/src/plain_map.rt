@@ -117,7 +117,7 @@ impl LiveMap for PlainMap {
         FoldHasher::default()
     }
 
-    fn prefetch(&self, _hash: u64) {}
+    fn prefetch(&self, _hashes: &[u64]) {}
 
     fn tell(&self, gauges: &Gauges) {
         gauges.set(Gauge::CurrItems, self.map.len() as u64);

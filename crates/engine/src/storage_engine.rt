@@ -40,9 +40,9 @@ pub trait StorageEngine {
     /// What hashes the keys for `prefetch`.
     fn key_hasher(&self) -> FoldHasher;
 
-    /// Reads what a request with a key of this hash will look up, so that it is in the processor's cache. No clause
-    /// speaks of what it reads.
-    fn prefetch(&self, hash: u64);
+    /// Reads what requests with keys of these hashes will look up, for all at once, so that it is in the processor's cache.
+    /// No clause speaks of what it reads.
+    fn prefetch(&self, hashes: &[u64]);
 
     /// Leaves what it tells of itself for `stats`. No clause speaks of it.
     fn tell(&self, gauges: &Gauges);

@@ -168,8 +168,8 @@ impl<M: StoreMap> StorageEngine for Engine<M> {
         self.map.key_hasher()
     }
 
-    fn prefetch(&self, hash: u64) {
-        self.map.prefetch(hash);
+    fn prefetch(&self, hashes: &[u64]) {
+        self.map.prefetch(hashes);
     }
 
     fn tell(&self, gauges: &Gauges) {

@@ -75,26 +75,33 @@ impl Index {
         self.hasher
     }
 
-    /// Reads what a look-up of a key with this hash reads first: the slot where it begins, and what stands at that
-    /// slot's place, if it may be the key's. It gives some of what it read.
-    pub fn prefetch(&self, pool: &Pool, hash: u64) -> u64 {
-        let home = home_of(self.slots.len(), hash);
-        let slot = self.slots.get(home);
-        if slot.tag == self.slots.layout().tag_of(hash) {
-            pool.peek(slot.place)
-        } else {
-            0
+    /// Reads what look-ups of keys with these hashes read first, for all at once: the slots where they begin, and then
+    /// what stands at each slot's place, if it may be the key's. It gives some of what it read.
+    pub fn prefetch(&self, pool: &Pool, hashes: &[u64]) -> u64 {
+        let mut read = self.peek_slots(hashes);
+        for hash in hashes {
+            let slot = self.slots.get(home_of(self.slots.len(), *hash));
+            if slot.tag == self.slots.layout().tag_of(*hash) {
+                read = read.wrapping_add(pool.peek(slot.place));
+            }
         }
+        read
     }
 
     /// Reads the slots at which searches begin for keys with these hashes, all at once.
     pub(crate) fn prefetch_slots(&self, hashes: &[u64]) {
+        self.read_ahead
+            .store(self.peek_slots(hashes), Ordering::Relaxed);
+    }
+
+    /// The sum of the slots at which searches begin for keys with these hashes.
+    fn peek_slots(&self, hashes: &[u64]) -> u64 {
         let mut read: u64 = 0;
         for hash in hashes {
             let home = home_of(self.slots.len(), *hash);
             read = read.wrapping_add(self.slots.peek(home));
         }
-        self.read_ahead.store(read, Ordering::Relaxed);
+        read
     }
 
     /// The place of the key; None if the index doesn't have it.

@@ -256,9 +256,12 @@ impl Gauges {
         })
     }
 
+    /// Sets it. A store takes much longer than a load, so a word that has the number already is only loaded.
     pub fn set(&self, gauge: Gauge, n: u64) {
         if let Some(word) = self.words.get(gauge as usize) {
-            word.store(n, Ordering::Relaxed);
+            if word.load(Ordering::Relaxed) != n {
+                word.store(n, Ordering::Relaxed);
+            }
         }
     }
 

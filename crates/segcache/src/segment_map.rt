@@ -184,8 +184,8 @@ impl LiveMap for SegmentMap {
         self.index.hasher()
     }
 
-    fn prefetch(&self, hash: u64) {
-        let read = self.index.prefetch(&self.pool, hash);
+    fn prefetch(&self, hashes: &[u64]) {
+        let read = self.index.prefetch(&self.pool, hashes);
         self.read_ahead.store(read, Ordering::Relaxed);
     }
 

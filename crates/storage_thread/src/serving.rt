@@ -53,9 +53,11 @@ fn read_ahead<S: StorageEngine>(
     if count < 2 || !signals.has_hints() {
         return 0;
     }
+    let mut hashes = [0; MESSAGES_AHEAD as usize];
     for place in 0..count {
-        store.prefetch(signals.hint(lane, first.wrapping_add(place)));
+        hashes[place as usize] = signals.hint(lane, first.wrapping_add(place));
     }
+    store.prefetch(&hashes[..count as usize]);
     count - 1
 }
 

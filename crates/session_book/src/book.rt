@@ -12,7 +12,7 @@ ghost use Rattle.indexmap.specs.IndexMap.{index_map_len};
 ghost use Rattle.std.specs.Map.{lookup};
 
 use crate::causes::{EndCause, OpenFault, Received, Settled, Unsettled};
-use crate::session::{Offer, Session};
+use crate::session::{MAX_WAITING, Offer, Session};
 use crate::upkeep::{Task, Upkeep};
 use bytes::Bytes;
 use indexmap::IndexMap;
@@ -432,6 +432,11 @@ impl Book {
     /// the hits of the unsettled ones take 41,943,040 bytes at most, or in the strict dialect 167,772,160.
     pub fn is_crowded(&self) -> bool {
         self.upkeep.keys > MAX_KEYS
+    }
+
+    /// Whether little output waits, over all sessions: then a turn of its owner is short.
+    pub fn has_little_output(&self) -> bool {
+        self.upkeep.waiting <= MAX_WAITING
     }
 
     /// Leaves what it counted, and how much is unfinished.

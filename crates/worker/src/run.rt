@@ -21,7 +21,8 @@ use worker_port::Port;
 /// The most events that are taken in a turn. The worker tells storage of their requests together, so it wakes it once.
 const EVENTS_A_TURN: usize = 32;
 
-/// The events that are taken in a turn though a session can't be asked further, so that the others are heard too.
+/// The events that are taken in a turn though a session can't be asked further, if turns are long, as much output waits: so the
+/// others are heard too. In a short turn it is one event.
 const EVENTS_WHILE_BUSY: usize = 8;
 
 /// The most requests that a session is asked for in a row, while others wait to be asked.
@@ -77,7 +78,7 @@ fn take_events<P: Port, G: Gate, R: Clock>(
         ask_sessions(worker, gate, storage);
         if worker.state.book.ready(Task::Ask) > 0 {
             worker.flush(storage);
-            if taken >= EVENTS_WHILE_BUSY {
+            if taken >= EVENTS_WHILE_BUSY || worker.state.book.has_little_output() {
                 break;
             }
         }

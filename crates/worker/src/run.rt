@@ -25,7 +25,8 @@ const EVENTS_A_TURN: usize = 32;
 /// others are heard too. In a short turn it is one event.
 const EVENTS_WHILE_BUSY: usize = 8;
 
-/// The most requests that a session is asked for in a row, while others wait to be asked.
+/// The most requests that a session is asked for in a row, while others wait to be asked and much output waits. Else it is all
+/// that a window has, since the pipelines of fewer sessions are then under way, and stay in the processor's cache.
 const ASKS_IN_A_ROW: usize = 8;
 
 /// The most sessions whose peer accepted nothing that are offered their output again in a turn.
@@ -107,7 +108,12 @@ fn ask_session<P: Port, G: Gate>(
     requires { worker.old.request ≡ None }
     ensures { Continues P.told P.leads_to worker.old worker.new }
 {
-    for _ in 0..ASKS_IN_A_ROW {
+    let most = if worker.state.book.has_little_output() {
+        WINDOW as usize
+    } else {
+        ASKS_IN_A_ROW
+    };
+    for _ in 0..most {
         if !worker.ask_and_post(session, gate, storage) {
             return;
         }

@@ -2,8 +2,8 @@
 
 use bytes::Bytes;
 use proto::{
-    Answered, ByteString, ClockAnswers, Dialect, HitRef, HitWriter, NoMemory, Posted, Reply, Request,
-    SpareBuffer,
+    Answered, ByteString, ClockAnswers, Dialect, HitRef, HitWriter, NoMemory, Posted, Reply,
+    Request, SpareBuffer,
 };
 use session_book::{Book, EndCause, Received, Settled};
 use std::alloc::Global;

@@ -4,6 +4,7 @@ It is written from the rules of segments alone (docs/OPERATIONS.md tells them in
 the program has bytes, and walks where the program has tables.
 """
 import collections
+import itertools
 
 LASTING = 1024  # the bucket of what has no deadline
 VERSION = b"VERSION 1.6.0-segcached-0.6.0\r\n"
@@ -93,11 +94,11 @@ class Item:
 
 
 class Cache:
-    """The cache, by lists: `order` are the segments of chains, the one opened first in front."""
+    """The cache, by lists: `order` are the segments of chains, as they were opened, but for those that merges moved."""
 
     def __init__(self, segment_size, segments, is_least_read=False, is_in_place=False):
         self.segment_size, self.free, self.order, self.cursor = segment_size, segments, [], 0
-        self.segments, self.opens, self.is_least_read, self.is_in_place, self.hand = segments, 0, is_least_read, is_in_place, 0
+        self.segments, self.opens, self.is_least_read, self.is_in_place = segments, 0, is_least_read, is_in_place
         self.current, self.cas, self.pending = {}, 0, None
         self.merges = self.clearings = self.given_back = 0
         self.counts = collections.Counter()
@@ -142,34 +143,27 @@ class Cache:
         return bool(dead)
 
     def front(self, bucket, order):
-        """Of a bucket's segments in this part of the order the first ones that can be merged."""
+        """Of a bucket's segments in this part of the order the first ones that can be merged, with the one behind all of these."""
         chain = [it for it in order if it.bucket == bucket]
-        front = []
-        for segment in chain[:-1]:
-            if bucket != LASTING and segment.opened != chain[0].opened:
-                break
-            front.append(segment)
-        return front[:4]
+        front = list(itertools.takewhile(lambda it: bucket == LASTING or it.opened == chain[0].opened, chain[:-1]))
+        return front[: 3 if self.is_least_read else 4], chain[len(front)] if chain else None
 
     def looked_at(self):
-        """The places of a quarter of all segments, from the hand on, or from the front if too few follow the hand."""
-        quarter = self.segments // 4
-        start = self.hand if self.hand + quarter <= len(self.order) else 0
-        return range(start, min(start + quarter, len(self.order)))
+        """The first segments, a quarter of all."""
+        return self.order[: self.segments // 4]
 
     def fronts(self):
-        """What can be merged, what comes first in front, with the next bucket and the next place."""
+        """What can be merged, what comes first in front, with the segment behind it and the next bucket."""
         if self.is_least_read:
-            for place in self.looked_at():
-                bucket = self.order[place].bucket
-                yield self.front(bucket, self.order[place:]), bucket + 1, place + 1
+            for place, segment in enumerate(self.looked_at()):
+                yield *self.front(segment.bucket, self.order[place:]), segment.bucket + 1
         else:
             for distance in range(BUCKETS):
                 bucket = (self.cursor + distance) % BUCKETS
-                yield self.front(bucket, self.order), bucket + 1, 1
+                yield *self.front(bucket, self.order), bucket + 1
 
     def merge(self, now):
-        for front, cursor, hand in self.fronts():
+        for front, behind, cursor in self.fronts():
             if len(front) < 2:
                 continue
             live = [item for segment in front for item in segment.items if self.is_live(item, now)]
@@ -189,15 +183,17 @@ class Cache:
                     self.counts["evicted_by_merge"] += 1
             front[0].hits = sum(item.reads for item in front[0].items)
             self.order = [it for it in self.order if it not in front[1:]]
+            if self.is_least_read:
+                self.order.remove(front[0])
+                self.order.insert(self.order.index(behind), front[0])
             self.free += len(front) - 1
-            self.cursor, self.hand = cursor % BUCKETS, hand
+            self.cursor = cursor % BUCKETS
             self.merges += 1
             return True
         return False
 
     def clear(self, now):
-        looked_at = [self.order[place] for place in self.looked_at()]
-        victim = min(looked_at, key=lambda it: it.hits) if self.is_least_read else self.order[0]
+        victim = min(self.looked_at(), key=lambda it: it.hits) if self.is_least_read else self.order[0]
         self.order.remove(victim)
         for item in victim.items:
             if self.is_live(item, now):

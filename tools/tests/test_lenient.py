@@ -6,6 +6,7 @@ clients would then return other keys' values.
 """
 import collections
 import random
+import signal
 import socket
 import subprocess
 import sys
@@ -136,6 +137,19 @@ def test_input_that_ends_within_a_large_block_is_not_answered(server):
         stream.sendall(b"get none\r\nset a 0 0 200000\r\n" + BLOCK)
         stream.shutdown(socket.SHUT_WR)
         assert read_to_end(stream) == b"END\r\n"
+
+
+@pytest.mark.parametrize("last", [b"verbosity 1 noreply\r\n", b"append b 0 0 131073 noreply\r\n" + BLOCK + b"z\r\n"], ids=["verbosity", "append"])
+def test_a_client_that_sends_no_more_is_closed_though_its_last_request_is_silent(server, last):
+    """That request is read once a `get` of many keys before it was answered, when all answers are given and the end of the input is known: it is
+    all there when the process goes on, which stood still."""
+    with server.connect() as stream:
+        ask(stream, b"set b 0 0 100\r\n" + b"v" * 100 + b"\r\n", STORED)
+        server.process.send_signal(signal.SIGSTOP)
+        stream.sendall(b"get" + b" b" * 300 + b"\r\n" + last)
+        stream.shutdown(socket.SHUT_WR)
+        server.process.send_signal(signal.SIGCONT)
+        assert read_to_end(stream) == hit(b"b", b"v" * 100).removesuffix(b"END\r\n") * 300 + b"END\r\n"
 
 
 def test_a_large_block_takes_no_memory(program):

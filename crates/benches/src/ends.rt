@@ -51,7 +51,7 @@ impl CallingEnd {
         }
     }
 
-    /// Asks the next request, or hands it back where there is no room for it.
+    /// Asks the next request, or hands it back if there is no room for it.
     pub(crate) fn ask(&mut self, request: Request) -> Result<(), Posted> {
         match self {
             CallingEnd::Single(end) => post(end, request),

@@ -110,7 +110,7 @@ fn is_stored(store: &mut Store, request: &mut Request) -> bool {
     matches!(&reply, Reply::Stored)
 }
 
-/// Executes a set, and says whether it was stored and how long that took. None where the clock can't be read.
+/// Executes a set, and says whether it was stored and how long that took. None if the clock can't be read.
 fn timed<R: Clock>(rt: &R, store: &mut Store, request: &mut Request) -> Option<(bool, Duration)> {
     let start = Instant::now(rt).ok()?;
     let is_stored = is_stored(store, request);

@@ -10,7 +10,7 @@ const TURNS: u32 = 2;
 /// In milliseconds, longer than one park of a thread that nobody unparks, which takes 100, and shorter than two.
 const TWO_PARKS_MILLIS: u64 = 150;
 
-/// How long idle turns in a row take. None where the clock can't be read.
+/// How long idle turns in a row take. None if the clock can't be read.
 fn time_of<R: Wait + Clock>(rt: &R, spin: Option<u32>, turns: u32) -> Option<Duration> {
     let parking = ParkingWord::new();
     let mut idle = IdleTurns::new(TURNS, spin);

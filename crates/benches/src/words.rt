@@ -60,7 +60,7 @@ enum Name {
     Other,
 }
 
-/// None where there is no word.
+/// None if there is no word.
 fn first_word<R: Env + AllocGlobal>(rt: &R) -> Option<Name> {
     Some(match word(rt, 1)?.as_str() {
         "lanes" => Name::Lanes,
@@ -69,7 +69,7 @@ fn first_word<R: Env + AllocGlobal>(rt: &R) -> Option<Name> {
     })
 }
 
-/// What the words ask for, or None where they ask for nothing that is known.
+/// What the words ask for, or None if they ask for nothing that is known.
 pub(crate) fn words_asked<R: Env + AllocGlobal>(rt: &R) -> Option<Asked> {
     match first_word(rt) {
         None => Some(Asked::Short),

@@ -38,7 +38,7 @@ fn push_flag(line: &mut String, name: &str, is_given: bool) -> Result<(), AllocE
 }
 
 /// All options of a server that are in force, as words that ask for the same: `--listen ADDR --workers 2 ..`. An
-/// option that is left out is not in force. Fails only if memory is missing.
+/// option that is left out is not in force. Fails only if out of memory.
 pub fn options_in_force(alloc: Global, options: &ServeOptions) -> Result<String, AllocError> {
     let mut line = String::new(alloc);
     push_name(&mut line, LISTEN)?;

@@ -179,7 +179,7 @@ fn evict<'a>(alloc: Global) -> Arg<'a> {
         .default_values(&[OLDEST])
 }
 
-/// The command with these options, and with those that both jobs have, where there was memory for it so far.
+/// The command with these options, and with those that both jobs have, if there was memory for it so far.
 fn with_options<'a>(
     alloc: Global,
     command: Result<Command<'a>, AllocError>,
@@ -235,7 +235,7 @@ fn bare_command<'a>(alloc: Global) -> Command<'a> {
         .subcommand_required(true)
 }
 
-/// The command with one more job, where there was memory for both.
+/// The command with one more job, if there was memory for both.
 fn with_job<'a>(
     command: Result<Command<'a>, AllocError>,
     job: Result<Command<'a>, AllocError>,

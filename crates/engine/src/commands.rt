@@ -100,7 +100,8 @@ impl<M: LiveMap> Engine<M> {
         requires fits { MayBeWritten (M.sizes self.old.map) (M.entries self.old.map) key.now self.old.scratch }
         ensures { Leaves M.LiveMap (change_way self.old.in_place) self.old self.new
             (write (cache_in M.entries self.old) key.now
-            (λ cas. record { value = self.old.scratch; flags = flags; deadline = deadline; cas = cas }) Reply.Stored) result }
+            (λ cas. record { value = self.old.scratch; flags = flags; deadline = deadline; cas = cas })
+            Reply.Stored) result }
     {
         let Some(cas) = self.last_cas.checked_add(1) else {
             return Reply::NoCas;

@@ -104,7 +104,7 @@ fn room_with(room: usize, hit: HitRef) -> Option<usize>
     room.checked_add(hit.room()?)
 }
 
-/// Looks each key up: those that are there, and the room that their hits take. NoMemory if memory is refused, or the
+/// Looks each key up: those that are there, and the room that their hits take. NoMemory if out of memory, or the
 /// room is more than memory can have.
 fn find_keys<'k, M: LiveMap>(
     map: &M,
@@ -186,7 +186,7 @@ fn hits_found<M: LiveMap>(
 ///
 /// # Errors
 ///
-/// TooLong if the hit takes more bytes than an answer of the dialect may show; NoMemory if memory is refused.
+/// TooLong if the hit takes more bytes than an answer of the dialect may show; NoMemory if out of memory.
 pub fn hit_of_only<M: LiveMap>(
     map: &mut M,
     only: &[u8],
@@ -246,7 +246,7 @@ fn read_ahead<M: LiveMap>(map: &M, keys: &Keys) {
 ///
 /// # Errors
 ///
-/// TooLong if the hits take more bytes than an answer of the dialect may show; NoMemory if memory is refused.
+/// TooLong if the hits take more bytes than an answer of the dialect may show; NoMemory if out of memory.
 pub fn hits_of_keys<M: LiveMap>(
     map: &mut M,
     keys: &Keys,

@@ -1,6 +1,7 @@
 //! What an engine asks of the map that has its entries.
 
-ghost use Rattle.std.specs.Prelude.{◌≡◌, ℕ, ◌≤◌, Bool, List, Option, IfOk, OnOk, OnErr, IfSome, IsSome, IsTrue, Some, false, length};
+ghost use Rattle.std.specs.Prelude.{◌≡◌, ℕ, ◌≤◌, Bool, List, Option, IfOk, OnOk, OnErr, IfSome, IsSome, IsTrue, Some};
+ghost use Rattle.std.specs.Prelude.{false, length};
 ghost use Rattle.std.specs.Option.{option_map};
 ghost use Rattle.std.specs.FinMap as map;
 ghost use Rattle.proto.specs.Sizes.{Sizes, IsGeometry, item_limit};
@@ -58,7 +59,7 @@ pub trait LiveMap {
     /// What counting a touch that leaves the entry at the key does to this map.
     ghost touches: { Self → List ℕ → Self → Type 0 };
 
-    /// Whether an entry may keep its deadline at a moment where it is asked to have another one: the moment, the one asked
+    /// Whether an entry may keep its deadline at a moment when it is asked to have another one: the moment, the one asked
     /// for, and the one that it has.
     ghost stays: { ℕ → Option ℕ → Option ℕ → Bool };
 
@@ -139,7 +140,7 @@ pub trait LiveMap {
         ensures moment { moment self.new ≡ moment self.old }
         ensures kept { StaysKept keeps self.old self.new };
 
-    /// Copies the entry into the map, in place of what the key has. NoMemory if memory is refused; then no entry
+    /// Copies the entry into the map, in place of what the key has. NoMemory if out of memory; then no entry
     /// changes.
     fn write(&mut self, key: &[u8], entry: EntryRef) -> Result<(), NoMemory>
         requires waits { has_arrived entry.deadline (moment self.old) ≡ false }
@@ -177,7 +178,7 @@ pub trait LiveMap {
         ensures sizes { sizes self.new ≡ sizes self.old }
         ensures moment { moment self.new ≡ moment self.old };
 
-    /// Whether the entry of the key, which stands at the place, may be left as it is where it is asked to have this deadline.
+    /// Whether the entry of the key, which stands at the place, may be left as it is if it is asked to have this deadline.
     fn may_stay(&self, key: &[u8], place: Self::Place, deadline: Option<u64>) -> bool
         requires stands { stands self.now key.now place }
         requires there { IsSome (map.get (entries self.now) key.now) }

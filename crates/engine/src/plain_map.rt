@@ -167,7 +167,7 @@ impl LiveMap for PlainMap {
         self.write(key, entry)
     }
 
-    /// Only where it has this very deadline.
+    /// Only if it has this very deadline.
     fn may_stay(&self, key: &[u8], _place: (), deadline: Option<u64>) -> bool {
         self.get(key).unwrap().0.deadline == deadline
     }

@@ -24,7 +24,7 @@ impl Model for Scratch {
 }
 
 impl Scratch {
-    /// No bytes. NoMemory if memory is refused.
+    /// No bytes. NoMemory if out of memory.
     pub fn new(alloc: Global) -> Result<Self, NoMemory> {
         let bytes = Vec::with_capacity(alloc, MAX_BLOCK as usize)?;
         Ok(Scratch { bytes })

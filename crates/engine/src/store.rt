@@ -35,7 +35,7 @@ pub trait StoreMap: LiveMap {
     ghost promises: { Engine Self → ℕ → Request → Reply → Engine Self → Type 0 };
 
     /// No entry, at the moment 0. A map that hashes keys hashes the seed before each, and one that evicts does it by
-    /// this rule. NoMemory if memory is refused.
+    /// this rule. NoMemory if out of memory.
     fn seeded(
         alloc: Global,
         geometry: Geometry,
@@ -58,7 +58,7 @@ pub trait StoreMap: LiveMap {
 impl<M: StoreMap> Engine<M> {
     ghost use Rattle.engine.specs.Engines.{cache_in};
 
-    /// An empty cache for the strict dialect, at the moment 0. NoMemory if memory is refused.
+    /// An empty cache for the strict dialect, at the moment 0. NoMemory if out of memory.
     pub fn new(alloc: Global, geometry: Geometry) -> Result<Self, NoMemory>
         ensures sizes { IfOk result (λ s. M.sizes s.map ≡ geometry) }
         ensures cache { IfOk result (λ s. cache_in M.entries s ≡ empty_cache 0) }
@@ -71,7 +71,7 @@ impl<M: StoreMap> Engine<M> {
     }
 
     /// An empty cache for this dialect, at the moment 0, that changes entries in place or writes them anew, and evicts by this
-    /// rule. NoMemory if memory is refused.
+    /// rule. NoMemory if out of memory.
     pub fn evicting(
         alloc: Global,
         geometry: Geometry,
@@ -90,7 +90,7 @@ impl<M: StoreMap> Engine<M> {
         Engine::seeded(alloc, geometry, 0, SEED, in_place, dialect, eviction)
     }
 
-    /// An empty cache for the strict dialect that has given out this cas number last. NoMemory if memory is refused.
+    /// An empty cache for the strict dialect that has given out this cas number last. NoMemory if out of memory.
     pub fn starting(alloc: Global, geometry: Geometry, last_cas: u64) -> Result<Self, NoMemory>
         ensures sizes { IfOk result (λ s. M.sizes s.map ≡ geometry) }
         ensures cache { IfOk result (λ s. cache_in M.entries s ≡ empty_cache last_cas) }
@@ -106,7 +106,7 @@ impl<M: StoreMap> Engine<M> {
 
     /// An empty cache that has given out this cas number last, and hashes the seed before each key. `incr`, `decr`, `append` and
     /// `prepend` change entries in place, if their map can, or write them anew. Answers keep the limit of the dialect, and the map
-    /// evicts by this rule. NoMemory if memory is refused.
+    /// evicts by this rule. NoMemory if out of memory.
     pub fn seeded(
         alloc: Global,
         geometry: Geometry,
@@ -181,7 +181,7 @@ impl<M: StoreMap> StorageEngine for Engine<M> {
     }
 
     /// Executes the request at this moment, in seconds. The hits of a `get` stand in the buffer that its keys were
-    /// lent. NoMemory if memory is refused, or the hits take more bytes than one answer may show.
+    /// lent. NoMemory if out of memory, or the hits take more bytes than one answer may show.
     fn handle(&mut self, now: u64, request: &mut Request) -> Reply
         requires not_before { M.moment self.old.map ≤ now }
         requires in_range { now ≤ max_moment }
@@ -195,7 +195,7 @@ impl<M: StoreMap> StorageEngine for Engine<M> {
         ensures sizes { M.sizes self.new.map ≡ M.sizes self.old.map }
         ensures moment { M.moment self.new.map ≡ now }
 
-        // where memory was refused, what was found stays; and only what shows something needs any, or stores, where
+        // if out of memory, what was found stays; and only what shows something needs any, or stores, where
         // the map may refuse
         ensures refused { result ≡ Reply.NoMemory
             → cache_in M.entries self.new ≡ found_at (cache_in M.entries self.old) now }

@@ -1,9 +1,9 @@
 //! What a thread does in a turn in which nothing came.
 
 use crate::ParkingWord;
-use std::hint;
 use std::sync::Wait;
 use std::time::{Clock, Duration, Instant};
+use std::{hint, thread};
 
 /// How often an idle turn spins: with the look for work it takes some 200 nanoseconds.
 const SPINS_A_TURN: u32 = 4;
@@ -12,14 +12,15 @@ const SPINS_A_TURN: u32 = 4;
 const LONGEST_PARK_MILLIS: u64 = 100;
 
 /// Idle turns in a row: the thread spins in the first of them, and then parks until it is unparked. So an idle thread costs
-/// nothing. It never yields: on a machine whose processors are all busy a thread that yields waits for its turn after all
-/// others, while one that was woken goes before them.
+/// nothing. It doesn't yield before it parks: on a machine whose processors are all busy a thread that yields waits for its turn
+/// after all others, while one that was woken goes before them. Only a thread that spins for a time yields after these turns,
+/// so that it keeps no other thread from a processor.
 #[derive(Drop)]
 pub struct IdleTurns {
     most: u32,
     spin: Option<Duration>,
     turns: u32,
-    /// When the first idle turn of the row was. Only where the thread spins for a time.
+    /// When the first idle turn of the row was. Only if the thread spins for a time.
     since: Option<Instant>,
     announced: bool,
 }
@@ -57,10 +58,19 @@ impl IdleTurns {
             parking.announce();
             self.announced = true;
         } else {
-            self.turns = self.turns.saturating_add(1);
-            for _ in 0..SPINS_A_TURN {
-                hint::spin_loop();
-            }
+            self.spin_or_yield();
+        }
+    }
+
+    /// Spins, or yields if it has spun in as many turns as without a time.
+    fn spin_or_yield(&mut self) {
+        if self.turns >= self.most {
+            thread::yield_now();
+            return;
+        }
+        self.turns += 1;
+        for _ in 0..SPINS_A_TURN {
+            hint::spin_loop();
         }
     }
 

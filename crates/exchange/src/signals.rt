@@ -16,7 +16,7 @@ const PARKED: u64 = 2;
 
 /// The word that one thread parks on, and that those which make work for it read.
 ///
-/// The thread announces that it parks, looks for work once more, and then parks, or cancels where it found some. One that
+/// The thread announces that it parks, looks for work once more, and then parks, or cancels if it found some. One that
 /// has made work unparks it. So work that the last look didn't see was made after the announcement, and its maker finds
 /// the word at `ANNOUNCED` or `PARKED`: the thread doesn't sleep over it. Only one that has parked has to be woken.
 #[derive(Drop)]
@@ -84,7 +84,7 @@ impl StorageSignals {
     ///
     /// # Errors
     ///
-    /// AllocError where memory is refused.
+    /// AllocError if out of memory.
     pub fn new(
         alloc: Global,
         hasher: FoldHasher,
@@ -127,7 +127,7 @@ impl StorageSignals {
         self.workers.len()
     }
 
-    /// How many microseconds a thread looks for work before it parks. None where it counts turns.
+    /// How many microseconds a thread looks for work before it parks. None if it counts turns.
     pub fn spin(&self) -> Option<u32> {
         self.spin
     }

@@ -122,7 +122,7 @@ impl StorageBatch {
         told
     }
 
-    /// Answers the open request, where the answers that wait are of its lane.
+    /// Answers the open request, if the answers that wait are of its lane.
     fn add_answer(&mut self, answered: Answered)
         requires open_request { self.old.end.open_request ≡ Some (answered.worker, posted_of answered) }
         requires legal { LegalBy self.old.end.terms (self.old.end.history ++ answered ∷ []) }
@@ -269,7 +269,7 @@ impl StorageBatch {
         (sent, back)
     }
 
-    /// The end, where all answers were flushed.
+    /// The end, if all answers were flushed.
     pub fn into_end(self) -> StorageEnd
         requires { self.told ≡ self.end.history }
         ensures { result ≡ self.end }

@@ -7,7 +7,7 @@ use std::time::{Clock, Duration, Instant};
 #[derive(Drop)]
 pub struct Waits<'a> {
     gauges: Option<&'a Gauges>,
-    /// When the thread began, and since when it waits; None also where the clock couldn't be read.
+    /// When the thread began, and since when it waits; None also if the clock couldn't be read.
     began: Option<Instant>,
     since: Option<Instant>,
     /// How long the waits were that have ended.

@@ -264,7 +264,7 @@ impl WorkerBatch {
         ToldHistory::of(seat)
     }
 
-    /// The end, where all was flushed.
+    /// The end, if all was flushed.
     pub fn into_end(self) -> WorkerEnd
         requires { self.put ≡ [] }
         ensures { result ≡ self.end }

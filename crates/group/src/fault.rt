@@ -8,7 +8,7 @@ use thiserror::Error;
 /// Why a group didn't run. No event was taken then, and no request was executed.
 #[derive(Clone, Copy, Debug, Error)]
 pub enum GroupFault {
-    /// A growth was refused, before a thread was started.
+    /// Out of memory, before a thread was started.
     #[error("out of memory")]
     NoMemory,
     /// A thread couldn't be started. Those that were started have ended.

@@ -88,10 +88,11 @@ fn run_in<
 ) -> Result<GroupReport<P, C>, GroupFault>
     requires ports { ArePortsOf P.told exchange.id context.now.config.terms context.now.config.dialect ports.items }
     requires made { (exchange.workers ≡ vec_len ports) × (exchange.terms ≡ context.now.config.terms) }
-    requires store { StartsEmpty E.cache E.moment E.sizes E.may_refuse C.told C.start context.now.config.terms store clock }
+    requires store { StartsEmpty E.cache E.moment E.sizes E.may_refuse C.told C.start context.now.config.terms
+        store clock }
     requires count { IsCount (vec_len ports) }
-    ensures run { IfOk result (λ report. IsRun P.told P.leads_to C.told C.leads_to (E.keeps store []) E.may_refuse (E.sizes store)
-        ports.items clock report) }
+    ensures run { IfOk result (λ report. IsRun P.told P.leads_to C.told C.leads_to (E.keeps store []) E.may_refuse
+        (E.sizes store) ports.items clock report) }
 {
     let count = ports.len();
     let (ends, storage_end) = exchange.into_ends();
@@ -124,8 +125,8 @@ fn run_in<
 ///
 /// # Errors
 ///
-/// NoMemory where a growth was refused at the start, where all room for joining and gathering is made too; NoThread
-/// where a thread couldn't be started. After both of them the threads that were started have ended, no event was taken
+/// NoMemory if out of memory at the start, where all room for joining and gathering is made too; NoThread
+/// if a thread couldn't be started. After both of them the threads that were started have ended, no event was taken
 /// and no request executed; ports, store and clock are dropped.
 pub fn run_group<
     P: Port + Send,
@@ -150,8 +151,8 @@ pub fn run_group<
     requires refuses { config.terms.may_refuse ≡ false → E.may_refuse ≡ false }
     requires system_clock { config.terms.system_clock ≡ true → IsSome (C.start clock) }
     requires unasked { IsSome (C.start clock) → C.told clock ≡ Some [] }
-    ensures run { IfOk result (λ report. IsRun P.told P.leads_to C.told C.leads_to (E.keeps store []) E.may_refuse (E.sizes store)
-        ports.items clock report) }
+    ensures run { IfOk result (λ report. IsRun P.told P.leads_to C.told C.leads_to (E.keeps store []) E.may_refuse
+        (E.sizes store) ports.items clock report) }
 {
     let start = OnceLock::new();
     let workers = exchange.workers();
@@ -169,11 +170,13 @@ pub fn run_group<
         rt,
         move |scope| -> Result<GroupReport<P, C>, GroupFault>
             requires count { IsCount (vec_len ports) }
-            requires ports { ArePortsOf P.told exchange.id context.now.config.terms context.now.config.dialect ports.items }
+            requires ports { ArePortsOf P.told exchange.id context.now.config.terms context.now.config.dialect
+                ports.items }
             requires made { (exchange.workers ≡ vec_len ports) × (exchange.terms ≡ context.now.config.terms) }
-            requires store { StartsEmpty E.cache E.moment E.sizes E.may_refuse C.told C.start context.now.config.terms store clock }
-            ensures run { IfOk result (λ report. IsRun P.told P.leads_to C.told C.leads_to (E.keeps store []) E.may_refuse
-                (E.sizes store) ports.items clock report) }
+            requires store { StartsEmpty E.cache E.moment E.sizes E.may_refuse C.told C.start context.now.config.terms
+                store clock }
+            ensures run { IfOk result (λ report. IsRun P.told P.leads_to C.told C.leads_to (E.keeps store [])
+                E.may_refuse (E.sizes store) ports.items clock report) }
         { run_in(rt, scope, context, ports, exchange, store, clock) },
     )
 }

@@ -3,7 +3,7 @@ ghost use Rattle.std.specs.Prelude.{◌≡◌};
 
 use std::sync::{OnceLock, OnceToken, Wait};
 
-/// What a thread leaves: what it was told, and what it did where it was told to begin.
+/// What a thread leaves: what it was told, and what it did if it was told to begin.
 #[derive(Drop)]
 pub struct Finished<'a, T> {
     pub told: OnceToken<'a, bool>,

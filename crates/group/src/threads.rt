@@ -1,5 +1,6 @@
 //! The threads of a group: each waits for the start, and promises what it leaves.
-ghost use Rattle.std.specs.Prelude.{◌≡◌, ℕ, ◌<◌, ◌≤◌, [], true, None, All, IfOk, IfErr, map, length, vec_len, vec_capacity};
+ghost use Rattle.std.specs.Prelude.{◌≡◌, ℕ, ◌<◌, ◌≤◌, [], true, None, All, IfOk, IfErr, map, length, vec_len};
+ghost use Rattle.std.specs.Prelude.{vec_capacity};
 ghost use Rattle.worker.specs.declared.run.WorkerReport.{WorkerReport};
 ghost use Rattle.storage_thread.specs.Serving.{IsUnused};
 ghost use Rattle.exchange.specs.Ends.{WorkerView};
@@ -125,7 +126,8 @@ fn run_storage_thread<'a, E: StorageEngine + Drop, C: Clock, G, R: Wait + time::
 ) -> Finished<'a, StorageReport<C>>
     requires store { StartsEmpty E.cache E.moment E.sizes E.may_refuse C.told C.start end.terms store clock }
     requires unused { IsUnused end }
-    ensures { IsFinished context.now.start.now.id (KeepsStorage C.told C.leads_to (E.keeps store []) E.may_refuse clock end) result }
+    ensures { IsFinished context.now.start.now.id
+        (KeepsStorage C.told C.leads_to (E.keeps store []) E.may_refuse clock end) result }
 {
     let _ = set_thread_name(b"storage");
     let told = wait_for_start(rt, context.start);
@@ -141,7 +143,7 @@ fn run_storage_thread<'a, E: StorageEngine + Drop, C: Clock, G, R: Wait + time::
 ///
 /// # Errors
 ///
-/// NoThread where the system starts no thread.
+/// NoThread if the system starts no thread.
 pub fn start_storage<
     's,
     'e,
@@ -212,7 +214,7 @@ fn start_worker<
 ///
 /// # Errors
 ///
-/// NoThread where the system starts no thread. Those that were started wait for the start.
+/// NoThread if the system starts no thread. Those that were started wait for the start.
 pub fn start_workers<
     's,
     'e,

@@ -47,7 +47,7 @@ impl Model for Index {
 
 impl Index {
     /// A table without a key, with memory for `count` slots. The seed is hashed before each key, so that clients who
-    /// don't know it can't choose keys that meet in few slots. NoMemory if memory is refused.
+    /// don't know it can't choose keys that meet in few slots. NoMemory if out of memory.
     pub fn new(alloc: Global, count: usize, layout: Layout, seed: u64) -> Result<Index, NoMemory>
         requires some { 1 ≤ count }
         requires layout { IsLayout layout }

@@ -59,7 +59,7 @@ pub fn distance(count: usize, from: usize, to: usize) -> usize
 }
 
 /// Slots in a row, which never take more memory than they were made with. Only one of the two lists is used, so that a
-/// slot has four bytes where its layout lets it.
+/// slot has four bytes if its layout lets it.
 #[derive(Drop)]
 pub struct Slots {
     layout: Layout,
@@ -80,7 +80,7 @@ impl Model for Slots {
 }
 
 impl Slots {
-    /// One empty slot, with memory for `count`. NoMemory if memory is refused.
+    /// One empty slot, with memory for `count`. NoMemory if out of memory.
     pub fn new(alloc: Global, count: usize, layout: Layout) -> Result<Slots, NoMemory>
         requires some { 1 ≤ count }
         requires layout { IsLayout layout }

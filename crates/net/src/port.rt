@@ -66,7 +66,8 @@ impl<R: Wait + Clock + Net + Drop> MioPort<R> {
         owner: Owner,
         exchange: ExchangeName,
     ) -> Result<MioPort<R>, NetFault>
-        ensures { IfOk result (λ port. IsNew owner.geometry owner.dialect owner.worker exchange (trace_of port.served)) }
+        ensures { IfOk result
+            (λ port. IsNew owner.geometry owner.dialect owner.worker exchange (trace_of port.served)) }
     {
         let poll = Poll::new(&rt).map_err(|_| NetFault::Poll)?;
         hand.register(&poll).map_err(|_| NetFault::Poll)?;

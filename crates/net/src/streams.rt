@@ -1,6 +1,7 @@
 //! The open streams of a port, by their sessions' numbers, and what was told of them.
 
-ghost use Rattle.std.specs.Prelude.{◌≡◌, ◌≤◌, ℕ, true, false, [], ◌∷◌, ◌++◌, length, vec_len, IsTrue, IfOk, MatchOption};
+ghost use Rattle.std.specs.Prelude.{◌≡◌, ◌≤◌, ℕ, true, false, [], ◌∷◌, ◌++◌, length, vec_len, IsTrue, IfOk};
+ghost use Rattle.std.specs.Prelude.{MatchOption};
 ghost use Rattle.worker_port.specs.declared.events.PortEvent.TheVariants.{Opened, Gone as Left, Ended};
 ghost use Rattle.worker_port.specs.declared.events.PortRecord.TheVariants.{Shut};
 ghost use Rattle.worker_port.specs.Ports.{then_told, then_gave, with_pause};

@@ -74,8 +74,8 @@ abbrev pub RefusesBy : Bool → List Answered → Type 0
 RefusesBy may_refuse history = may_refuse ≡ false → All (λ (e : Answered). e.reply ≡ NoMemory
     → ((keys : List (List ℕ)) × (with_cas : Bool) × (e.request ≡ Get keys with_cas)) ⊎ (e.request ≡ Stats)) history
 
--- A history that is legal for these sizes, and refuses memory as the terms say. Where they say so, the clock's answers in it are readings of the system's clock,
--- one for each entry, all counted from one start.
+-- A history that is legal for these sizes, and refuses memory as the terms say. Where they say so, the clock's answers in it are
+-- readings of the system's clock, one for each entry, all counted from one start.
 pub record LegalBy (terms : Terms) (history : List Answered) : Type 0 where
   pub legal : Legal terms.geometry history
   pub read : terms.system_clock ≡ true → (start : ClockStart) × All (IsRead start) (answers_by [] history)

@@ -8,19 +8,19 @@ use crate::trace::{Noted, Trace};
 use std::marker::Model;
 use std::time::Instant;
 
-/// A clock, by the list of its answers, where it tells them.
+/// A clock, by the list of its answers, if it tells them.
 pub trait Clock: Drop {
     ghost use Rattle.std.specs.Prelude.{ℕ, List, Option};
     ghost use Rattle.proto.specs.declared.logged_clock.ClockStart.{ClockStart};
 
-    /// The answers that it gave; None where it doesn't tell them.
+    /// The answers that it gave; None if it doesn't tell them.
     ghost told: { Self → Option (List ℕ) };
 
     /// Whether the second clock is what the first became, once some answers were given. A clock may say here what
     /// its answers are.
     ghost leads_to: { Self → Self → Type 0 };
 
-    /// The start from which it counts by the system's clock; None where it is another clock.
+    /// The start from which it counts by the system's clock; None if it is another clock.
     ghost start: { Self → Option ClockStart };
 
     /// The moment in seconds. It may be any number, also one below the last.
@@ -75,7 +75,7 @@ impl Noted<ClockAnswer> for ClockAnswers {
 pub struct AskedClock<C: Clock> {
     pub(crate) clock: C,
     pub(crate) answers: ClockAnswers,
-    /// When the monotonic clock was read last, where it was read. No clause speaks of it.
+    /// When the monotonic clock was read last, if it was read. No clause speaks of it.
     at: Option<Instant>,
 }
 
@@ -118,7 +118,7 @@ impl<C: Clock> AskedClock<C> {
         ClockAnswers { answers }
     }
 
-    /// When the monotonic clock was read last; None where it wasn't.
+    /// When the monotonic clock was read last; None if it wasn't.
     pub fn at(&self) -> Option<Instant> {
         self.at
     }

@@ -19,7 +19,7 @@ pub enum Dialect {
 }
 
 impl Dialect {
-    /// The longest line in bytes, with its end, among those that begin so; 0 where none does.
+    /// The longest line in bytes, with its end, among those that begin so; 0 if none does.
     pub fn longest_line(self, input: &[u8]) -> usize
         ensures { result ≡ longest_line self input.now }
     {

@@ -243,7 +243,7 @@ pub struct Gauges {
 impl Gauges {
     /// # Errors
     ///
-    /// AllocError where memory is refused.
+    /// AllocError if out of memory.
     pub fn new(alloc: Global) -> Result<Gauges, AllocError> {
         let mut words = Vec::with_capacity(alloc, GAUGES.len())?;
         for _ in GAUGES {

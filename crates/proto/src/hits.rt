@@ -1,6 +1,7 @@
 //! The hits of an answer as they are shown, in one piece of memory, and that memory.
 
-ghost use Rattle.std.specs.Prelude.{◌≡◌, ◌≤◌, ◌<◌, ◌+◌, ◌-◌, ◌++◌, ◌∷◌, ◌↔◌, [], codes, IfOk, IfSome, IsTrue, OnErr, OnOk};
+ghost use Rattle.std.specs.Prelude.{◌≡◌, ◌≤◌, ◌<◌, ◌+◌, ◌-◌, ◌++◌, ◌∷◌, ◌↔◌, [], codes, IfOk, IfSome, IsTrue, OnErr};
+ghost use Rattle.std.specs.Prelude.{OnOk};
 ghost use Rattle.std.specs.Prelude.{decimal, flat_map, length, vec_len, vec_capacity};
 ghost use Rattle.proto.specs.Hits.{hit_bytes, hit_room};
 ghost use Rattle.proto.specs.Lines.{line_end};
@@ -40,7 +41,7 @@ impl Noted<Hit> for HitRef<'_> {
 }
 
 impl<'a> HitRef<'a> {
-    /// The room that the hit takes in a buffer; None where it is more than memory can have.
+    /// The room that the hit takes in a buffer; None if it is more than memory can have.
     pub fn room(self) -> Option<usize>
         ensures { IfSome result (λ n. n ≡ hit_room (seen_hit self.entry)) }
     {
@@ -106,7 +107,7 @@ impl Hits {
         Ok(())
     }
 
-    /// The same. An empty output takes the memory of the text, which has its own then, where that isn't more: more answers
+    /// The same. An empty output takes the memory of the text, which has its own then, if that isn't more: more answers
     /// may follow a small one.
     pub(crate) fn give(&mut self, out: &mut Vec<u8>) -> Result<(), NoMemory>
         ensures ok { OnOk result
@@ -216,7 +217,7 @@ impl HitWriter {
         }
     }
 
-    /// Reserves this many bytes. NoMemory where memory was refused: then nothing has changed.
+    /// Reserves this many bytes. NoMemory if out of memory: then nothing has changed.
     pub fn reserve(&mut self, room: usize) -> Result<(), NoMemory>
         ensures ok { IfOk result (λ _. self.new ≡ record { hits = self.old.hits; room = room }) }
         ensures err { OnErr result ((self.new ≡ self.old) × (0 < room)) }

@@ -43,7 +43,7 @@ impl Keys {
         }
     }
 
-    /// The words that are left of a line, copied at once. NoMemory where memory was refused.
+    /// The words that are left of a line, copied at once. NoMemory if out of memory.
     pub fn from_words(alloc: Global, words: Words) -> Result<Keys, NoMemory>
         ensures { IfOk result (λ keys. keys ≡ words.entry) }
     {
@@ -60,7 +60,7 @@ impl Keys {
         })
     }
 
-    /// Appends a key. NoMemory where memory was refused: then nothing has changed.
+    /// Appends a key. NoMemory if out of memory: then nothing has changed.
     pub fn push(&mut self, key: &[u8]) -> Result<(), NoMemory>
         requires { IsWord key.now }
         ensures ok { OnOk result (self.new ≡ self.old ++ key.now ∷ []) }
@@ -89,7 +89,7 @@ impl Keys {
         self.count == 0
     }
 
-    /// The key, where it is the only one.
+    /// The key, if it is the only one.
     pub fn only(&self) -> Option<&[u8]>
         ensures { MatchOption result (length self.now ≢ 1) (λ key. self.now ≡ key.now ∷ []) }
     {

@@ -4,7 +4,7 @@
 /// The longest key in bytes, after memcached's protocol.txt.
 pub const MAX_KEY: usize = 250;
 
-/// The longest line in bytes, with its end. memcached closes a connection where no end has come within 2,048, but not for `get` and
+/// The longest line in bytes, with its end. memcached closes a connection if no end has come within 2,048, but not for `get` and
 /// `gets`.
 pub const MAX_LINE: usize = 2048;
 

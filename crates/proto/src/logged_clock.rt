@@ -8,7 +8,7 @@ use crate::trace::{Noted, Trace};
 use std::marker::Model;
 use std::time::{self, Instant, SystemTime};
 
-/// What was read at the start: the Unix time and the monotonic clock, None where they couldn't be read. Only `LoggedClock` makes
+/// What was read at the start: the Unix time and the monotonic clock, None if they couldn't be read. Only `LoggedClock` makes
 /// one.
 #[derive(Clone, Copy)]
 pub struct ClockStart {
@@ -16,7 +16,7 @@ pub struct ClockStart {
     monotonic: Option<Instant>,
 }
 
-/// One reading of the monotonic clock, None where it couldn't be read, with the start. Only `LoggedClock` makes one.
+/// One reading of the monotonic clock, None if it couldn't be read, with the start. Only `LoggedClock` makes one.
 #[derive(Clone, Copy)]
 pub struct ClockReading {
     start: ClockStart,

@@ -1,7 +1,8 @@
 //! The bytes that answer a message, whether its reply is there already or is still to come. The room of a whole answer is
 //! reserved before its first byte is written.
 
-ghost use Rattle.std.specs.Prelude.{◌≡◌, ◌+◌, ◌≤◌, ◌++◌, length, codes, is_some, option_copied, None, IsOk, IsTrue, OnOk, OnErr};
+ghost use Rattle.std.specs.Prelude.{◌≡◌, ◌+◌, ◌≤◌, ◌++◌, length, codes, is_some, option_copied, None, IsOk, IsTrue};
+ghost use Rattle.std.specs.Prelude.{OnOk, OnErr};
 ghost use Rattle.std.specs.Option.{option_copied_mut};
 ghost use Rattle.proto.specs.Answers.{answer, is_ask, is_silent, reply_bytes};
 ghost use Rattle.proto.specs.Lines.{line_end};
@@ -79,8 +80,8 @@ fn show_copied(out: &mut Vec<u8>, reply: &Reply) -> Result<(), NoMemory>
     }
 }
 
-/// Appends the answer that shows a reply. An empty output takes the memory of hits, which have its own then, where that isn't
-/// more: more answers may follow a small one. NoMemory where memory was refused: then the output is unchanged.
+/// Appends the answer that shows a reply. An empty output takes the memory of hits, which have its own then, if that isn't
+/// more: more answers may follow a small one. NoMemory if out of memory: then the output is unchanged.
 pub fn show_reply(reply: &mut Reply, out: &mut Vec<u8>) -> Result<(), NoMemory>
     ensures ok { OnOk result (out.new.items ≡ out.old.items ++ reply_bytes reply.old) }
     ensures err { OnErr result (out.new.items ≡ out.old.items) }
@@ -142,8 +143,8 @@ impl PendingAnswer {
         matches!(self.kind, AnswerKind::Ask | AnswerKind::QuietAsk)
     }
 
-    /// Appends the answer. An empty output takes the memory of hits, which have its own then. NoMemory where memory was
-    /// refused: then the output is unchanged. A message without an answer needs no memory.
+    /// Appends the answer. An empty output takes the memory of hits, which have its own then. NoMemory if out of memory:
+    /// then the output is unchanged. A message without an answer needs no memory.
     pub fn show(&self, reply: Option<&mut Reply>, out: &mut Vec<u8>) -> Result<(), NoMemory>
         requires { is_some reply ≡ is_ask self.now }
         ensures ok { OnOk result (out.new.items ≡ out.old.items ++ answer self.now (option_copied_mut reply.entry)) }
@@ -156,7 +157,7 @@ impl PendingAnswer {
         }
     }
 
-    /// Appends the answer where no reply is a part of it, or changes nothing.
+    /// Appends the answer if no reply is a part of it, or changes nothing.
     fn show_local(&self, out: &mut Vec<u8>) -> Result<(), NoMemory>
         ensures ok { OnOk result (out.new.items ≡ out.old.items ++ answer self.now None) }
         ensures err { OnErr result (out.new.items ≡ out.old.items) }
@@ -190,7 +191,7 @@ impl PendingAnswer {
     }
 }
 
-/// Appends the answer to the message. NoMemory where memory was refused: then the output is unchanged. A message without an
+/// Appends the answer to the message. NoMemory if out of memory: then the output is unchanged. A message without an
 /// answer, as a request with `noreply`, needs no memory.
 pub fn show(message: &Message, reply: Option<&Reply>, out: &mut Vec<u8>) -> Result<(), NoMemory>
     requires { is_some reply ≡ is_ask message.now }

@@ -1,7 +1,8 @@
 //! The lines of a `stats`, as text.
 
 ghost use Rattle.std.specs.Prelude.{◌≡◌, ◌++◌, IsTrue, IfOk, OnOk, decimal, flat_map};
-ghost use Rattle.proto.specs.StatTexts.{stat_bytes, number_bytes, total_lines, tally_lines, count_lines, is_plain, names_gauge, IsStats};
+ghost use Rattle.proto.specs.StatTexts.{stat_bytes, number_bytes, total_lines, tally_lines, count_lines, is_plain};
+ghost use Rattle.proto.specs.StatTexts.{names_gauge, IsStats};
 
 use crate::byte_string::ByteString;
 use crate::counts::{Counts, Tally};
@@ -106,7 +107,7 @@ impl Model for StatsText {
 }
 
 impl StatsText {
-    /// The lines of these counts. NoMemory where memory was refused.
+    /// The lines of these counts. NoMemory if out of memory.
     pub fn of(alloc: Global, counts: &Counts) -> Result<StatsText, NoMemory>
         ensures { IfOk result (λ text. text ≡ counts.now) }
     {

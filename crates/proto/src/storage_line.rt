@@ -31,7 +31,7 @@ pub struct StorageLineView<'a> {
     pub noreply: bool,
 }
 
-/// Whether `noreply` is what is left of the line; None where something else is.
+/// Whether `noreply` is what is left of the line; None if something else is.
 pub(crate) fn noreply(words: Words) -> Option<bool>
     ensures { result ≡ quiet_in words.entry }
 {

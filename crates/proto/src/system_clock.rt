@@ -15,7 +15,7 @@ use std::time::{self, Instant, SystemTime, UNIX_EPOCH};
 pub struct ClockAnswer {
     pub(crate) seconds: u64,
     read: Trace<ClockReading>,
-    /// The reading of the monotonic clock, where there was one. No clause speaks of it.
+    /// The reading of the monotonic clock, if there was one. No clause speaks of it.
     pub(crate) at: Option<Instant>,
 }
 
@@ -46,7 +46,7 @@ impl ClockAnswer {
     }
 }
 
-/// The whole seconds from 1970 to a reading of the Unix time, 0 where it couldn't be read.
+/// The whole seconds from 1970 to a reading of the Unix time, 0 if it couldn't be read.
 fn unix_seconds(reading: Option<SystemTime>) -> u64
     ensures { result ≡ unix_seconds reading }
 {
@@ -56,7 +56,7 @@ fn unix_seconds(reading: Option<SystemTime>) -> u64
     }
 }
 
-/// The whole seconds between two readings of the monotonic clock, 0 where one of them couldn't be read.
+/// The whole seconds between two readings of the monotonic clock, 0 if one of them couldn't be read.
 fn seconds_between(first: Option<Instant>, now: Option<Instant>) -> u64
     ensures { result ≡ seconds_between first now }
 {

@@ -34,7 +34,7 @@ fn feed(book: &mut Book) -> Option<()> {
     }
 }
 
-/// Asks for the next request, again where a growth was refused.
+/// Asks for the next request, again if out of memory.
 fn next_ask(book: &mut Book) -> Result<Option<(Request, u64)>, NoMemory> {
     match book.next_ask(1) {
         Ok(asked) => Ok(asked),
@@ -58,7 +58,7 @@ fn answer_next(book: &mut Book, reply: Reply) -> Option<Settled> {
     }
 }
 
-/// Settles both requests, or the first one alone where it isn't kept.
+/// Settles both requests, or the first one alone if it isn't kept.
 fn answer_both(book: &mut Book) -> Option<Settled> {
     match answer_next(book, Reply::Stored)? {
         Settled::Kept => answer_next(book, Reply::Deleted),

@@ -35,7 +35,7 @@ const ALL: &[u8] = b"gets a b c d e n\r\n";
 /// The moment of the last request, which is later for each of them by one.
 const LAST_MOMENT: u64 = 2000;
 
-/// The store, where it is made at the first or the second try.
+/// The store, if it is made at the first or the second try.
 fn make(alloc: Global, geometry: Geometry) -> Option<Store> {
     for _ in 0..2 {
         if let Ok(store) = Store::new(alloc, geometry) {
@@ -52,7 +52,7 @@ fn handle(store: &mut Store, now: u64, request: &mut Request) -> Option<Reply> {
     Some(store.handle(now, request))
 }
 
-/// The answer; None where memory was refused.
+/// The answer; None if out of memory.
 fn shown(alloc: Global, request: Request, reply: &Reply) -> Option<Vec<u8>> {
     let mut out = Vec::new(alloc);
     let message = Message::Ask(request, false);
@@ -62,7 +62,7 @@ fn shown(alloc: Global, request: Request, reply: &Reply) -> Option<Vec<u8>> {
     }
 }
 
-/// What stands in the store; None inside where memory was refused.
+/// What stands in the store; None inside if out of memory.
 fn entries_once(alloc: Global, store: &mut Store, now: u64) -> Option<Option<Vec<u8>>> {
     let mut request = read_request(alloc, ALL)?;
     match handle(store, now, &mut request)? {
@@ -71,7 +71,7 @@ fn entries_once(alloc: Global, store: &mut Store, now: u64) -> Option<Option<Vec
     }
 }
 
-/// What stands in the store, where it is shown at the first, the second or the third try.
+/// What stands in the store, if it is shown at the first, the second or the third try.
 fn entries(alloc: Global, store: &mut Store, now: u64) -> Option<Vec<u8>> {
     for _ in 0..3 {
         if let Some(out) = entries_once(alloc, store, now)? {
@@ -97,7 +97,7 @@ fn is_kept(
     is_same && store.pending() == pending && store.last_moment() == now
 }
 
-/// The reply, where the request is executed at the first try, or at the second one while the store is kept.
+/// The reply, if the request is executed at the first try, or at the second one while the store is kept.
 fn handled(
     alloc: Global,
     store: &mut Store,
@@ -116,14 +116,14 @@ fn handled(
     handle(store, now, request)
 }
 
-/// The reply, where the request is executed at the first or the second try, and a refusal changes
+/// The reply, if the request is executed at the first or the second try, and a refusal changes
 /// nothing.
 fn reply_to(alloc: Global, store: &mut Store, now: u64, request: &mut Request) -> Option<Reply> {
     let before = entries(alloc, store, now)?;
     handled(alloc, store, now, request, before.as_slice())
 }
 
-/// The answer, where it is shown at the first or the second try.
+/// The answer, if it is shown at the first or the second try.
 fn shown_again(alloc: Global, request: Request, reply: &Reply) -> Vec<u8> {
     let mut out = Vec::new(alloc);
     let message = Message::Ask(request, false);

@@ -48,7 +48,7 @@ fn port<'a>(counters: &'a Counters, sessions: &[Session; 2]) -> QuietPort<'a> {
     QuietPort::new(counters, [sessions[0].input, sessions[1].input])
 }
 
-/// A port for each worker, at the second try where the first was refused.
+/// A port for each worker, at the second try if the first was refused.
 fn ports(alloc: Global, counters: &Counters) -> Option<Vec<QuietPort<'_>>> {
     for _ in 0..2 {
         let ports = vec![in alloc; port(counters, &SESSIONS[0]), port(counters, &SESSIONS[1])];

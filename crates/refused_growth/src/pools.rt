@@ -7,7 +7,7 @@ use proto::Geometry;
 use segments::{ItemRef, Pool, size_of};
 use std::alloc::Global;
 
-/// The pool, where it is made at the first or the second try.
+/// The pool, if it is made at the first or the second try.
 #[tactic(auto, unfolding(segments::specs::Changes::new_pool))]
 fn make(alloc: Global, geometry: Geometry) -> Option<Pool>
     ensures { IfSome result (λ p. p.sizes ≡ geometry) }

@@ -21,7 +21,7 @@ const INPUTS: [&[u8]; 8] = [
     b"stats\r\n",
 ];
 
-/// The message, where it is read at the first or the second try.
+/// The message, if it is read at the first or the second try.
 fn read(alloc: Global, input: &[u8]) -> Option<Message> {
     for _ in 0..2 {
         if let Ok(Next::Found(message, _)) = next_message_in(alloc, Dialect::Lenient, input) {
@@ -31,7 +31,7 @@ fn read(alloc: Global, input: &[u8]) -> Option<Message> {
     None
 }
 
-/// The request, where it is read so.
+/// The request, if it is read so.
 pub fn read_request(alloc: Global, input: &[u8]) -> Option<Request> {
     match read(alloc, input) {
         Some(Message::Ask(request, _)) => Some(request),
@@ -65,7 +65,7 @@ fn check_input(alloc: Global, input: &[u8]) -> bool {
     }
 }
 
-/// The lines of a `stats` before any request; None where memory was refused.
+/// The lines of a `stats` before any request; None if out of memory.
 fn stats_lines(alloc: Global) -> Option<ByteString> {
     let gauges = Gauges::new(alloc).ok()?;
     let text = StatsText::of(alloc, &Counts::new()).ok()?;

@@ -29,7 +29,7 @@ pub struct Session {
     pub input: &'static [u8],
     /// Its output without a refusal.
     pub whole: &'static [u8],
-    /// Its output where storage was refused memory.
+    /// Its output if storage was refused memory.
     pub refused: &'static [u8],
 }
 
@@ -39,7 +39,7 @@ impl Session {
         self.whole.starts_with(output) || self.refused.starts_with(output)
     }
 
-    /// It has one of its outputs, or the beginning of one where it was shut.
+    /// It has one of its outputs, or the beginning of one if it was shut.
     fn outcome(&self, given: &Output) -> Outcome {
         let output = given.bytes();
         if given.is_shut() {

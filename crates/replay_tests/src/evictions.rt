@@ -24,8 +24,9 @@ struct Run {
     also: (u32, u32),
 }
 
-/// The first merge takes the first four segments, of 32 keys. With `least-read` the second one takes those behind what
-/// the first one left, with the keys 33 to 64; with `oldest` what it left, and three segments behind it. With a TTL whose
+/// With `oldest` the first merge takes the first four segments, of 32 keys, and the second one what the first one left and
+/// three segments behind it. With `least-read` the first one takes three segments, of 24 keys, and what it leaves stands
+/// behind others, so the second one takes those of the keys 25 to 48. With a TTL whose
 /// bucket is 128 seconds wide and a tick of a second, segments are opened eight seconds apart, and `oldest` merges none;
 /// for `least-read` those of 64 seconds are opened at one moment, which end at 1,088. With `least-read` a key that is written
 /// again goes over its item: one of a segment that was opened at 1,088 and ends at 3,136, until 1,291, when 2,100 seconds end
@@ -91,7 +92,7 @@ const RUNS: [Run; 16] = [
         writes: 65,
         reads: 0,
         again: 0,
-        forgotten: (1, 24),
+        forgotten: (1, 16),
         also: (0, 0),
     },
     Run {
@@ -100,8 +101,8 @@ const RUNS: [Run; 16] = [
         writes: 89,
         reads: 0,
         again: 0,
-        forgotten: (1, 24),
-        also: (33, 56),
+        forgotten: (1, 16),
+        also: (25, 40),
     },
     Run {
         words: "--evict least-read",
@@ -109,8 +110,8 @@ const RUNS: [Run; 16] = [
         writes: 89,
         reads: 1,
         again: 0,
-        forgotten: (2, 25),
-        also: (33, 56),
+        forgotten: (2, 17),
+        also: (25, 40),
     },
     Run {
         words: "--now 1088 --tick 1",
@@ -127,7 +128,7 @@ const RUNS: [Run; 16] = [
         writes: 65,
         reads: 0,
         again: 0,
-        forgotten: (1, 24),
+        forgotten: (1, 16),
         also: (0, 0),
     },
     Run {
@@ -136,7 +137,7 @@ const RUNS: [Run; 16] = [
         writes: 65,
         reads: 0,
         again: 0,
-        forgotten: (9, 32),
+        forgotten: (9, 24),
         also: (0, 0),
     },
     Run {
@@ -172,7 +173,7 @@ const RUNS: [Run; 16] = [
         writes: 64,
         reads: 0,
         again: 141,
-        forgotten: (1, 24),
+        forgotten: (1, 16),
         also: (0, 0),
     },
 ];

@@ -23,7 +23,7 @@ pub enum Fault {
     /// The number of workers isn't 1 to 8, or memory is missing.
     #[error("fault: {0}")]
     Exchange(MakeFault),
-    /// Memory is missing, or a thread can't be started.
+    /// Out of memory, or a thread can't be started.
     #[error("fault: {0}")]
     Group(GroupFault),
     #[error("fault: cannot write")]

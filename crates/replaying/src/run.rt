@@ -40,7 +40,7 @@ fn read_events<R: Read + Drop>(
     Ok((scripts, text))
 }
 
-/// The bytes in hexadecimal, or `-` where there are none.
+/// The bytes in hexadecimal, or `-` if there are none.
 fn in_hexadecimal(alloc: Global, bytes: &[u8]) -> Result<String, AllocError>
     ensures { IfOk result (λ text. string_bytes text ≡ in_hexadecimal bytes.now) }
 {
@@ -147,7 +147,7 @@ fn new_store(alloc: Global, options: &Options, geometry: Geometry) -> Result<Sto
 ///
 /// CannotRead if a read of the script fails; Script if it is too large or a line has a fault; Exchange if the options ask
 /// for none or for more than 8 workers, or memory for the exchange is refused; Group if a thread can't be started, or the
-/// group has no memory; CannotWrite if a line can't be printed; NoMemory if memory is refused elsewhere.
+/// group has no memory; CannotWrite if a line can't be printed; NoMemory if out of memory elsewhere.
 pub fn replay<H: Threads + Wait + time::Clock + Sync, R: Read + Drop, W: Write>(
     rt: &H,
     alloc: Global,

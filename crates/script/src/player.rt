@@ -186,8 +186,8 @@ impl Player {
         PortEvent::Ended
     }
 
-    /// The first event left whose session isn't paused, of a send its next piece. `Idle` where there is none, once
-    /// `Ended` was given, and where no memory is found.
+    /// The first event left whose session isn't paused, of a send its next piece. `Idle` if there is none, once
+    /// `Ended` was given, and if out of memory.
     pub(crate) fn next(&mut self) -> PortEvent
         requires consistent { IsPlayerConsistent self.old }
         ensures { PlaysNext self.old result self.new }
@@ -239,7 +239,7 @@ impl Player {
         self.events.bring_back(stay);
     }
 
-    // Keeps bytes that a session is given. False where there is no memory, and then nothing changes.
+    // Keeps bytes that a session is given. False if out of memory, and then nothing changes.
     fn keep(&mut self, session: u64, bytes: &[u8]) -> bool
         requires consistent { IsPlayerConsistent self.old }
         ensures consistent { IsPlayerConsistent self.new }

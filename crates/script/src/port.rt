@@ -24,7 +24,7 @@ use worker_port::{Gone, Port, PortEvent, PortRecord, ToldHistory};
 /// Plays the events of a script in order, and keeps what each session is given.
 ///
 /// It tells where each event of the script may come after those before it. A session that has gone or was shut has
-/// no event left. Its list takes no memory. Where memory is missing, `next` answers `Idle` and `give` accepts no bytes.
+/// no event left. Its list takes no memory. If it is out of memory, `next` answers `Idle` and `give` accepts no bytes.
 #[derive(Drop)]
 pub struct ScriptPort {
     player: Player,

@@ -18,7 +18,7 @@ use std::marker::Model;
 /// The most bytes that a script may have.
 pub const MAX_SCRIPT: usize = 16_777_216;
 
-/// The first line, and what stands after its line feed; None where nothing is left.
+/// The first line, and what stands after its line feed; None if nothing is left.
 fn first_line(script: &[u8]) -> Option<(&[u8], &[u8])>
     ensures lines { MatchOption result (script.now ≡ [])
         (λ p. lines_of script.now ≡ p.0.now ∷ lines_of p.1.now) }
@@ -93,7 +93,7 @@ impl<'a> ScriptReader<'a> {
     ///
     /// # Errors
     ///
-    /// NoMemory if memory is missing.
+    /// NoMemory if out of memory.
     pub fn new(
         alloc: Global,
         script: &'a [u8],
@@ -114,7 +114,7 @@ impl<'a> ScriptReader<'a> {
     ///
     /// # Errors
     ///
-    /// Line with what is wrong with the line; NoMemory if memory is missing. Either leaves the reader as it was.
+    /// Line with what is wrong with the line; NoMemory if out of memory. Either leaves the reader as it was.
     pub fn next_line(&mut self) -> Result<bool, ScriptFault>
         ensures read { IfOk result (λ more. MatchBool more (ReadsLine self.old self.new) ((self.old.left ≡ [])
             × (self.new ≡ self.old))) }
@@ -141,7 +141,7 @@ impl<'a> ScriptReader<'a> {
 /// # Errors
 ///
 /// TooLarge if the script has more than 16,777,216 bytes; Line for the first line that is none of a script or says an event
-/// that may not come there; NoMemory if memory is missing, also where a line has a fault.
+/// that may not come there; NoMemory if out of memory, also if a line has a fault.
 pub fn read_script(
     alloc: Global,
     script: &[u8],

@@ -74,7 +74,7 @@ impl Remaining {
         self.ring.front()
     }
 
-    /// The first of the rest, or of those aside where no other is left.
+    /// The first of the rest, or of those aside if no other is left.
     pub(crate) fn first(&self) -> Option<&ScriptEvent>
         ensures { MatchOption result (in_order self.now ≡ [])
             (λ e. (self.now.rest ≡ e.now ∷ drop 1 self.now.rest)
@@ -83,7 +83,7 @@ impl Remaining {
         self.ring.front()
     }
 
-    /// Drops the first of the rest, or of those aside where no other is left.
+    /// Drops the first of the rest, or of those aside if no other is left.
     pub(crate) fn drop_first(&mut self)
         ensures rest { 0 < length self.old.rest → self.new ≡ record self.old { rest = drop 1 self.old.rest } }
         ensures aside { self.old.rest ≡ [] → self.new ≡ record self.old { aside = drop 1 self.old.aside } }

@@ -74,7 +74,7 @@ fn outputs(alloc: Global, sessions: Vec<SequentialSession>) -> Result<Vec<Sessio
 ///
 /// # Errors
 ///
-/// NoMemory if memory is missing.
+/// NoMemory if out of memory.
 pub fn replay_sequentially<E: StorageEngine + Drop>(
     alloc: Global,
     store: E,

@@ -63,7 +63,7 @@ impl<E: StorageEngine + Drop> Executor<E> {
         Executor { engine, clock }
     }
 
-    /// Executes the message at the clock's next moment, where it is a request, and appends its answer.
+    /// Executes the message at the clock's next moment, if it is a request, and appends its answer.
     pub fn answer(&mut self, message: &mut Message, output: &mut Vec<u8>) -> Result<(), NoMemory>
         ensures answers { OnOk result (AnswersBehind self.old message.old self.new output.old.items output.new.items) }
         ensures same { message.new ≡ message.old }

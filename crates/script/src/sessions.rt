@@ -164,7 +164,7 @@ impl Sessions {
         Ok(())
     }
 
-    /// Writes what becomes of a session. False where it isn't open, and then nothing changes.
+    /// Writes what becomes of a session. False if it isn't open, and then nothing changes.
     pub(crate) fn change(&mut self, number: u64, stage: Stage) -> bool
         ensures open { result ≡ is_session_open self.old number }
         ensures changes { result ≡ true → ChangesAt self.old number (with_stage stage) self.new }

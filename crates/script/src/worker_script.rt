@@ -88,7 +88,7 @@ impl WorkerScript {
     ///
     /// # Errors
     ///
-    /// NoMemory if memory is missing; then nothing changes.
+    /// NoMemory if out of memory; then nothing changes.
     pub fn push(&mut self, event: ScriptEvent) -> Result<(), NoMemory>
         requires { MayFollow self.old event }
         ensures ok { OnOk result (self.new ≡ self.old ++ event ∷ []) }

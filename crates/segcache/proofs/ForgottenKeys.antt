@@ -18,7 +18,8 @@ use Rattle.segments.specs.Pools.{PoolState, IsPool, Plan, Used, Liveness, segmen
 use Rattle.segments.specs.Changes.{HasNoRoom, IsGivenBack, IsAddedToTail, IsAddedToFree, dead_segments}
 use Rattle.proto.specs.declared.eviction.Eviction.{Eviction}
 use Rattle.proto.specs.declared.eviction.Eviction.TheVariants.{Oldest, LeastRead}
-use Rattle.segments.specs.Merges.{IsVictimBy, Evicts, NoneQualifies, merged_into, merged_segments, front}
+use Rattle.segments.specs.Merges.{most_merged, IsVictimBy, Evicts, NoneQualifies, merged_into, merged_segments, front}
+use Rattle.segments.proofs.FrontLemmas.{most_two}
 use Rattle.segments.specs.Places.{AgreeIn}
 use Rattle.segments.proofs.AgreeingTests.{same_live_items, same_live_standing, same_dead, same_given}
 use Rattle.segments.specs.Marks.{Marks, is_marked, lives_by}
@@ -70,7 +71,8 @@ keys_replanned lives p o after keys h = by h.evicted h.keys_are
         → EvictsKeys lives p after keys
     by (inl m) are =
         let long = leb-true 2 (length (front p m.choice)) m.next.qualifying in
-        let four = length-take 4 (front p m.choice) in
+        let four = length-take (most_merged p.eviction) (front p m.choice) in
+        let two = most_two p.eviction in
         record {
           evicted = inl (record {
             choice = m.choice;
@@ -78,7 +80,7 @@ keys_replanned lives p o after keys h = by h.evicted h.keys_are
             judged = m.judged;
             is_judged = record { all_live = m.is_judged.all_live; each = m.is_judged.each };
             after_is = m.after_is ∙ merged_replanned p o m.choice (merged_segments p m.choice) _
-                (omega (arith, long, four));
+                (omega (arith, long, four, two));
           });
           keys_are = are;
         }
@@ -180,7 +182,6 @@ none_given lives p after pool g none =
       segments = segments i;
       order = order i;
       cursor = g.cursor i;
-      hand = g.hand i;
       plan = g.plan i;
       eviction = g.eviction i;
       hits = g.hits i;

@@ -12,7 +12,8 @@ use Rattle.segments.specs.Items.{size_of_item}
 use Rattle.segments.specs.Pools.{PoolState, IsPool, Plan, Standing, segment_at, standing}
 use Rattle.segments.specs.Changes.{without_segment}
 use Rattle.segments.specs.Places.{moved_by}
-use Rattle.segments.specs.Merges.{IsVictim, Judged, NoneQualifies, moves_into, front, merged_segments, first_of_list, live_items, carried_items}
+use Rattle.segments.specs.Merges.{most_merged, IsVictim, Judged, NoneQualifies, moves_into, front, merged_segments, first_of_list, live_items, carried_items}
+use Rattle.segments.proofs.FrontLemmas.{most_two}
 use Rattle.segments.proofs.PlanLemmas.{standing_in, plan_after}
 use Rattle.segments.specs.Marks.{Marks, is_marked, lives_by}
 use Rattle.index.specs.Table.{Table}
@@ -101,7 +102,8 @@ merged_evicted p plan after index found marks w =
     let keys : map key_in ss ≡ map (λ j. j.item.key) (filter (λ j. not j.is_kept) h.judged) =
     ap (λ xs. map key_in (lost plan.moves xs)) (sym h.is_judged.all_live) ∙ lost_keys plan.moves h.judged kept in
     let long = leb-true 2 (length (front p plan.choice)) h.next.qualifying in
-    let four = length-take 4 (front p plan.choice) in
+    let four = length-take (most_merged p.eviction) (front p plan.choice) in
+    let two = most_two p.eviction in
     record {
       evicted = inl (record {
         choice = plan.choice;
@@ -109,7 +111,7 @@ merged_evicted p plan after index found marks w =
         judged = h.judged;
         is_judged = h.is_judged;
         after_is = w.after_is ∙ sym (merged_replanned p (Some plan) plan.choice numbers (carried_items p plan.moves)
-            (omega (arith, long, four)))
+            (omega (arith, long, four, two)))
             ∙ plan_after (lives_by marks) p plan h;
       });
       entries = λ t. left_entries p index after found t ss

@@ -17,10 +17,11 @@ use Rattle.segments.specs.Changes.{with_items}
 use Rattle.proto.specs.Counts.{times}
 use Rattle.segments.specs.Pools.{PoolState, Plan, IsPool, Used, opening_moment, Standing, segment_at, item_in, place_deadline, standing, live_standing}
 use Rattle.segments.specs.Places.{same_place, moved_by}
-use Rattle.segments.specs.Merges.{qualifies, front, merged_segments, merged_into, live_items, contains_number, carried_out, carried_items}
+use Rattle.segments.specs.Merges.{qualifies, most_merged, front, merged_segments, merged_into, live_items, contains_number, carried_out, carried_items}
 use Rattle.segments.proofs.MovedPlaces.{moved_other, moved_live, live_source, sources_live, same_place_is, merged_front, merged_in_chain, merged_segment}
 use Rattle.segments.specs.Filling.{IsInTimeOrder}
-use Rattle.segments.proofs.InTimeLemmas.{order_part, part_merged}
+use Rattle.segments.proofs.InTimeLemmas.{order_of_merged}
+use Rattle.segments.proofs.FrontLemmas.{most_four}
 use Rattle.segments.specs.Marks.{Marks, is_marked, lives_by}
 use Rattle.index.specs.Table.{Table}
 use Rattle.segcache.specs.Shown.{current, entry_at, kept_entry}
@@ -58,10 +59,10 @@ opened_by rule false true items f o t u h a b = let r = filled_opened items f u 
 opened_by rule false false items f o t u h a b = b u h
 
 -- no segment gets another moment
-past_merged : (p : PoolState) (plan : Plan) (after : PoolState) (t : ℕ) → IsTrue (qualifies p plan.choice)
+past_merged : (p : PoolState) (plan : Plan) (after : PoolState) (t : ℕ) → IsPool p → IsTrue (qualifies p plan.choice)
     → after ≡ carried_out p plan → IsPast p t
     → IsPast after t
-past_merged p plan after t qualifying is past =
+past_merged p plan after t pool qualifying is past =
     let f = merged_front p plan.choice qualifying in
     let first = f.0 in
     let others : List ℕ = f.1.0 ∷ f.1.1.0 in
@@ -84,7 +85,7 @@ past_merged p plan after t qualifying is past =
           ∙ merged_segment p plan.choice first others items n used.within) ∙ e) (past.opened first)
           (past.opened n));
       in_order = subst IsInTimeOrder (sym is)
-          (order_part p (carried_out p plan) (part_merged p plan.choice items qualifying) past.in_order);
+          (order_of_merged p plan.choice items pool qualifying past.in_order);
     }
 
 -- ---- the items that are forgotten
@@ -250,7 +251,7 @@ merged_made p plan after index found marks t w crowded =
     let ss = lost plan.moves all in
     record {
       sizes = w.out.sizes;
-      past = past_merged p plan after t w.is_plan.next.qualifying w.after_is crowded.past;
+      past = past_merged p plan after t w.tied.known.pool w.is_plan.next.qualifying w.after_is crowded.past;
       free = w.out.has_free;
       absent = λ q none. w.relocated.places q ∙ ap (option_and_then (moved_by plan.moves)) none;
       kept = evicted_kept p index after found t ss crowded
@@ -260,7 +261,8 @@ merged_made p plan after index found marks t w crowded =
           (let part = part_sizes (λ (s : Standing). not (is_some (moved_by plan.moves s.place))) all in
           let whole = live_sizes p marks (merged_segments p plan.choice) w.tied.known.pool in
           let four : length (merged_segments p plan.choice) ≤ 4 =
-          (let l = length-take 4 (front p plan.choice) in omega (arith, l)) in
+          (let l = length-take (most_merged p.eviction) (front p plan.choice) in let m = most_four p.eviction in
+          omega (arith, l, m)) in
           let most = mul-le-mul_left p.sizes.segment_size four in
           omega (arith, part, whole, most));
     }

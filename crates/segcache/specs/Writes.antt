@@ -122,14 +122,14 @@ pub record StaysDated (old : MapState) (key : List ℕ) (entry : Entry) (reply :
   pub entries : shown_entries new.pool new.index old.moment ≡ shown_entries old.pool old.index old.moment
 
 -- it was written anew, since it may not
-pub record IsDatedAnew (old : MapState) (key : List ℕ) (entry : Entry) (new : MapState) : Type 0 where
+pub record IsWrittenAnew (old : MapState) (key : List ℕ) (entry : Entry) (new : MapState) : Type 0 where
   pub deadline : Option ℕ
   pub there : finite.get (shown_entries old.pool old.index old.moment) key ≡ Some (record entry { deadline = deadline })
   pub stays_not : stays_as old.moment entry.deadline deadline ≡ false
   pub writes : WritesToSegments old key entry new
 
 abbrev pub DatesSegments : MapState → List ℕ → Entry → Reply → MapState → Type 0
-DatesSegments old key entry reply new = StaysDated old key entry reply new ⊎ IsDatedAnew old key entry new
+DatesSegments old key entry reply new = StaysDated old key entry reply new ⊎ IsWrittenAnew old key entry new
 
 -- the key's item was read once more, and nothing else changed
 pub record IsReadAgain (old : MapState) (key : List ℕ) (new : MapState) : Type 0 where

@@ -53,12 +53,12 @@ impl StoreCounts {
         }
     }
 
-    /// The item at the place is current, in place of the one at the source.
-    pub(crate) fn put(&mut self, pool: &Pool, source: Option<Place>, place: Place) {
+    /// An item of this size is current, in place of the one at the source.
+    pub(crate) fn put(&mut self, pool: &Pool, source: Option<Place>, size: u32) {
         if let Some(source) = source {
             self.take_out(pool, source);
         }
-        self.bytes = self.bytes.wrapping_add(pool.size_at(place));
+        self.bytes = self.bytes.wrapping_add(u64::from(size));
     }
 
     /// The item at the place isn't current any more.

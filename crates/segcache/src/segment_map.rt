@@ -88,7 +88,7 @@ pub(crate) fn may_give(now: u64, asked: Option<u64>, given: Option<u64>) -> bool
     }
 }
 
-/// Whether an entry with this deadline may stay where another one is asked for at the moment: it may be one that a write gives, or at
+/// Whether an entry with this deadline may stay if another one is asked for at the moment: it may be one that a write gives, or at
 /// most an eighth of the life asked for is missing.
 fn stays_as(now: u64, asked: Option<u64>, given: Option<u64>) -> bool
     ensures { result ≡ stays_as now asked given }

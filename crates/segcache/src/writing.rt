@@ -20,7 +20,7 @@ ghost use Rattle.segcache.specs.Writes.{GoesOver, StandsAt, goes_over};
 ghost use Rattle.segments.specs.declared.place.Place.{Place as Spot};
 
 use crate::segment_map::{SegmentMap, may_give};
-use segments::{ItemRef, LiveMarks, NoRoom, Place};
+use segments::{ItemRef, LiveMarks, NoRoom, Place, size_of};
 
 /// Marks the place of an item in place of the one that its key had.
 fn mark_instead(marks: &mut LiveMarks, source: Option<Place>, place: Place)
@@ -100,7 +100,7 @@ impl SegmentMap {
     {
         let place = self.pool.append(bucket, self.moment, item)?;
         let source = self.index.insert(&self.pool, item.key, place);
-        self.counts.put(&self.pool, source, place);
+        self.counts.put(&self.pool, source, size_of(item));
         mark_instead(&mut self.marks, source, place);
         Ok(place)
     }

@@ -55,7 +55,7 @@ fn job(rt: &HostRuntime) -> Result<Job, WordsFault> {
     parse_words(alloc, words.as_slice())
 }
 
-/// Prints the fault, where standard error takes it, and answers the exit status.
+/// Prints the fault, if standard error takes it, and answers the exit status.
 fn fail<F: Display + Drop>(rt: &HostRuntime, fault: F) -> u8 {
     let _ = rt.eprintln(fault);
     1

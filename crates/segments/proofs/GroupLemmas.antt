@@ -17,7 +17,7 @@ use Rattle.proto.specs.declared.eviction.Eviction.{Eviction}
 use Rattle.proto.specs.declared.eviction.Eviction.TheVariants.{Oldest, LeastRead}
 use Rattle.segments.specs.Changes.{takes, if_takes, open_tail, IsPoolFull, HasNoRoom}
 use Rattle.segments.specs.Merges.{opened_at}
-use Rattle.segments.specs.Filling.{bucket_in, IsInOrder, IsOpenedBy}
+use Rattle.segments.specs.Filling.{bucket_in, OpensNoLater, IsOpenedBy}
 use Rattle.segments.specs.Filling.{goes_with, AreFilled, IsFilled, AreInTime, IsInTime, Group, group_for, group_of, same_group}
 use Rattle.segments.specs.Filling.{groups_among, held_in, held_among, held_size, groups_with, filled_size, HoldsLittle}
 use Rattle.proto.specs.Sizes.{item_limit}
@@ -179,36 +179,34 @@ any_group p n u (m ∷ later) e used h =
 -- ---- an item's group: the last segment of it is its tail
 
 -- a segment of a bucket has that bucket
-bucket_of_in : (o : Option Used) (b : ℕ) → option_map_or (λ (s : Used). s.bucket == b) o false ≡ true
+pub bucket_of_in : (o : Option Used) (b : ℕ) → option_map_or (λ (s : Used). s.bucket == b) o false ≡ true
     → option_map_or (λ (s : Used). s.bucket) o lasting ≡ b
 bucket_of_in None b h = absurd (false≢true h)
 bucket_of_in (Some u) b h = eqb-true u.bucket b h
 
--- segments in order that are of one bucket were opened in that order, whatever the rule
-ordered : (e : Eviction) (p : PoolState) (n m : ℕ) → bucket_in p n ≡ bucket_in p m → IsInOrder e p n m
-    → opened_at p n ≤ opened_at p m
-ordered Oldest p n m same h = h
-ordered LeastRead p n m same h = h same
+-- segments in order that are of one bucket with deadlines were opened in that order, whatever the rule
+ordered : (e : Eviction) (p : PoolState) (n m : ℕ) → bucket_in p n ≡ bucket_in p m → (bucket_in p n == lasting) ≡ false
+    → OpensNoLater e p n m → opened_at p n ≤ opened_at p m
+ordered Oldest p n m same dated h = h
+ordered LeastRead p n m same dated h = h same dated
 
 -- where none goes with a segment that could be opened at t, none is after it in the bucket
 none_behind : (p : PoolState) (b t n : ℕ) (u : Used) (later : List ℕ) → segment_at p n ≡ Some u → u.bucket ≡ b
     → ((b == lasting) || (u.opened == opening_moment p.eviction b t)) ≡ true
-    → AreUsed p later → All (IsInOrder p.eviction p n) later → All (IsOpenedBy p.eviction p t) later
+    → AreUsed p later → All (OpensNoLater p.eviction p n) later → All (IsOpenedBy p.eviction p t) later
     → list_any (goes_with p b n) later ≡ false → filter (in_bucket p.segments b) later ≡ []
 none_behind p b t n u [] e same moment used order past h = refl
 none_behind p b t n u (m ∷ later) e same moment used order past h =
     let k = opening_moment p.eviction b t in
     let parts = or_parts (goes_with p b n m) (list_any (goes_with p b n) later) h in
     let rest = none_behind p b t n u later e same moment used.1
-    (All-tail (IsInOrder p.eviction p n) m later order)
+    (All-tail (OpensNoLater p.eviction p n) m later order)
     (All-tail (IsOpenedBy p.eviction p t) m later past) parts.1 in
     elim (cases_Bool (in_bucket p.segments b m)) [
       | inl y ↦
           let here : in_bucket p.segments b n ≡ true = in_bucket_is p n b u e ∙ eq-eqb u.bucket b same in
           let of_n : bucket_in p n ≡ b = bucket_of_in (segment_at p n) b here in
           let of_m : bucket_in p m ≡ b = bucket_of_in (segment_at p m) b y in
-          let le : opened_at p n ≤ opened_at p m = ordered p.eviction p n m (of_n ∙ sym of_m)
-          (All-head (IsInOrder p.eviction p n) m later order) in
           let pt : opened_at p m ≤ k = subst (λ (c : ℕ). opened_at p m ≤ opening_moment p.eviction c t) of_m
           (All-head (IsOpenedBy p.eviction p t) m later past) in
           let is : opened_at p n ≡ u.opened = opened_is p n u e in
@@ -216,6 +214,8 @@ none_behind p b t n u (m ∷ later) e same moment used order past h =
           elim (cases_Bool (b == lasting)) [
             | inl l ↦ or_left _ _ l
             | inr l ↦
+                let le : opened_at p n ≤ opened_at p m = ordered p.eviction p n m (of_n ∙ sym of_m)
+                (ap (λ c. c == lasting) of_n ∙ l) (All-head (OpensNoLater p.eviction p n) m later order) in
                 let now : (u.opened == k) ≡ true = rw l at moment in
                 let at = eqb-true u.opened k now in
                 or_right (b == lasting) _ (eq-eqb (opened_at p n) (opened_at p m) (omega arith))
@@ -261,7 +261,7 @@ pub group_filled : (p : PoolState) (b t n : ℕ) (u : Used) (later : List ℕ) (
     → IsStorable (item_limit p.sizes) i → open_tail p b t (size_of_item i) ≡ None
     → last_or o (filter (in_bucket p.segments b) (n ∷ later)) ≡ tail p b → segment_at p n ≡ Some u → u.bucket ≡ b
     → ((b == lasting) || (u.opened == opening_moment p.eviction b t)) ≡ true
-    → AreUsed p later → All (IsInOrder p.eviction p n) later → All (IsOpenedBy p.eviction p t) later
+    → AreUsed p later → All (OpensNoLater p.eviction p n) later → All (IsOpenedBy p.eviction p t) later
     → ((c : ℕ) → IsTrue (list_any (goes_with p c n) later) → filled_size p < held_in p n) → filled_size p < held_in p n
 group_filled p b t n u later o i s none at e same moment used order past f =
     elim (cases_Bool (list_any (goes_with p b n) later)) [

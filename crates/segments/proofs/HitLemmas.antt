@@ -1,5 +1,6 @@
 -- The hits of segments.
-use Rattle.std.proofs.Common.{◌≡◌, ℕ, ◌+◌, ◌*◌, ◌/◌, ◌<◌, ◌≤◌, Bool, true, false, List, [], ◌∷◌, ◌++◌, length, map, get_or, refl, sym, ap, subst, ◌∙◌, arith, add-one, append_assoc}
+use Rattle.std.proofs.Common.{◌≡◌, ℕ, ◌+◌, ◌*◌, ◌/◌, ◌<◌, ◌≤◌, Bool, true, false, List, [], ◌∷◌, ◌++◌}
+use Rattle.std.proofs.Common.{length, map, get_or, refl, sym, ap, subst, ◌∙◌, arith, add-one, append_assoc}
 use Rattle.std.specs.Prelude.{All, if◌then◌else◌, nat_le, sum_by, min}
 use Rattle.std.proofs.Math.ListN.{set}
 use Rattle.std.proofs.Math.Seq.{get_or-append_seam}
@@ -7,7 +8,7 @@ use Rattle.std.proofs.lemmas.List.{length-set, length-map, length-append}
 use Rattle.std.proofs.lemmas.List.Sums.{sum_by_push}
 use Rattle.std.proofs.lemmas.List.Elements.{All-nil, All-cons, All-append, All-weaker, All-same, All-push}
 use Rattle.segments.specs.Items.{Item}
-use Rattle.segments.specs.Hits.{HitCounts, hits_of, with_opened, IsFewest, reads_of, most_hits}
+use Rattle.segments.specs.Hits.{HitCounts, segment_hits, with_opened, IsFewest, reads_of, most_hits}
 
 -- as many counts are left by either answer of a test
 opened_by : (b : Bool) (x y z : HitCounts) (n : ℕ) → z ≡ (if b then x else y) → length x.counts ≡ n
@@ -32,8 +33,8 @@ fewest_one h n =
       before = [];
       after = [];
       whole = refl;
-      earlier = All-nil (λ m. hits_of h n < hits_of h m);
-      later = All-nil (λ m. hits_of h n ≤ hits_of h m);
+      earlier = All-nil (λ m. segment_hits h n < segment_hits h m);
+      later = All-nil (λ m. segment_hits h n ≤ segment_hits h m);
     }
 
 -- what is said of each of some segments is said of the one with the fewest hits
@@ -46,23 +47,23 @@ fewest_among P h numbers n f all =
     subst P at (all (length f.before) 0 (omega (arith, long, add-one (length f.after))))
 
 -- one segment more with fewer hits is the one with the fewest
-pub fewest_less : (h : HitCounts) (numbers : List ℕ) (n m : ℕ) → IsFewest h numbers n → hits_of h m < hits_of h n
+pub fewest_less : (h : HitCounts) (numbers : List ℕ) (n m : ℕ) → IsFewest h numbers n → segment_hits h m < segment_hits h n
     → IsFewest h (numbers ++ m ∷ []) m
 fewest_less h numbers n m f lt =
-    let less : ℕ → Type 0 = λ k. hits_of h m < hits_of h k in
-    let before = All-weaker (λ k. hits_of h n < hits_of h k) less (λ k l. omega arith) f.before f.earlier in
-    let after = All-weaker (λ k. hits_of h n ≤ hits_of h k) less (λ k l. omega arith) f.after f.later in
+    let less : ℕ → Type 0 = λ k. segment_hits h m < segment_hits h k in
+    let before = All-weaker (λ k. segment_hits h n < segment_hits h k) less (λ k l. omega arith) f.before f.earlier in
+    let after = All-weaker (λ k. segment_hits h n ≤ segment_hits h k) less (λ k l. omega arith) f.after f.later in
     record {
       before = numbers;
       after = [];
       whole = refl;
       earlier = All-same less numbers (f.before ++ n ∷ f.after) f.whole
           (All-append less f.before (n ∷ f.after) before (All-cons less n f.after lt after));
-      later = All-nil (λ k. hits_of h m ≤ hits_of h k);
+      later = All-nil (λ k. segment_hits h m ≤ segment_hits h k);
     }
 
 -- one segment more with as many hits changes nothing
-pub fewest_more : (h : HitCounts) (numbers : List ℕ) (n m : ℕ) → IsFewest h numbers n → hits_of h n ≤ hits_of h m
+pub fewest_more : (h : HitCounts) (numbers : List ℕ) (n m : ℕ) → IsFewest h numbers n → segment_hits h n ≤ segment_hits h m
     → IsFewest h (numbers ++ m ∷ []) n
 fewest_more h numbers n m f le =
     record {
@@ -70,7 +71,7 @@ fewest_more h numbers n m f le =
       after = f.after ++ m ∷ [];
       whole = ap (λ xs. xs ++ m ∷ []) f.whole ∙ append_assoc f.before (n ∷ f.after) (m ∷ []);
       earlier = f.earlier;
-      later = All-push (λ k. hits_of h n ≤ hits_of h k) f.after m f.later le;
+      later = All-push (λ k. segment_hits h n ≤ segment_hits h k) f.after m f.later le;
     }
 
 -- ---- read counts in sum

@@ -1,31 +1,34 @@
 -- The segments of chains stand in the order of their opening moments, whatever is written and whatever becomes free.
-use Rattle.std.proofs.Common.{◌≡◌, ℕ, ◌+◌, ◌-◌, ◌<◌, ◌≤◌, Bool, true, false, List, [], ◌∷◌, length, Option, Some, None, refl, sym, ap, subst, ◌∙◌}
+use Rattle.std.proofs.Common.{◌≡◌, ℕ, ◌+◌, ◌<◌, ◌≤◌, Bool, true, false, List, [], ◌∷◌, length, Option, Some, None, refl, sym, ap, subst, ◌∙◌}
 use Rattle.std.proofs.Common.{inl, inr, arith, add-one}
 use Rattle.std.specs.Prelude.{◌==◌, ◌⊎◌, if◌then◌else◌, All, IfSome, IsSome, IsTrue, MatchOption}
-use Rattle.std.specs.Prelude.{filter, not, option_map, take, drop, min, nat_le, slice_index_or}
+use Rattle.std.specs.Prelude.{filter, is_some, not, option_map, take, min, slice_index_or}
 use Rattle.std.specs.Option.{option_map_or}
-use Rattle.std.proofs.lemmas.Bool.{cases_Bool, eq-eqb, eqb-true, leb-true, not-true}
-use Rattle.std.proofs.lemmas.List.{length-take, length-drop}
-use Rattle.std.proofs.Math.Nat.{min-le_right, le-min}
-use Rattle.std.proofs.lemmas.Option.{none-some}
+use Rattle.std.proofs.lemmas.Bool.{cases_Bool, eq-eqb, eqb-true, false≢true, le-ltb, not-true}
+use Rattle.std.proofs.lemmas.List.{length-take}
+use Rattle.std.proofs.Math.Nat.{le-min}
 use Rattle.std.proofs.lemmas.List.Elements.{All-nil, All-cons, All-head, All-tail}
 use Rattle.segments.specs.declared.merge.Choice.{Choice}
 use Rattle.segments.specs.declared.place.Place.{Place}
 use Rattle.segments.specs.Items.{Item}
 use Rattle.proto.specs.Counts.{times}
-use Rattle.segments.specs.Pools.{PoolState, IsPool, Used, Liveness, segment_at, item_in, has_live, oldest, lasting}
+use Rattle.segments.specs.Pools.{PoolState, IsPool, Used, Liveness, segment_at, item_in, has_live, lasting}
 use Rattle.segments.specs.Changes.{IsGivenBack, IsAddedToTail, IsAddedToFree, without_segment, with_items, with_change}
 use Rattle.proto.specs.declared.eviction.Eviction.{Eviction}
 use Rattle.proto.specs.declared.eviction.Eviction.TheVariants.{Oldest, LeastRead}
 use Rattle.proto.proofs.CountLemmas.{times-append}
-use Rattle.segments.proofs.FrontLemmas.{times-take, times-drop}
+use Rattle.segments.proofs.FrontLemmas.{times-take}
+use Rattle.segments.proofs.MergingLemmas.{contains_is, times_others}
+use Rattle.segments.proofs.MovedNumbers.{times_between, moved_filter, in_time_moved}
+use Rattle.segments.proofs.BehindLemmas.{IsBehind, behind_is}
+use Rattle.segments.proofs.GroupLemmas.{bucket_of_in}
 use Rattle.segments.specs.Hits.{HitCounts, IsFewest}
-use Rattle.segments.specs.Merges.{IsVictim, IsVictimBy, Evicts, qualifies, merged_segments, merged_into, contains_number, kept_items, opened_at}
-use Rattle.segments.specs.Merges.{looked_from, looked_to, looked_at, quarter}
-use Rattle.segments.specs.Filling.{bucket_in, IsInOrder, AreInTime, IsInTimeOrder, IsInTime}
-use Rattle.segments.proofs.LinkLemmas.{used_if}
+use Rattle.segments.specs.Merges.{IsVictim, IsVictimBy, qualifies, merged_segments, merged_into, contains_number, opened_at}
+use Rattle.segments.specs.Merges.{look_count, candidates, quarter, chain_of, behind_front, order_by}
+use Rattle.segments.specs.Filling.{bucket_in, OpensNoLater, AreInTime, IsInTimeOrder, IsInTime}
+use Rattle.segments.proofs.LinkLemmas.{used_if, below_by}
 use Rattle.segments.proofs.Places.{cleared_segment}
-use Rattle.segments.proofs.MovedPlaces.{merged_front, merged_in_chain, merged_segment}
+use Rattle.segments.proofs.MovedPlaces.{merged_front, merged_in_chain, merged_once, merged_segment}
 use Rattle.segments.proofs.FilledLemmas.{opened_new, not_free, same_all, alike_same, alike_all, alike_at}
 use Rattle.segments.proofs.FilledLemmas.{in_time_alike, in_order_by, in_time_new, in_time_tail, change_alike}
 
@@ -43,29 +46,29 @@ passing test n later b = if b then n ∷ filter test later else filter test late
 
 -- two numbers that stay are in order where they were
 part_ordered : (e : Eviction) (p q : PoolState) (k : IsPart p q) (n m : ℕ) → k.stays n ≡ true → k.stays m ≡ true
-    → IsInOrder e p n m → IsInOrder e q n m
+    → OpensNoLater e p n m → OpensNoLater e q n m
 part_ordered Oldest p q k n m y z h =
     let a = k.opened n y in
     let b = k.opened m z in
     omega (arith, h, a, b)
-part_ordered LeastRead p q k n m y z h = λ same.
+part_ordered LeastRead p q k n m y z h = λ same dated.
     let a = k.opened n y in
     let b = k.opened m z in
-    let le = h (sym (k.of n y) ∙ same ∙ k.of m z) in
+    let le = h (sym (k.of n y) ∙ same ∙ k.of m z) (ap (λ c. c == lasting) (sym (k.of n y)) ∙ dated) in
     omega (arith, le, a, b)
 
 -- the numbers that stay are in order behind one that stays, where all were
 from_part : (e : Eviction) (p q : PoolState) (k : IsPart p q) (x : ℕ) (numbers : List ℕ) → k.stays x ≡ true
-    → All (IsInOrder e p x) numbers → All (IsInOrder e q x) (filter k.stays numbers)
-from_part e p q k x [] here all = All-nil (IsInOrder e q x)
+    → All (OpensNoLater e p x) numbers → All (OpensNoLater e q x) (filter k.stays numbers)
+from_part e p q k x [] here all = All-nil (OpensNoLater e q x)
 from_part e p q k x (n ∷ later) here all =
-    let rest = from_part e p q k x later here (All-tail (IsInOrder e p x) n later all) in
+    let rest = from_part e p q k x later here (All-tail (OpensNoLater e p x) n later all) in
     elim (cases_Bool (k.stays n)) [
       | inl y ↦
-          subst (λ (b : Bool). All (IsInOrder e q x) (passing k.stays n later b)) (sym y)
-          (All-cons (IsInOrder e q x) n (filter k.stays later)
-          (part_ordered e p q k x n here y (All-head (IsInOrder e p x) n later all)) rest)
-      | inr f ↦ subst (λ (b : Bool). All (IsInOrder e q x) (passing k.stays n later b)) (sym f) rest
+          subst (λ (b : Bool). All (OpensNoLater e q x) (passing k.stays n later b)) (sym y)
+          (All-cons (OpensNoLater e q x) n (filter k.stays later)
+          (part_ordered e p q k x n here y (All-head (OpensNoLater e p x) n later all)) rest)
+      | inr f ↦ subst (λ (b : Bool). All (OpensNoLater e q x) (passing k.stays n later b)) (sym f) rest
     ]
 
 -- the numbers that stay are in the order in which they were
@@ -150,10 +153,58 @@ merged_bucket items p first n true e = filled_bucket items (segment_at p first)
     ∙ ap (bucket_in p) (sym (eqb-true n first e))
 merged_bucket items p first n false e = refl
 
--- segments that are merged leave the first of them, and the others
-pub part_merged : (p : PoolState) (b : Choice) (items : List Item) → IsTrue (qualifies p b)
-    → IsPart p (merged_into p b (merged_segments p b) items)
-part_merged p b items qualifying =
+-- the pool with a segment where the rule lets a filled one stand
+abbrev placed : PoolState → Choice → ℕ → PoolState
+placed p c first = record p { order = order_by p.eviction (behind_front p.segments c.bucket (chain_of p c)) first p.order }
+
+-- of the numbers that pass, two of which are these, one moves up as it does among all
+ordered_filter : (e : Eviction) (q : ℕ → Bool) (next n : ℕ) (xs : List ℕ) → q n ≡ true → q next ≡ true
+    → order_by e next n (filter q xs) ≡ filter q (order_by e next n xs)
+ordered_filter Oldest q next n xs t u = refl
+ordered_filter LeastRead q next n xs t u = sym (moved_filter q next n xs t u)
+
+-- no number stands in the order twice
+pub named_once : (p : PoolState) → IsPool p → (n : ℕ) → times n p.order ≤ 1
+named_once p k n = below_by (is_some (segment_at p n)) (times n p.order) (k.named n)
+
+-- a segment of a bucket with deadlines is one of it
+in_of_bucket : (o : Option Used) (b : ℕ) → option_map_or (λ (s : Used). s.bucket) o lasting ≡ b → (b == lasting) ≡ false
+    → option_map_or (λ (s : Used). s.bucket == b) o false ≡ true
+in_of_bucket None b e f = absurd (false≢true (sym f ∙ eq-eqb b lasting (sym e)))
+in_of_bucket (Some u) b e f = eq-eqb u.bucket b e
+
+-- a merge's first segment moves past no segment that was opened later
+moved_no_later : (p : PoolState) (c : Choice) (first : ℕ) → IsBehind p c first → (m : ℕ)
+    → 1 ≤ times_between m (behind_front p.segments c.bucket (chain_of p c)) first p.order
+    → OpensNoLater LeastRead p m first
+moved_no_later p c first x m some = λ same dated.
+    let of_first = bucket_of_in (segment_at p first) c.bucket x.of_first in
+    let of_m : bucket_in p m ≡ c.bucket = same ∙ of_first in
+    let dated_bucket : (c.bucket == lasting) ≡ false = ap (λ b. b == lasting) (sym of_m) ∙ dated in
+    let at = x.between m (in_of_bucket (segment_at p m) c.bucket of_m dated_bucket) some dated_bucket in
+    omega (arith, at)
+
+-- so the pool in which it stands there is in order
+order_placed_by : (e : Eviction) (p : PoolState) (c : Choice) (first : ℕ) → IsBehind p c first → AreInTime e p p.order
+    → AreInTime e p (order_by e (behind_front p.segments c.bucket (chain_of p c)) first p.order)
+order_placed_by Oldest p c first x f = f
+order_placed_by LeastRead p c first x f =
+    in_time_moved LeastRead p (behind_front p.segments c.bucket (chain_of p c)) first p.order f
+    (moved_no_later p c first x)
+
+-- so the pool in which it stands there is in order
+order_placed : (p : PoolState) (c : Choice) (first : ℕ) → IsBehind p c first → IsInTimeOrder p
+    → IsInTimeOrder (placed p c first)
+order_placed p c first x f =
+    let xs = order_by p.eviction (behind_front p.segments c.bucket (chain_of p c)) first p.order in
+    in_time_alike p.eviction p (placed p c first) xs
+    (alike_all p (placed p c first) xs (λ n _. alike_at p (placed p c first) n refl))
+    (order_placed_by p.eviction p c first x f)
+
+-- segments that are merged leave the first of them, where the rule lets it stand, and the others
+part_merged : (p : PoolState) (b : Choice) (items : List Item) → IsPool p → IsTrue (qualifies p b)
+    → (first : ℕ) × IsBehind p b first × IsPart (placed p b first) (merged_into p b (merged_segments p b) items)
+part_merged p b items pool qualifying =
     let f = merged_front p b qualifying in
     let first = f.0 in
     let others : List ℕ = f.1.0 ∷ f.1.1.0 in
@@ -167,75 +218,70 @@ part_merged p b items qualifying =
     ≡ (if n == first then option_map (with_items items) (segment_at p first) else segment_at p n) =
     λ n y. (let none = not-true (contains_number others n) y in
     merged_segment p b first others items n used.within ∙ rw none refl) in
-    subst (λ (xs : List ℕ). IsPart p (merged_into p b xs items)) (sym whole)
-    (record {
-      stays = λ n. not (contains_number others n);
-      order = refl;
-      opened = λ n y. ap (λ o. option_map_or (λ (s : Used). s.opened) o 0) (now n y)
-          ∙ merged_opened items p first n (n == first) refl;
-      of = λ n y. ap (λ o. option_map_or (λ (s : Used). s.bucket) o lasting) (now n y)
-          ∙ merged_bucket items p first n (n == first) refl;
-      eviction = refl;
-    })
+    let next = behind_front p.segments b.bucket (chain_of p b) in
+    let x = behind_is p b first others (named_once p pool) whole in
+    let once = merged_once p b first pool in
+    let alone : times first others ≡ 0 =
+    (let e : times first (merged_segments p b) ≡ 1 + times first others = ap (times first) whole ∙ rw z refl in
+    omega (arith, e, once)) in
+    let apart : times next others ≡ 0 = (let e = ap (times next) whole in let k = x.kept in
+    let l = times_others next first others in omega (arith, e, k, l)) in
+    let absent : (n : ℕ) → times n others ≡ 0 → not (contains_number others n) ≡ true =
+    λ n none. ap not (contains_is others n ∙ le-ltb 0 (times n others) (omega (arith, none))) in (
+      first,
+      x,
+      subst (λ (xs : List ℕ). IsPart (placed p b first) (merged_into p b xs items)) (sym whole)
+          (record {
+            stays = λ n. not (contains_number others n);
+            order = ordered_filter p.eviction (λ n. not (contains_number others n)) next first p.order (absent first alone)
+                (absent next apart);
+            opened = λ n y. ap (λ o. option_map_or (λ (s : Used). s.opened) o 0) (now n y)
+                ∙ merged_opened items p first n (n == first) refl;
+            of = λ n y. ap (λ o. option_map_or (λ (s : Used). s.bucket) o lasting) (now n y)
+                ∙ merged_bucket items p first n (n == first) refl;
+            eviction = refl;
+          }),
+    )
+
+-- a merge leaves the segments in order
+pub order_of_merged : (p : PoolState) (b : Choice) (items : List Item) → IsPool p → IsTrue (qualifies p b)
+    → IsInTimeOrder p → IsInTimeOrder (merged_into p b (merged_segments p b) items)
+order_of_merged p b items pool qualifying f =
+    let m = part_merged p b items pool qualifying in
+    order_part (placed p b m.0) (merged_into p b (merged_segments p b) items) m.2 (order_placed p b m.0 m.1 f)
 
 -- ---- what an eviction leaves
 
--- the segment that was opened first stands in the order
-oldest_stands : (order : List ℕ) (n : ℕ) → oldest order ≡ Some n → 1 ≤ times n order
-oldest_stands [] n e = absurd (none-some n e)
-oldest_stands (m ∷ order) n e =
-    let same : m ≡ n = cc in
-    let z = eq-eqb m n same in
-    rw z (omega arith)
-
--- so does, of some of the order that follow each other, the one with the fewest hits
-fewest_stands : (h : HitCounts) (k from : ℕ) (order : List ℕ) (n : ℕ) → IsFewest h (take k (drop from order)) n
-    → 1 ≤ times n order
-fewest_stands h k from order n f =
+-- of the first of the order the one with the fewest hits stands in it
+fewest_stands : (h : HitCounts) (k : ℕ) (order : List ℕ) (n : ℕ) → IsFewest h (take k order) n → 1 ≤ times n order
+fewest_stands h k order n f =
     let z = eq-eqb n n refl in
     let split = ap (times n) f.whole ∙ times-append n f.before (n ∷ f.after) in
     let here : times n (n ∷ f.after) ≡ 1 + times n f.after = rw z refl in
-    let part = times-take n k (drop from order) in
-    let rest = times-drop n from order in
+    let part = times-take n k order in
     omega arith
 
 -- it is a segment, if there is one
-pub if_fewest : (p : PoolState) (none : Type 0) (k from : ℕ) (o : Option ℕ) → IsPool p
-    → MatchOption o none (IsFewest p.hits (take k (drop from p.order))) → IfSome o (λ n. IsSome (segment_at p n))
-if_fewest p none k from None pool m = tt
-if_fewest p none k from (Some n) pool f =
-    used_if (segment_at p n) (times n p.order) (pool.named n) (fewest_stands p.hits k from p.order n f)
-
--- a part of a list from a place on and before another has numbers where the list has
-looked_some : (order : List ℕ) (low high : ℕ) → low < high → high ≤ length order
-    → take (high - low) (drop low order) ≡ [] → ⊥
-looked_some order low high lt le e =
-    let t = length-take (high - low) (drop low order) in
-    let d = length-drop low order in
-    let l = ap length e in
-    omega (arith, t, d, l, lt, le)
+pub if_fewest : (p : PoolState) (none : Type 0) (k : ℕ) (o : Option ℕ) → IsPool p
+    → MatchOption o none (IsFewest p.hits (take k p.order)) → IfSome o (λ n. IsSome (segment_at p n))
+if_fewest p none k None pool m = tt
+if_fewest p none k (Some n) pool f =
+    used_if (segment_at p n) (times n p.order) (pool.named n) (fewest_stands p.hits k p.order n f)
 
 -- what is less than both is less than the lesser
 lt-min : (k a b : ℕ) → k < a → k < b → k < min a b
 lt-min k a b x y = let h : k + 1 ≤ min a b = le-min (omega arith) (omega arith) in omega (arith, h)
 
--- the places looked at are some, where there are any
-looked_low : (b : Bool) (hand count quarter : ℕ) → nat_le hand (count - quarter) ≡ b → 0 < quarter → 0 < count
-    → (if b then hand else 0) < min ((if b then hand else 0) + quarter) count
-looked_low true hand count quarter e q c =
-    let h = leb-true hand (count - quarter) e in
-    lt-min hand (hand + quarter) count (omega arith) (omega arith)
-looked_low false hand count quarter e q c = lt-min 0 (0 + quarter) count (omega arith) (omega arith)
-
 -- where no segment is looked at, none is in a chain
-looked_none : (p : PoolState) (order : List ℕ) → p.order ≡ order → 0 < quarter p → looked_at p ≡ [] → order ≡ []
+looked_none : (p : PoolState) (order : List ℕ) → p.order ≡ order → 0 < quarter p → candidates p ≡ [] → order ≡ []
 looked_none p [] is q e = refl
 looked_none p (x ∷ xs) is q e =
     let count : length p.order ≡ length (x ∷ xs) = ap length is in
     let some : 0 < length p.order = omega (arith, count, add-one (length xs)) in
-    absurd (looked_some p.order (looked_from p) (looked_to p)
-    (looked_low (nat_le p.hand (length p.order - quarter p)) p.hand (length p.order) (quarter p) refl q some)
-    (min-le_right (looked_from p + quarter p) (length p.order)) e)
+    let looked = lt-min 0 (quarter p) (length p.order) q some in
+    let t = length-take (look_count p) p.order in
+    let l = ap length e in
+    absurd (omega (arith, t, l, looked, some))
 
 -- a quarter of a pool's segments is some
 quarter_some : (p : PoolState) → IsPool p → 0 < quarter p
@@ -243,25 +289,9 @@ quarter_some p k = let few = k.geometry.fewest in omega (arith, few)
 
 -- of the segments looked at the one with the fewest hits is evicted, where the rule says so
 pub looked_victim : (p : PoolState) (o : Option ℕ) → IsPool p → p.eviction ≡ LeastRead
-    → MatchOption o (looked_at p ≡ []) (IsFewest p.hits (looked_at p)) → MatchOption o (p.order ≡ []) (IsVictim p)
+    → MatchOption o (candidates p ≡ []) (IsFewest p.hits (candidates p)) → MatchOption o (p.order ≡ []) (IsVictim p)
 looked_victim p None k e none = looked_none p p.order refl (quarter_some p k) none
 looked_victim p (Some n) k e f = subst (λ x. IsVictimBy x p n) (sym e) f
-
--- so is the one that is evicted
-victim_by : (e : Eviction) (p : PoolState) (n : ℕ) → IsVictimBy e p n → 1 ≤ times n p.order
-victim_by Oldest p n v = oldest_stands p.order n v
-victim_by LeastRead p n v = fewest_stands p.hits (looked_to p - looked_from p) (looked_from p) p.order n v
-
--- the segment that is evicted is one
-victim_used : (p : PoolState) (n : ℕ) → IsPool p → IsVictim p n → IsSome (segment_at p n)
-victim_used p n k v = used_if (segment_at p n) (times n p.order) (k.named n) (victim_by p.eviction p n v)
-
--- an eviction leaves a part
-pub part_evicted : (lives : Liveness) (p after : PoolState) → IsPool p → Evicts lives p after → IsPart p after
-part_evicted lives p after k (inl m) = subst (IsPart p) (sym m.after_is)
-    (part_merged p m.choice (kept_items m.judged) m.next.qualifying)
-part_evicted lives p after k (inr c) = subst (IsPart p) (sym c.after_is)
-    (part_cleared p c.segment (victim_used p c.segment k c.is_victim))
 
 -- ---- what a write and a read leave
 

@@ -41,7 +41,7 @@ chain_by : (us : List (Option Used)) (order : List ℕ) (b k : ℕ) → k < leng
 chain_by us order b k lt = ap (filter (in_bucket us b)) (drop-cons order k 0 lt)
 
 -- a chain with the segment of a place
-chain_with : (us : List (Option Used)) (order : List ℕ) (b k : ℕ) → k < length order
+pub chain_with : (us : List (Option Used)) (order : List ℕ) (b k : ℕ) → k < length order
     → in_bucket us b (get_or order k 0) ≡ true
     → chain_in us (drop k order) b ≡ get_or order k 0 ∷ chain_in us (drop (suc k) order) b
 chain_with us order b k lt h =
@@ -50,7 +50,7 @@ chain_with us order b k lt h =
     chain_by us order b k lt ∙ ap (λ t. cond t (n ∷ rest) rest) h
 
 -- a chain without it
-chain_without : (us : List (Option Used)) (order : List ℕ) (b k : ℕ) → k < length order
+pub chain_without : (us : List (Option Used)) (order : List ℕ) (b k : ℕ) → k < length order
     → in_bucket us b (get_or order k 0) ≡ false
     → chain_in us (drop k order) b ≡ chain_in us (drop (suc k) order) b
 chain_without us order b k lt h =
@@ -201,14 +201,14 @@ found_here segments order rests k high d o r lt ln h small a e mate near =
 -- ---- what a choice is sure of
 
 -- what a rule merges next has a bucket, and can be merged
-pub next_parts : (e : Eviction) (us : List (Option Used)) (order : List ℕ) (cursor low high : ℕ) (c : Choice)
-    → IsNextBy e us order cursor low high c
+pub next_parts : (e : Eviction) (us : List (Option Used)) (order : List ℕ) (cursor looked : ℕ) (c : Choice)
+    → IsNextBy e us order cursor looked c
     → (c.bucket < bucket_count) × IsTrue (qualifies_in us (drop c.from order) c.bucket)
-next_parts Oldest us order cursor low high c h = (
+next_parts Oldest us order cursor looked c h = (
   h.1.in_range,
   subst (λ k. IsTrue (qualifies_in us (drop k order) c.bucket)) (sym h.0) h.1.qualifying,
 )
-next_parts LeastRead us order cursor low high c h = (h.in_range, h.qualifying)
+next_parts LeastRead us order cursor looked c h = (h.in_range, h.qualifying)
 
 -- two segments at least follow the place of a chain that can be merged from there on
 pub within_order : (us : List (Option Used)) (order : List ℕ) (k b : ℕ) → IsTrue (qualifies_in us (drop k order) b)
@@ -216,7 +216,7 @@ pub within_order : (us : List (Option Used)) (order : List ℕ) (k b : ℕ) → 
 within_order us order k b h =
     let long = leb-true 2 (length (front_in us (drop k order) b)) h in
     let four = length-take 4 (front_in us (drop k order) b) in
-    let short = front_short us b (chain_in us (drop k order) b) in
+    let short = front_short 4 us b (chain_in us (drop k order) b) in
     let chained = length-filter (in_bucket us b) (drop k order) in
     let fewer = count_by-le-length (in_bucket us b) (drop k order) in
     let left = length-drop k order in

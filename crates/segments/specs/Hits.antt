@@ -12,8 +12,8 @@ pub record HitCounts : Type 0 where
 abbrev pub most_hits : ℕ
 most_hits = 4294967295
 
-abbrev pub hits_of : HitCounts → ℕ → ℕ
-hits_of h n = slice_index_or h.counts n 0
+abbrev pub segment_hits : HitCounts → ℕ → ℕ
+segment_hits h n = slice_index_or h.counts n 0
 
 -- no segment has a hit
 abbrev pub no_hits : ℕ → HitCounts
@@ -21,7 +21,7 @@ no_hits segments = record { counts = replicate segments 0; opens = 0 }
 
 -- one hit more of a segment
 abbrev pub with_hit : HitCounts → ℕ → HitCounts
-with_hit h n = record h { counts = slice_set h.counts n (min (hits_of h n + 1) most_hits) }
+with_hit h n = record h { counts = slice_set h.counts n (min (segment_hits h n + 1) most_hits) }
 
 -- a segment begins with so many hits
 abbrev pub with_hits : HitCounts → ℕ → ℕ → HitCounts
@@ -43,8 +43,8 @@ pub record IsFewest (h : HitCounts) (numbers : List ℕ) (n : ℕ) : Type 0 wher
   pub before : List ℕ
   pub after : List ℕ
   pub whole : numbers ≡ before ++ n ∷ after
-  pub earlier : All (λ m. hits_of h n < hits_of h m) before
-  pub later : All (λ m. hits_of h n ≤ hits_of h m) after
+  pub earlier : All (λ m. segment_hits h n < segment_hits h m) before
+  pub later : All (λ m. segment_hits h n ≤ segment_hits h m) after
 
 -- hits are halved before half as many segments were opened again
 pub record AreHitsKept (h : HitCounts) : Type 0 where

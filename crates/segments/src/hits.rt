@@ -36,7 +36,7 @@ fn halve(counts: &mut Vec<u32>)
 }
 
 impl SegmentHits {
-    /// No segment of so many has a hit. NoMemory if memory is refused.
+    /// No segment of so many has a hit. NoMemory if out of memory.
     pub fn new(alloc: Global, segments: u32) -> Result<SegmentHits, NoMemory>
         ensures { IfOk result (λ r. r ≡ no_hits segments) }
     {

@@ -47,7 +47,7 @@ impl Model for LiveMarks {
     ghost invariant = { AreMarksKept };
 }
 
-/// Segments with this many marks each, none set. NoMemory if memory is refused.
+/// Segments with this many marks each, none set. NoMemory if out of memory.
 fn unmarked_segments(alloc: Global, count: u32, marks: u32) -> Result<Vec<SegmentMarks>, NoMemory>
     requires { marks ≤ 32768 }
     ensures { IfOk result (λ v. v.items ≡ replicate count (replicate marks false)) }
@@ -60,7 +60,7 @@ fn unmarked_segments(alloc: Global, count: u32, marks: u32) -> Result<Vec<Segmen
 }
 
 impl LiveMarks {
-    /// Takes the memory for all marks, none of which is set. NoMemory if memory is refused.
+    /// Takes the memory for all marks, none of which is set. NoMemory if out of memory.
     pub fn new(alloc: Global, geometry: Geometry) -> Result<LiveMarks, NoMemory>
         ensures { IfOk result (λ t. t ≡ no_marks geometry) }
     {

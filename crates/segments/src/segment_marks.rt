@@ -28,7 +28,7 @@ impl Model for SegmentMarks {
     ghost invariant = { λ a. AreMarkBits a.words.items a.len a.count };
 }
 
-/// Words for `count` bits, none set. NoMemory if memory is refused.
+/// Words for `count` bits, none set. NoMemory if out of memory.
 fn no_bits(alloc: Global, count: u32) -> Result<Vec<u64>, NoMemory>
     ensures none { IfOk result (λ v. bits_of count v.items ≡ replicate count false) }
     ensures enough { IfOk result (λ v. count ≤ 64 * length v.items) }
@@ -65,7 +65,7 @@ fn clear_bit(words: &mut Vec<u64>, n: u32)
 }
 
 impl SegmentMarks {
-    /// `count` marks, none set. NoMemory if memory is refused.
+    /// `count` marks, none set. NoMemory if out of memory.
     pub fn new(alloc: Global, count: u32) -> Result<SegmentMarks, NoMemory>
         requires { count ≤ 32768 }
         ensures { IfOk result (λ r. r ≡ replicate count false) }

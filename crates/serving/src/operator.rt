@@ -19,7 +19,7 @@ pub(crate) struct Watch {
 }
 
 impl Watch {
-    // None where standard error can't be watched, as where it is a file, which keeps no writer waiting.
+    // None if standard error can't be watched, as where it is a file, which keeps no writer waiting.
     pub(crate) fn new<H: Net>(rt: &H, alloc: Global) -> Option<Watch> {
         let poll = Poll::new(rt).ok()?;
         let events = Events::with_capacity(alloc, 1).ok()?;

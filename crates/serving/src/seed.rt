@@ -3,7 +3,7 @@
 use std::random::RandomSource;
 use std::time::{self, SystemTime, UNIX_EPOCH};
 
-/// The clock's nanoseconds since 1970, 0 where it can't be read.
+/// The clock's nanoseconds since 1970, 0 if it can't be read.
 fn nanoseconds<R: time::Clock>(rt: &R) -> u64 {
     let Ok(now) = SystemTime::now(rt) else {
         return 0;
@@ -14,7 +14,7 @@ fn nanoseconds<R: time::Clock>(rt: &R) -> u64 {
     }
 }
 
-/// Eight random bytes of the system's, or where it gives none its clock.
+/// Eight random bytes of the system's, or if it gives none its clock.
 pub fn seed_of<R: RandomSource + time::Clock>(rt: &R) -> u64 {
     let mut bytes = [0; 8];
     match rt.fill_bytes(&mut bytes) {

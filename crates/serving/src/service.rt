@@ -303,7 +303,7 @@ where
 /// # Errors
 ///
 /// CannotListen if the address is none, can't be bound or can't be watched; CannotWrite if the line of the address
-/// can't be printed; NoThread if the thread that accepts can't be started; Exchange if there is no memory for the
+/// can't be printed; NoThread if the thread that accepts can't be started; Exchange if out of memory for the
 /// exchange; Group if the group doesn't run, since a thread of it can't be started or it has no memory; NoMemory if
 /// memory is missing elsewhere.
 pub fn serve<H, W: Write>(

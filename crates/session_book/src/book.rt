@@ -27,7 +27,7 @@ pub const MAX_HIT: usize = 131_128;
 
 /// Keys of unsettled requests, over all sessions, above which one request at a time goes on. Up to then each key has a hit at
 /// most, and the last request one answer: so before they are put into outputs, their hits take no more than 40 MiB leniently, and
-/// strictly, where a line has 1,021 keys at most, no more than 160 MiB.
+/// strictly, if a line has 1,021 keys at most, no more than 160 MiB.
 pub const MAX_KEYS: usize = 255;
 
 /// Keys of unsettled requests, over all sessions, above which a session whose last answer was large is put off. So the others wait
@@ -85,7 +85,8 @@ impl Model for Book {
 
 impl Book {
     ghost use Rattle.session_book.specs.Book.{session_of, out_of, ChangesSession, Receives, FeedsHeldOf};
-    ghost use Rattle.session_book.specs.Book.{OnlyAt, IsKnown, NextAsk, Settles, IsUnemptied, IsFullest, IsWithinOutput, all_output};
+    ghost use Rattle.session_book.specs.Book.{OnlyAt, IsKnown, NextAsk, Settles, IsUnemptied, IsFullest};
+    ghost use Rattle.session_book.specs.Book.{IsWithinOutput, all_output};
 
     /// No session is open yet. The worker's number is kept for its owner.
     pub fn new(alloc: Global, worker: usize, dialect: Dialect) -> Self
@@ -383,7 +384,7 @@ impl Book {
         self.upkeep.reads_on
     }
 
-    /// Takes out the next session that is to be asked. One that was put off comes where no other is to be asked, or once as many
+    /// Takes out the next session that is to be asked. One that was put off comes if no other is to be asked, or once as many
     /// others as a window has requests went before it. From then on no other is asked until the unsettled requests have few keys,
     /// so that it doesn't wait for ever.
     pub fn next_to_ask(&mut self) -> Option<u64>

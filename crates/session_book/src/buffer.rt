@@ -35,6 +35,16 @@ impl Model for Buffer {
     ghost invariant = { λ a. a.start ≤ length a.bytes.items };
 }
 
+/// Takes the first `n` bytes out, and moves the others to the front. (`drain` fills a room on the stack with zeros first.)
+fn remove_front(bytes: &mut Vec<u8>, n: usize)
+    requires { n ≤ length bytes.old.items }
+    ensures { bytes.new.items ≡ drop n bytes.old.items }
+{
+    let left = bytes.len() - n;
+    bytes.copy_within(n.., 0);
+    bytes.truncate(left);
+}
+
 impl Buffer {
     pub fn new(alloc: Global) -> Self
         ensures { result ≡ [] }
@@ -138,7 +148,7 @@ impl Buffer {
             spares.keep(usage, mem::replace(&mut self.bytes, none));
             self.start = 0;
         } else if self.start >= left {
-            self.bytes.drain(..self.start);
+            remove_front(&mut self.bytes, self.start);
             self.start = 0;
             self.bytes.shrink_to(MAX_BUFFER);
         }

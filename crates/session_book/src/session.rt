@@ -34,13 +34,13 @@ const WORTH_GIVING: usize = 16_384;
 /// since no whole message has come, has the room.
 const WORTH_FEEDING: usize = 65_536;
 
-/// The bytes of an answer above which its session is asked after the others, where many keys are on their way.
+/// The bytes of an answer above which its session is asked after the others, if many keys are on their way.
 const LARGE_ANSWER: usize = 262_144;
 
 /// What is to be done with a session's output now.
 #[derive(Clone, Copy)]
 pub struct Offer<'a> {
-    /// The output, empty where it is none or where more is about to stand after it.
+    /// The output, empty if it is none or if more is about to stand after it.
     pub out: &'a [u8],
     /// Why it has ended, once all before that was answered and given.
     pub finished: Option<EndCause>,
@@ -84,7 +84,8 @@ impl Model for Session {
 }
 
 impl Session {
-    ghost use Rattle.session_book.specs.Session.{new_session, IsInputFull, once_fed, TakesPiece, FeedsHeld, ReadsNext, ReadsAsk};
+    ghost use Rattle.session_book.specs.Session.{new_session, IsInputFull, once_fed, TakesPiece, FeedsHeld};
+    ghost use Rattle.session_book.specs.Session.{ReadsNext, ReadsAsk};
     ghost use Rattle.session_book.specs.Session.{with_reply, gave, finished_by, once_over, HasReadAll, IsReady};
     ghost use Rattle.session_book.specs.Session.{IsEmptied, Stops};
 
@@ -236,7 +237,7 @@ impl Session {
         self.ended.is_some() || self.input.kept().len() <= MAX_UNREAD - WORTH_FEEDING
     }
 
-    /// Gives the first request of the queue its reply. Where there is no memory for the bytes the session is of no further
+    /// Gives the first request of the queue its reply. If there is no memory for the bytes the session is of no further
     /// use.
     pub fn settle(
         &mut self,
@@ -395,7 +396,7 @@ fn cause_of(message: &Message) -> Option<EndCause>
     }
 }
 
-/// Puts a message after the queue, or answers it at once where nothing is before it.
+/// Puts a message after the queue, or answers it at once if nothing is before it.
 fn put_behind(
     queue: &mut VecDeque<PendingAnswer>,
     out: &mut Buffer,

@@ -153,7 +153,7 @@ impl Upkeep {
         }
     }
 
-    /// Reserves memory for this number of additional sessions in each queue, twice as much as needed where there is too little.
+    /// Reserves memory for this number of additional sessions in each queue, twice as much as needed if there is too little.
     pub(crate) fn reserve(&mut self, additional: usize) -> Result<(), AllocError> {
         for queue in &mut self.queues {
             if queue
@@ -174,7 +174,7 @@ impl Upkeep {
     }
 
     /// Puts a session into the queue of the task, unless it stands in that of its ticket. The ticket's number is 0, which is
-    /// none, where there is no memory.
+    /// none, if out of memory.
     pub(crate) fn add(&mut self, task: Task, session: u64, ticket: &mut Ticket) {
         if self.has(*ticket) {
             return;

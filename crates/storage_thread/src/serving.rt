@@ -1,12 +1,14 @@
 //! The loop of the storage thread.
 
-ghost use Rattle.std.specs.Prelude.{◌≡◌, ℕ, ◌+◌, ◌-◌, ◌^◌, ◌<◌, ◌≤◌, map, min, length, All, Some, None, true, false, IsSome, MatchOption, []};
+ghost use Rattle.std.specs.Prelude.{◌≡◌, ℕ, ◌+◌, ◌-◌, ◌^◌, ◌<◌, ◌≤◌, map, min, length, All, Some, None, true, false};
+ghost use Rattle.std.specs.Prelude.{IsSome, MatchOption, []};
 ghost use Rattle.std.specs.Option.{IfNone};
 ghost use Rattle.proto.specs.Cache.{empty_cache};
 ghost use Rattle.proto.specs.History.{max_moment, answers_by, worker_share, Legal, RefusesBy};
 ghost use Rattle.proto.specs.Tallies.{no_counts, counts_after};
 ghost use Rattle.engine.specs.Reaching.{Reaches};
-ghost use Rattle.storage_thread.specs.Serving.{AsksClock, IsReadSince, IsTimed, taken_as, SaidBye, IsUnused, IsSameExchange};
+ghost use Rattle.storage_thread.specs.Serving.{AsksClock, IsReadSince, IsTimed, taken_as, SaidBye, IsUnused};
+ghost use Rattle.storage_thread.specs.Serving.{IsSameExchange};
 ghost use Rattle.storage_thread.specs.Serving.{GetsNone, GetsMessage, AnswersOpenRequest};
 ghost use Rattle.storage_thread.specs.Keeping.{LeadsKeeping, MayAlwaysForgetNothing};
 
@@ -22,7 +24,7 @@ use std::time;
 /// The workers are told of their answers at least at each so many.
 const ANSWERS_A_FLUSH: u64 = 8;
 
-/// The idle turns in a row in which it spins before it parks, where the signals say no time: two microseconds.
+/// The idle turns in a row in which it spins before it parks, if the signals say no time: two microseconds.
 const IDLE_TURNS: u32 = 10;
 
 /// The most messages for which storage reads ahead at once: their slots and items come from memory at the same time.

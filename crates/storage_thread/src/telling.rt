@@ -58,6 +58,7 @@ impl<'a, R: Clock> Telling<'a, R> {
     }
 
     // These counts, and the gauges, for a worker that asks.
+    #[inline(never)]
     #[tactic(auto, unfolding(proto::specs::StatTexts::names_gauge, proto::specs::StatTexts::count_lines, proto::specs::StatTexts::total_lines, proto::specs::StatTexts::tally_lines))]
     fn text<S: StorageEngine>(
         &self,
@@ -90,6 +91,7 @@ impl<'a, R: Clock> Telling<'a, R> {
     }
 
     /// The reply to a request of the worker, to which the store replied so, if these are the counts before it.
+    #[inline(always)]
     pub fn reply<S: StorageEngine>(
         &self,
         counts: &Counts,

@@ -236,6 +236,21 @@ fn a_key_is_read_ahead(rt: HostRuntime) -> Result<(), Fail> {
     Ok(())
 }
 
+/// What is read ahead for two keys at once is the sum of what is read for each: its slot and its item.
+#[test]
+fn two_keys_are_read_ahead(rt: HostRuntime) -> Result<(), Fail> {
+    let geometry = Geometry::new(65_536, 8)?;
+    let mut shelf = Shelf::new(rt.alloc(), geometry, 77)?;
+    check_same(&rt, shelf.put(b"alpha", b"value", 9), true, "alpha");
+    check_same(&rt, shelf.put(b"beta", b"value", 30), true, "beta");
+    let alpha = shelf.read_ahead(b"alpha");
+    let beta = shelf.read_ahead(b"beta");
+    check_same(&rt, (alpha > 0, beta > 0), (true, true), "each");
+    let both = shelf.read_ahead_for_both(b"alpha", b"beta");
+    check_same(&rt, both, alpha.wrapping_add(beta), "both");
+    Ok(())
+}
+
 /// Writes the keys below a count, each with its number, and for the next one there is no room.
 fn check_filling(rt: &impl Abort, shelf: &mut Shelf, keys: u64) {
     for n in 0..keys {

@@ -88,6 +88,12 @@ impl Shelf {
         self.index.prefetch(&self.pool, &[self.hash_of(key)])
     }
 
+    /// What the index reads ahead for both keys at once.
+    pub fn read_ahead_for_both(&self, first: &[u8], second: &[u8]) -> u64 {
+        let hashes = [self.hash_of(first), self.hash_of(second)];
+        self.index.prefetch(&self.pool, &hashes)
+    }
+
     /// Takes the key out.
     pub fn delete(&mut self, key: &[u8]) -> bool {
         let Some(place) = self.index.look_up(&self.pool, key) else {

@@ -243,6 +243,33 @@ fn a_session_with_smaller_answers_is_not_put_off(rt: HostRuntime) -> Result<(), 
     asked
 }
 
+/// Up to 1 MiB of output is little, over all sessions.
+fn check_little(rt: &impl Abort, player: &mut Player, given: &mut Vec<u8>) -> Result<(), Fail> {
+    for session in 1..=2 {
+        player.open(session)?;
+        player.feed(session, b"stats\r\n")?;
+        check_ask(rt, player, session, Some(session))?;
+    }
+    check_same(rt, player.has_little_output(), true, "without output");
+    player.settle_stats(1_048_576)?;
+    check_same(rt, player.has_little_output(), true, "1 MiB");
+    player.settle_stats(5)?;
+    check_same(rt, player.has_little_output(), false, "above 1 MiB");
+    player.give(2, given)?;
+    check_same(rt, player.has_little_output(), true, "1 MiB again");
+    Ok(())
+}
+
+#[test]
+fn above_1_mib_output_is_not_little(rt: HostRuntime) -> Result<(), Fail> {
+    let mut player = Player::new(rt.alloc(), Dialect::Lenient, None);
+    let mut given: Vec<u8> = Vec::new(rt.alloc());
+    let checked = check_little(&rt, &mut player, &mut given);
+    drop(given);
+    drop(player);
+    checked
+}
+
 fn check_known(rt: &impl Abort, book: &mut Book, sessions: &[u64]) {
     for session in sessions {
         check_open(rt, book, *session, Err(OpenFault::Known));

@@ -204,7 +204,7 @@ fn lanes_are_looked_at_in_turn(rt: HostRuntime) -> Result<(), Fail> {
     checked
 }
 
-/// How many ends of workers are made, and how many of them storage knows; None where the count is bad.
+/// How many ends of workers are made, and how many of them storage knows; None if the count is bad.
 fn made_counts(alloc: Global, workers: usize) -> Result<Option<(usize, usize)>, MakeFault> {
     match made(alloc, workers) {
         Ok(lanes) => {

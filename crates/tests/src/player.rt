@@ -96,6 +96,10 @@ impl Player {
         self.book.out(session).len()
     }
 
+    pub fn has_little_output(&self) -> bool {
+        self.book.has_little_output()
+    }
+
     pub fn has_output(&self, session: u64, output: &str) -> bool {
         self.book.out(session) == output.as_bytes()
     }

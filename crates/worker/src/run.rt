@@ -60,7 +60,7 @@ fn take_event<P: Port, R: Clock>(rt: &R, worker: &mut Worker<P>, pauses: &mut Pa
 }
 
 /// Takes what has come, in a few events, and asks at once what they bring: what a session has sent is asked before it is
-/// taken that its peer has gone. Where a session can't be asked further, few are taken, and storage doesn't wait for them.
+/// taken that its peer has gone. If a session can't be asked further, few are taken, and storage doesn't wait for them.
 fn take_events<P: Port, G: Gate, R: Clock>(
     rt: &R,
     worker: &mut Worker<P>,
@@ -121,7 +121,7 @@ fn ask_session<P: Port, G: Gate>(
     worker.state.book.ask_later(session);
 }
 
-/// Asks the sessions in turn, as long as requests can be asked. False where none was asked.
+/// Asks the sessions in turn, as long as requests can be asked. False if none was asked.
 fn ask_sessions<P: Port, G: Gate>(
     worker: &mut Worker<P>,
     gate: &G,
@@ -187,7 +187,7 @@ fn limit_output<P: Port>(worker: &mut Worker<P>) -> bool
     moved
 }
 
-/// One turn. False where there was nothing to do. It posts the held request, then what has come and what fits by now. Storage
+/// One turn. False if there was nothing to do. It posts the held request, then what has come and what fits by now. Storage
 /// knows of all of it before the answers are looked for, so nothing is kept back while the worker waits.
 fn take_turn<P: Port, G: Gate, R: Clock>(
     rt: &R,
@@ -236,7 +236,7 @@ fn has_drained<P: Port>(worker: &mut Worker<P>) -> bool
 /// Serves a port until it has ended and all was answered and given, and then says bye.
 ///
 /// The end has sent nothing yet, and the list of a port that tells it is empty. It may wait: for events, for answers and for a
-/// port that accepts no bytes. Where it has posted, it unparks the storage thread, which parks on a word of the signals.
+/// port that accepts no bytes. If it has posted, it unparks the storage thread, which parks on a word of the signals.
 pub fn run_worker<P: Port, G: Gate, R: Wait + Clock>(
     rt: &R,
     alloc: Global,

@@ -104,7 +104,7 @@ impl<P: Port> WorkerState<P> {
     }
 }
 
-/// A worker. Contracts see it as its state, of which all parts agree between its steps, with the port's trace too where the
+/// A worker. Contracts see it as its state, of which all parts agree between its steps, with the port's trace too if the
 /// port tells it.
 #[derive(Drop)]
 pub(crate) struct Worker<P: Port> {
@@ -156,7 +156,7 @@ impl<P: Port> Worker<P> {
             && self.state.book.is_idle()
     }
 
-    /// One event of the port, for which it may wait or not, unless it has ended. False where there was no event.
+    /// One event of the port, for which it may wait or not, unless it has ended. False if there was no event.
     pub(crate) fn take_event(&mut self, may_wait: bool) -> bool
         ensures { Continues P.told P.leads_to self.old self.new }
     {
@@ -197,7 +197,7 @@ impl<P: Port> Worker<P> {
         }
     }
 
-    /// Reads up to the session's next request, which is held until it is posted. True where none is left for now.
+    /// Reads up to the session's next request, which is held until it is posted. True if none is left for now.
     fn ask(&mut self, session: u64) -> bool
         requires { self.old.request ≡ None }
         ensures { Continues P.told P.leads_to self.old self.new }
@@ -229,7 +229,7 @@ impl<P: Port> Worker<P> {
             || (self.state.batch.outstanding() > 0 && self.state.book.is_crowded())
     }
 
-    /// Reads the session's next request and posts it, unless it is put off. True where another one may be asked now. Where there
+    /// Reads the session's next request and posts it, unless it is put off. True if another one may be asked now. If there
     /// may be one that can't be asked now, the session is asked again later.
     pub(crate) fn ask_and_post<G: Gate>(
         &mut self,
@@ -300,7 +300,7 @@ impl<P: Port> Worker<P> {
         }
     }
 
-    /// Takes the next answer and settles it. False where there is none.
+    /// Takes the next answer and settles it. False if there is none.
     pub(crate) fn settle_next<G: Gate>(&mut self, gate: &G) -> bool
         ensures { Continues P.told P.leads_to self.old self.new }
     {
@@ -318,7 +318,7 @@ impl<P: Port> Worker<P> {
         true
     }
 
-    /// Offers the session's output in one call, where it is worth it. It answers whether that changed anything, and whether
+    /// Offers the session's output in one call, if it is worth it. It answers whether that changed anything, and whether
     /// the session has finished.
     fn offer(&mut self, session: u64) -> (bool, Option<EndCause>)
         ensures goes_on { Continues P.told P.leads_to self.old self.new }
@@ -339,7 +339,7 @@ impl<P: Port> Worker<P> {
         }
     }
 
-    /// Offers the output of the next session that is to be taken up for the task, and shuts it where it has finished.
+    /// Offers the output of the next session that is to be taken up for the task, and shuts it if it has finished.
     pub(crate) fn give_next(&mut self, task: Task) -> bool
         ensures { Continues P.told P.leads_to self.old self.new }
     {
@@ -351,7 +351,7 @@ impl<P: Port> Worker<P> {
         moved || finished
     }
 
-    /// Shuts the session with the most output, where so much waits over all sessions that there is no room for it.
+    /// Shuts the session with the most output, if so much waits over all sessions that there is no room for it.
     pub(crate) fn shut_fullest(&mut self) -> bool
         ensures { Continues P.told P.leads_to self.old self.new }
     {

@@ -42,7 +42,7 @@ fn asked(
     answer(alloc, store, 1000, request.as_str())
 }
 
-/// The bytes of the hits that an answer shows, or None where it says that memory was refused.
+/// The bytes of the hits that an answer shows, or None if it says that memory was refused.
 fn hits_in(text: &[u8]) -> Result<Option<usize>, Fail> {
     if text == b"SERVER_ERROR out of memory\r\n".as_slice() {
         return Ok(None);
@@ -110,7 +110,7 @@ fn hit_length(alloc: Global, verb: &str, length: usize) -> Result<usize, AllocEr
     Ok(line.len().saturating_add(length).saturating_add(2))
 }
 
-/// The bytes of `count` hits of this length, or None where they are refused.
+/// The bytes of `count` hits of this length, or None if they are refused.
 fn wanted(dialect: Dialect, hit: usize, count: usize) -> Option<usize> {
     let all = hit.saturating_mul(count);
     if dialect == Dialect::Lenient && all > MAX_ANSWER {

@@ -205,7 +205,7 @@ fn one_item_too_many(rt: HostRuntime) -> Result<(), Fail> {
 type Found = Option<(u8, u64)>;
 
 /// A random key is deleted, or given a value of at most a length if that is within what is left of the bound. Gives
-/// what is left then, and None where it isn't.
+/// what is left then, and None if it isn't.
 fn push_turn(
     alloc: Global,
     script: &mut Script,

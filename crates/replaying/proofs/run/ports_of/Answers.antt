@@ -30,7 +30,8 @@ loop-script-preserved c =
     ) in record {
       left = append_assoc y (x ∷ []) c.next.new.self.rest.items ∙ ap (λ l. y ++ l) (sym c.in-Some.ensures.steps.0)
           ∙ i.left;
-      ported = subst (ArePorts c.args.geometry c.args.options.now.dialect c.args.exchange.now.id accept fail_give (y ++ x ∷ [])) (sym c.in_ok-push.ensures.items)
+      ported = subst (ArePorts c.args.geometry c.args.options.now.dialect c.args.exchange.now.id accept fail_give (y ++ x ∷ []))
+          (sym c.in_ok-push.ensures.items)
           (ports_more c.args.geometry c.args.options.now.dialect c.args.exchange.now.id accept fail_give y c.loop-script.ports.items x
           port i.ported is);
     }

@@ -1,19 +1,22 @@
-use Rattle.std.proofs.Common.{◌≡◌, ◌-◌, Bool, length, take, sym, ap, ◌∙◌}
+use Rattle.std.proofs.Common.{◌≡◌, ◌+◌, ◌-◌, Bool, length, take, sym, ap, ◌∙◌}
 use Rattle.std.specs.Prelude.{if◌then◌else◌}
 use Rattle.std.proofs.lemmas.Bool.{ne_eqb}
 use Rattle.segments.specs.Inside.{shown_segments}
 use Rattle.segments.specs.Pools.{chain_in, lasting}
-use Rattle.segments.proofs.FrontLemmas.{first_four, same_opening, front_cut}
+use Rattle.segments.specs.Merges.{most_merged}
+use Rattle.segments.proofs.FrontLemmas.{first_most, same_opening, front_cut}
 use Rattle.segments.proofs.merge.find_front.Goals as goal
 
 pub returns-then-bucket-ne-LASTING-clause-items : goal.returns-then-bucket-ne-LASTING-clause-items
 returns-then-bucket-ne-LASTING-clause-items c =
     let us = shown_segments c.args.segments.now in
     let chain = chain_in us c.args.order.now c.args.bucket in
-    let popped : c.pop.new.self.items ≡ first_four chain = c.pop.ensures.rest
+    let most = most_merged c.args.eviction in
+    let popped : c.pop.new.self.items ≡ first_most most chain = c.pop.ensures.rest
     ∙ ap (λ n. take (n - 1) c.find_first.new.front.items) c.find_first.new.front.ok.0
-    ∙ ap (λ xs. take (length xs - 1) xs) c.find_first.ensures.items in
+    ∙ ap (λ xs. take (length xs - 1) xs) c.find_first.ensures.items
+    ∙ ap (λ k. take (length (take (k + 1) chain) - 1) (take (k + 1) chain)) c.most_merged-most.ensures.most in
     c.keep_same_opening.ensures.items ∙ ap (same_opening us) popped
-    ∙ ap (λ (b : Bool). if b then first_four chain else same_opening us (first_four chain))
+    ∙ ap (λ (b : Bool). if b then first_most most chain else same_opening us (first_most most chain))
     (sym (ne_eqb c.args.bucket lasting c.if-bucket-ne-LASTING.true))
-    ∙ front_cut us c.args.bucket chain
+    ∙ front_cut most us c.args.bucket chain

@@ -7,16 +7,14 @@ use Rattle.segments.specs.Inside.{shown_segments}
 use Rattle.segments.specs.Starts.{AreRests, with_front}
 use Rattle.segments.proofs.MateLemmas.{IsFound, rests_more, rests_same, found_same, found_here, free_mate, no_mate}
 use Rattle.segments.proofs.merge.find_mates.Goals as goal
-use Rattle.segments.proofs.merge.find_mates.Goals.{else-place-high-via-then-place-high+else-has_mate, else-place-high-via-else-place-high}
+use Rattle.segments.proofs.merge.find_mates.Goals.{else-place-looked-via-then-place-looked+else-has_mate, else-place-looked-via-else-place-looked}
 
 pub loop-place-init : goal.loop-place-init
 loop-place-init c =
     let us = shown_segments c.args.segments.now in
     let order = c.args.order.now in
-    let most = c.requires.looked.1 in
-    let least = c.requires.looked.0 in
+    let most = c.requires.looked in
     record {
-      within = omega (arith, least, most);
       count = c.clear_rests.ensures.count;
       rests = subst (λ xs. AreRests us xs c.clear_rests.new.rests.items) (sym (drop-length order))
           (c.clear_rests.ensures.rests us);
@@ -44,18 +42,17 @@ loop-place-preserved-then-has_mate c =
     c.with_front.ensures ∙ ap (λ r. with_front r o.moment) read in
     let a = subst (λ n. AreRests us (drop n order) T.items) up c.loop-place.invariant.rests in
     let mate = sym c.has_mate.ensures ∙ c.if-has_mate.true in
-    let near = c.if-place-high.true in
+    let near = c.if-place-looked.true in
     record {
-      within = omega (arith, some);
       count = count;
       rests = subst (λ r. AreRests us (drop k order) (set T.items o.bucket r)) (sym next)
           (rests_more c.args.segments.now order T.items k _ o lt known c.in-Some.is (omega (arith, long, count)) small a);
-      found = found_here c.args.segments.now order T.items k c.args.high _ o c.index-rest.result.now lt known c.in-Some.is
+      found = found_here c.args.segments.now order T.items k c.args.looked _ o c.index-rest.result.now lt known c.in-Some.is
           small a read mate (omega (arith, near));
     }
 
-pub loop-place-preserved-else-place-high : goal.loop-place-preserved-else-place-high
-loop-place-preserved-else-place-high c =
+pub loop-place-preserved-else-place-looked : goal.loop-place-preserved-else-place-looked
+loop-place-preserved-else-place-looked c =
     let us = shown_segments c.args.segments.now in
     let order = c.args.order.now in
     let k = c.loop-place.place - 1 in
@@ -74,20 +71,19 @@ loop-place-preserved-else-place-high c =
     let next : c.with_front.result ≡ with_front (get_or T.items o.bucket Nothing) o.moment =
     c.with_front.ensures ∙ ap (λ r. with_front r o.moment) read in
     let a = subst (λ n. AreRests us (drop n order) T.items) up c.loop-place.invariant.rests in
-    let f = subst (λ n. IsFound us order n c.args.high c.loop-place.found) up c.loop-place.invariant.found in
+    let f = subst (λ n. IsFound us order n c.args.looked c.loop-place.found) up c.loop-place.invariant.found in
     record {
-      within = omega (arith, some);
       count = count;
       rests = subst (λ r. AreRests us (drop k order) (set T.items o.bucket r)) (sym next)
           (rests_more c.args.segments.now order T.items k _ o lt known c.in-Some.is (omega (arith, long, count)) small a);
-      found = elim c.else-place-high.branch [
-        | else-place-high-via-then-place-high+else-has_mate w ↦
-            found_same us order k c.args.high c.loop-place.found
+      found = elim c.else-place-looked.branch [
+        | else-place-looked-via-then-place-looked+else-has_mate w ↦
+            found_same us order k c.args.looked c.loop-place.found
             (λ _. no_mate c.args.segments.now order T.items k _ o c.index-rest.result.now lt known c.in-Some.is small a read
             (sym w.has_mate.ensures ∙ w.if-has_mate.false)) f
-        | else-place-high-via-else-place-high w ↦
-            (let far = w.if-place-high.false in
-            found_same us order k c.args.high c.loop-place.found (λ less. absurd (omega (arith, far, less))) f)
+        | else-place-looked-via-else-place-looked w ↦
+            (let far = w.if-place-looked.false in
+            found_same us order k c.args.looked c.loop-place.found (λ less. absurd (omega (arith, far, less))) f)
       ];
     }
 
@@ -102,12 +98,11 @@ loop-place-preserved c =
     let lt : k < length order = omega (arith, some, most) in
     let known = c.requires.in_range k 0 lt in
     let a = subst (λ n. AreRests us (drop n order) c.loop-place.rests.items) up c.loop-place.invariant.rests in
-    let f = subst (λ n. IsFound us order n c.args.high c.loop-place.found) up c.loop-place.invariant.found in
+    let f = subst (λ n. IsFound us order n c.args.looked c.loop-place.found) up c.loop-place.invariant.found in
     record {
-      within = omega (arith, some);
       count = c.loop-place.invariant.count;
       rests = rests_same c.args.segments.now order c.loop-place.rests.items k _ lt known c.in_default.is a;
-      found = found_same us order k c.args.high c.loop-place.found
+      found = found_same us order k c.args.looked c.loop-place.found
           (λ _. free_mate c.args.segments.now order k _ known c.in_default.is) f;
     }
 
@@ -115,6 +110,5 @@ pub returns-clause-next : goal.returns-clause-next
 returns-clause-next c =
     let us = shown_segments c.args.segments.now in
     let past = c.loop-place-test.false in
-    let within = c.loop-place.invariant.within in
-    let done : c.loop-place.place ≡ c.args.low = omega (arith, past, within) in
-    subst (λ n. IsFound us c.args.order.now n c.args.high c.loop-place.found) done c.loop-place.invariant.found
+    let done : c.loop-place.place ≡ 0 = omega (arith, past) in
+    subst (λ n. IsFound us c.args.order.now n c.args.looked c.loop-place.found) done c.loop-place.invariant.found

@@ -1,4 +1,4 @@
-use Rattle.std.proofs.Common.{◌≡◌, ◌≤◌, drop, vec_len}
+use Rattle.std.proofs.Common.{◌≡◌, drop, vec_len}
 use Rattle.segments.specs.Inside.{shown_segments}
 use Rattle.segments.specs.Pools.{bucket_count}
 use Rattle.segments.specs.Starts.{AreRests}
@@ -7,8 +7,7 @@ use Rattle.segments.proofs.merge.find_mates.Given as goal
 
 abbrev pub invariant-loop-place : goal.invariant-loop-place
 invariant-loop-place l = record {
-  within : l.low ≤ l.place;
   count : vec_len l.rests ≡ bucket_count;
   rests : AreRests (shown_segments l.segments) (drop l.place l.order) l.rests.items;
-  found : IsFound (shown_segments l.segments) l.order l.place l.high l.found;
+  found : IsFound (shown_segments l.segments) l.order l.place l.looked l.found;
 }

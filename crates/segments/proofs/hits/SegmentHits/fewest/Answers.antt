@@ -2,7 +2,7 @@ use Rattle.std.proofs.Common.{◌≡◌, ◌+◌, ◌<◌, ◌∷◌, ◌++◌, 
 use Rattle.std.specs.Prelude.{All}
 use Rattle.std.proofs.lemmas.List.{get_or_default, take_more}
 use Rattle.std.proofs.lemmas.List.Elements.{All-head, All-tail, All-cons, All-take}
-use Rattle.segments.specs.Hits.{HitCounts, hits_of, IsFewest}
+use Rattle.segments.specs.Hits.{HitCounts, segment_hits, IsFewest}
 use Rattle.segments.proofs.HitLemmas.{fewest_one, fewest_less, fewest_more, fewest_among}
 use Rattle.segments.proofs.hits.SegmentHits.fewest.Goals as goal
 use Rattle.segments.proofs.hits.SegmentHits.fewest.Goals.{then-index, else-index}
@@ -54,9 +54,9 @@ loop-number-preserved c =
     let new = All-tail P first others all k 0 c.loop-number-test.true in
     let same = ap (λ (g : HitCounts). length g.counts) c.self.view_is in
     let counts : xs ≡ h.counts = ap (λ (g : HitCounts). g.counts) c.self.view_is in
-    let at_new : c.index.result.now ≡ hits_of h m = c.index.ensures
+    let at_new : c.index.result.now ≡ segment_hits h m = c.index.ensures
     ∙ get_or_default xs m _ 0 (omega (arith, new, same)) ∙ ap (λ ys. get_or ys m 0) counts in
-    let at_old : c.index-in-loop-number.result.now ≡ hits_of h n = c.index-in-loop-number.ensures
+    let at_old : c.index-in-loop-number.result.now ≡ segment_hits h n = c.index-in-loop-number.ensures
     ∙ get_or_default xs n _ 0 (omega (arith, old, same)) ∙ ap (λ ys. get_or ys n 0) counts in
     let more : (first ∷ some) ++ m ∷ [] ≡ first ∷ take (k + 1) others =
     ap (λ ys. first ∷ ys) (sym (take_more others k 0 c.loop-number-test.true)) in

@@ -1,3 +1,4 @@
+use Rattle.std.proofs.lemmas.Option.{none-some}
 use Rattle.segments.proofs.PoolLemmas.{pool_kept}
 use Rattle.segments.proofs.pool.Pool.evict_by.Goals as goal
 
@@ -14,15 +15,7 @@ invariant_of-self c =
       order_room = i.order_room;
       free_room = i.free_room;
       merge_room = i.merge_room;
-      sound = λ b h.
-          (let s = i.sound b h in
-          record {
-            in_range = s.in_range;
-            qualifying = s.qualifying;
-            merged_are = s.merged_are;
-            sources = s.sources;
-            fits = s.fits;
-          });
+      sound = λ b h. absurd (none-some b h);
     }
 
 pub returns-clause-pool : goal.returns-clause-pool

@@ -79,7 +79,6 @@ returns-clause-overwritten c =
       segments = us;
       order = a.order.items;
       cursor = a.cursor;
-      hand = a.hand;
       plan = None;
       eviction = a.eviction;
       hits = c.count.new.self;

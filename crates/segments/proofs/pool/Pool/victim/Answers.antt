@@ -1,9 +1,9 @@
-use Rattle.std.proofs.Common.{◌≡◌, ◌<◌, ◌-◌, ℕ, List, [], length, take, drop, sym, ap, subst, ◌∙◌, arith}
+use Rattle.std.proofs.Common.{◌≡◌, ◌<◌, ℕ, List, [], length, take, sym, ap, subst, ◌∙◌, arith}
 use Rattle.std.specs.Prelude.{All, IfSome, IsSome, MatchOption}
-use Rattle.std.proofs.lemmas.List.Elements.{All-take, All-drop, All-weaker}
+use Rattle.std.proofs.lemmas.List.Elements.{All-take, All-weaker}
 use Rattle.segments.specs.Pools.{segment_at}
 use Rattle.segments.specs.Hits.{IsFewest}
-use Rattle.segments.specs.Merges.{IsVictim, looked_from, looked_to}
+use Rattle.segments.specs.Merges.{IsVictim, look_count}
 use Rattle.segments.specs.Inside.{pool_of}
 use Rattle.segments.proofs.PoolLemmas.{order_inside, pool_kept}
 use Rattle.segments.proofs.InTimeLemmas.{if_fewest, looked_victim}
@@ -15,33 +15,27 @@ fewest-requires c =
     let count = c.self.invariant.count in
     let hits = c.self.invariant.hit_count in
     let P : ℕ → Type 0 = λ n. n < length a.hits.counts in
-    let low = c.looked-from.result.0 in
-    let high = c.looked-from.result.1 in
-    All-take P (high - low) (drop low c.deref.result.now) (All-drop P low c.deref.result.now
+    All-take P c.look_count-looked.result c.deref.result.now
     (subst (All P) (sym c.deref.ensures.value)
     (All-weaker (λ n. n < length a.segments.items) P (λ n lt. omega (arith, lt, count, hits)) a.order.items
-    (order_inside a c.self.invariant))))
+    (order_inside a c.self.invariant)))
 
 pub returns-in-LeastRead-clause-victim : goal.returns-in-LeastRead-clause-victim
 returns-in-LeastRead-clause-victim c =
     let a = c.self.inside in
     let p = pool_of a in
-    let low = c.looked-from.result.0 in
-    let high = c.looked-from.result.1 in
-    let F : ℕ → ℕ → List ℕ → Type 0 =
-    λ l h xs. MatchOption c.fewest.result (take (h - l) (drop l xs) ≡ []) (IsFewest a.hits (take (h - l) (drop l xs))) in
-    let x = subst (F low high) c.deref.ensures.value c.fewest.ensures in
-    let y = subst (λ l. F l high a.order.items) (c.looked-from.ensures.from ∙ ap looked_from (sym c.self.view_is)) x in
-    let z = subst (λ h. F (looked_from p) h a.order.items) (c.looked-from.ensures.to ∙ ap looked_to (sym c.self.view_is)) y in
+    let k = c.look_count-looked.result in
+    let F : ℕ → List ℕ → Type 0 = λ h xs. MatchOption c.fewest.result (take h xs ≡ []) (IsFewest a.hits (take h xs)) in
+    let x = subst (F k) c.deref.ensures.value c.fewest.ensures in
+    let y = subst (λ h. F h a.order.items) (c.look_count-looked.ensures.value ∙ ap look_count (sym c.self.view_is)) x in
     subst (λ q. MatchOption c.fewest.result (q.order ≡ []) (IsVictim q)) c.self.view_is
-    (looked_victim p c.fewest.result (pool_kept a c.self.invariant) c.in-LeastRead.is z)
+    (looked_victim p c.fewest.result (pool_kept a c.self.invariant) c.in-LeastRead.is y)
 
 pub returns-in-LeastRead-clause-in_chain : goal.returns-in-LeastRead-clause-in_chain
 returns-in-LeastRead-clause-in_chain c =
     let a = c.self.inside in
-    let low = c.looked-from.result.0 in
-    let k = c.looked-from.result.1 - low in
-    let found = subst (λ xs. MatchOption c.fewest.result (take k (drop low xs) ≡ []) (IsFewest a.hits (take k (drop low xs))))
+    let k = c.look_count-looked.result in
+    let found = subst (λ xs. MatchOption c.fewest.result (take k xs ≡ []) (IsFewest a.hits (take k xs)))
     c.deref.ensures.value c.fewest.ensures in
     subst (λ p. IfSome c.fewest.result (λ n. IsSome (segment_at p n))) c.self.view_is
-    (if_fewest (pool_of a) (take k (drop low a.order.items) ≡ []) k low c.fewest.result (pool_kept a c.self.invariant) found)
+    (if_fewest (pool_of a) (take k a.order.items ≡ []) k c.fewest.result (pool_kept a c.self.invariant) found)

@@ -30,8 +30,8 @@ pub const MAX_HIT: usize = 131_128;
 /// strictly, if a line has 1,021 keys at most, no more than 160 MiB.
 pub const MAX_KEYS: usize = 255;
 
-/// Keys of unsettled requests, over all sessions, above which a session whose last answer was large is put off. So the others wait
-/// for one large answer at a time.
+/// Keys of unsettled requests, over all sessions, above which a `get` is put off whose answer may be large. So the others wait for
+/// one large answer at a time.
 pub const MANY_UNSETTLED: usize = 128;
 
 /// Bytes of waiting output, over all sessions, above which the session with the most is closed, unless no other has any.
@@ -219,14 +219,14 @@ impl Book {
         }
         self.unsettled.pop_front();
         let Some(place) = find(&self.sessions, session, &mut self.upkeep.place) else {
-            self.upkeep.settled(answered);
+            self.upkeep.settled(answered, 0);
             return Settled::Dropped;
         };
         let (_, open) = self.sessions.pair_mut(place);
         let kept = open.settle(session, &mut answered.reply, &mut self.upkeep);
-        self.upkeep.settled(answered);
+        self.upkeep.settled(answered, kept.unwrap_or(0));
         match kept {
-            Ok(()) => Settled::Kept,
+            Ok(_) => Settled::Kept,
             Err(NoMemory) => {
                 self.sessions.swap_remove(&session);
                 Settled::Starved
@@ -327,7 +327,8 @@ impl Book {
         }
     }
 
-    /// Whether the session's last answer was large, and it is asked later, as the unsettled requests have many keys.
+    /// Whether the session is asked later: the answer to the `get` that is read next may be large, and the unsettled requests have
+    /// many keys.
     pub fn put_off(&mut self, session: u64) -> bool
         ensures { self.new ≡ self.old }
     {

@@ -34,9 +34,6 @@ const WORTH_GIVING: usize = 16_384;
 /// since no whole message has come, has the room.
 const WORTH_FEEDING: usize = 65_536;
 
-/// The bytes of an answer above which its session is asked after the others, if many keys are on their way.
-const LARGE_ANSWER: usize = 262_144;
-
 /// What is to be done with a session's output now.
 #[derive(Clone, Copy)]
 pub struct Offer<'a> {
@@ -58,8 +55,6 @@ pub struct Session {
     held: Option<Bytes>,
     /// No more input comes.
     is_over: bool,
-    /// Whether its last answer was large.
-    was_large: bool,
     tickets: Tickets,
 }
 
@@ -100,7 +95,6 @@ impl Session {
             ended: None,
             held: None,
             is_over: false,
-            was_large: false,
             tickets: Tickets::none(),
         }
     }
@@ -237,31 +231,30 @@ impl Session {
         self.ended.is_some() || self.input.kept().len() <= MAX_UNREAD - WORTH_FEEDING
     }
 
-    /// Gives the first request of the queue its reply. If there is no memory for the bytes the session is of no further
-    /// use.
+    /// Gives the first request of the queue its reply. It answers how many bytes of output that made. If there is no memory for
+    /// them the session is of no further use.
     pub fn settle(
         &mut self,
         session: u64,
         reply: &mut Reply,
         upkeep: &mut Upkeep,
-    ) -> Result<(), NoMemory>
+    ) -> Result<usize, NoMemory>
         requires { 0 < length (asks self.old.queue) }
         ensures ok { OnOk result (self.new ≡ with_reply self.old reply.old) }
         ensures silent { said self.old.queue (reply.old ∷ []) ≡ [] → IsOk result }
     {
         let before = self.output.len();
-        let answered = answer_first(&mut self.queue, reply, &mut self.output, upkeep);
-        match answered {
+        match answer_first(&mut self.queue, reply, &mut self.output, upkeep) {
             Ok(()) => {
-                self.was_large = self.output.len().saturating_sub(before) > LARGE_ANSWER;
                 upkeep.add(Task::Give, session, &mut self.tickets.give);
+                Ok(self.output.len().saturating_sub(before))
             }
             Err(NoMemory) => {
                 self.queue.clear();
                 self.forget(upkeep);
+                Err(NoMemory)
             }
         }
-        answered
     }
 
     /// The output that is to be given now, and whether the session has finished. Little output waits for the answers that are
@@ -348,14 +341,15 @@ impl Session {
         upkeep.add(Task::Ask, session, &mut self.tickets.ask);
     }
 
-    /// Whether its last answer was large: then the session is asked later.
+    /// Whether a `get` for so many keys is read next that its answer may be large: then the session is asked later.
     pub fn put_off(&mut self, session: u64, upkeep: &mut Upkeep) -> bool
         ensures { self.new ≡ self.old }
     {
-        if self.was_large {
+        let may_be_large = names_more_keys(self.input.kept(), upkeep.keys_before_large());
+        if may_be_large {
             upkeep.add(Task::AskLarge, session, &mut self.tickets.ask);
         }
-        self.was_large
+        may_be_large
     }
 
     pub fn held(&self) -> &[u8]
@@ -383,6 +377,23 @@ impl Session {
             && self.finished().is_none()
             && !self.is_ready()
     }
+}
+
+/// Whether the bytes begin with a `get` or `gets` for more than `few` keys, each of which takes at least two bytes.
+fn names_more_keys(bytes: &[u8], few: usize) -> bool {
+    if bytes.len() / 2 <= few || !bytes.starts_with(b"get") {
+        return false;
+    }
+    let mut keys: usize = 0;
+    for byte in bytes {
+        if *byte == b'\n' || keys > few {
+            break;
+        }
+        if *byte == b' ' {
+            keys = keys.saturating_add(1);
+        }
+    }
+    keys > few
 }
 
 /// How a message ends its session.

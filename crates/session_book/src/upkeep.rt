@@ -15,13 +15,19 @@ pub enum Task {
     Feed,
     /// They have input.
     Ask,
-    /// They have input, and were put off: their last answer was large.
+    /// They have input, and were put off: the next answer may be large.
     AskLarge,
     /// They may have output, or have finished.
     Give,
     /// They have output, of which their client accepted nothing when it was last offered some.
     RetryWrite,
 }
+
+/// The bytes above which an answer is large.
+const LARGE_ANSWER: usize = 262_144;
+
+/// The keys up to which the answer to a `get` isn't taken to be large.
+const FEW_KEYS: usize = 8;
 
 /// How many tasks there are.
 const TASKS: usize = 5;
@@ -124,6 +130,9 @@ pub(crate) struct Upkeep {
     pub(crate) spares: SpareBuffers,
     /// The keys of unsettled requests.
     pub(crate) keys: usize,
+    /// The bytes that each key took in the last answer for more than `FEW_KEYS` keys, or half of what this number was before, if
+    /// that is more.
+    pub(crate) key_bytes: usize,
     /// The bytes of output that weren't given yet.
     pub(crate) waiting: usize,
     /// Whether the session that was asked last can be read further.
@@ -146,6 +155,7 @@ impl Upkeep {
             place: 0,
             spares: SpareBuffers::new(alloc),
             keys: 0,
+            key_bytes: 0,
             waiting: 0,
             reads_on: false,
             passed: 0,
@@ -199,19 +209,28 @@ impl Upkeep {
         }
     }
 
-    /// Uncounts the keys of a `get` that was settled, and keeps the memory of its hits for another one. That of a large value is
-    /// kept for input.
-    pub(crate) fn settled(&mut self, answered: Answered) {
+    /// Uncounts the keys of a `get` that was settled with so many bytes of output, and keeps the memory of its hits for another
+    /// one. That of a large value is kept for input.
+    pub(crate) fn settled(&mut self, answered: Answered, length: usize) {
         let Answered { request, reply, .. } = answered;
-        self.uncount(&request);
+        self.uncount(&request, length);
         self.keep_hits(reply);
         self.keep_value(request);
     }
 
-    fn uncount(&mut self, request: &Request) {
+    fn uncount(&mut self, request: &Request, length: usize) {
         if let Request::Get { keys, .. } = request {
-            self.keys = self.keys.saturating_sub(keys.len());
+            let count = keys.len();
+            self.keys = self.keys.saturating_sub(count);
+            if count > FEW_KEYS {
+                self.key_bytes = (length / count).max(self.key_bytes / 2);
+            }
         }
+    }
+
+    /// How many keys a `get` may name before its answer is taken to be large, by what keys took of late.
+    pub(crate) fn keys_before_large(&self) -> usize {
+        FEW_KEYS.max(LARGE_ANSWER / self.key_bytes.max(1))
     }
 
     fn keep_hits(&mut self, reply: Reply) {

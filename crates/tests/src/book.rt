@@ -182,21 +182,40 @@ fn asks_64_at_a_time(rt: HostRuntime) -> Result<(), Fail> {
     checked
 }
 
-/// Session 2 was given an answer of this length. Session 1 has 17 requests of 8 keys on their way, and both have one to be read.
-fn give_and_ask(rt: &impl Abort, player: &mut Player, answer: usize) -> Result<(), Fail> {
+/// Requests for 1, 8, 9, 17 and 18 keys.
+const FOR_1: &str = "get b\r\n";
+const FOR_8: &str = "get b b b b b b b b\r\n";
+const FOR_9: &str = "get b b b b b b b b b\r\n";
+const FOR_17: &str = "get b b b b b b b b b b b b b b b b b\r\n";
+const FOR_18: &str = "gets b b b b b b b b b b b b b b b b b b\r\n";
+
+/// Session 1 is given the answers to requests, each of this length. Then it has 17 requests for 8 keys on their way and one more
+/// to be read, and session 2, which is new, has `next`.
+fn answer_and_ask(
+    rt: &impl Abort,
+    player: &mut Player,
+    answers: &[(&str, usize)],
+    next: &str,
+) -> Result<(), Fail> {
     player.open(1)?;
     player.open(2)?;
-    player.feed(2, b"stats\r\n")?;
-    check_same(rt, player.next_to_ask(), Some(2), "the second");
-    check_ask(rt, player, 2, Some(1))?;
-    player.settle_stats(answer)?;
-    check_same(rt, player.output_length(2), answer, "its answer");
-    for number in 2..=18 {
-        player.feed(1, b"get b b b b b b b b\r\n")?;
+    let mut output: usize = 0;
+    let mut number: u64 = 0;
+    for (request, length) in answers {
+        number = number.saturating_add(1);
+        output = output.saturating_add(*length);
+        player.feed(1, request.as_bytes())?;
+        check_ask(rt, player, 1, Some(number))?;
+        player.settle_hit(*length)?;
+        check_same(rt, player.output_length(1), output, "the answers");
+    }
+    for _ in 0..17 {
+        number = number.saturating_add(1);
+        player.feed(1, FOR_8.as_bytes())?;
         check_ask(rt, player, 1, Some(number))?;
     }
-    player.feed(1, b"get b b b b b b b b\r\n")?;
-    player.feed(2, b"get b\r\n")?;
+    player.feed(1, FOR_8.as_bytes())?;
+    player.feed(2, next.as_bytes())?;
     check_same(rt, player.next_to_ask(), Some(1), "the first");
     player.ask_later(1);
     check_same(rt, player.next_to_ask(), Some(2), "the second");
@@ -222,25 +241,41 @@ fn check_put_off(rt: &impl Abort, player: &mut Player) -> Result<(), Fail> {
 }
 
 fn check_large(rt: &impl Abort, player: &mut Player) -> Result<(), Fail> {
-    give_and_ask(rt, player, 262_145)?;
+    answer_and_ask(rt, player, &[(FOR_9, 262_152)], FOR_9)?;
     check_put_off(rt, player)
 }
 
 #[test]
-fn a_session_with_large_answers_does_not_wait_for_ever(rt: HostRuntime) -> Result<(), Fail> {
+fn a_session_that_asks_for_much_does_not_wait_for_ever(rt: HostRuntime) -> Result<(), Fail> {
     let mut player = Player::new(rt.alloc(), Dialect::Lenient, None);
     let checked = check_large(&rt, &mut player);
     drop(player);
     checked
 }
 
+/// A `get` is put off if its answer is likely to have more than 262,144 bytes: the keys of the answers before took 29,128 bytes
+/// each or 29,127, or half of the former.
+const PUT_OFF: [(&[(&str, usize)], &str, bool); 8] = [
+    (&[(FOR_9, 262_152)], FOR_9, true),
+    (&[(FOR_9, 262_151)], FOR_9, false),
+    (&[(FOR_9, 262_152)], FOR_8, false),
+    (&[(FOR_9, 262_152)], "delete b b b b b b b b b\r\n", false),
+    (&[(FOR_1, 262_152)], FOR_18, false),
+    (&[(FOR_9, 262_152), (FOR_1, 100_025)], FOR_9, true),
+    (&[(FOR_9, 262_152), (FOR_9, 100_025)], FOR_17, false),
+    (&[(FOR_9, 262_152), (FOR_9, 100_025)], FOR_18, true),
+];
+
 #[test]
-fn a_session_with_smaller_answers_is_not_put_off(rt: HostRuntime) -> Result<(), Fail> {
-    let mut player = Player::new(rt.alloc(), Dialect::Lenient, None);
-    let asked = give_and_ask(&rt, &mut player, 262_144);
-    check_same(&rt, player.put_off(2), false, "with 136 keys on their way");
-    drop(player);
-    asked
+fn what_may_be_large_is_put_off(rt: HostRuntime) -> Result<(), Fail> {
+    for (answers, next, wanted) in &PUT_OFF {
+        let mut player = Player::new(rt.alloc(), Dialect::Lenient, None);
+        let asked = answer_and_ask(&rt, &mut player, answers, next);
+        check_same(&rt, player.put_off(2), *wanted, (answers.len(), *next));
+        drop(player);
+        asked?;
+    }
+    Ok(())
 }
 
 /// Up to 1 MiB of output is little, over all sessions.

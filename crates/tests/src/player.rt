@@ -57,7 +57,7 @@ impl Player {
         Ok(Some(number))
     }
 
-    /// Puts the session off if its last answer was large, and the unsettled requests have many keys.
+    /// Puts the session off if its next answer may be large, and the unsettled requests have many keys.
     pub fn put_off(&mut self, session: u64) -> bool {
         self.book.put_off(session)
     }
@@ -87,6 +87,20 @@ impl Player {
         let reply = Reply::Stats(ByteString::from_vec(lines));
         if !self.asked.is_empty() {
             let answered = answered(self.asked.remove(0), reply);
+            self.book.settle(answered);
+        }
+        Ok(())
+    }
+
+    /// Settles the first of these requests, a `get`, with a hit of `a` that makes an answer of this length, of some 100,000 bytes
+    /// or more.
+    pub fn settle_hit(&mut self, length: usize) -> Result<(), NoMemory> {
+        let beside = "VALUE a 0 100000\r\n\r\nEND\r\n".len();
+        let value = vec![in self.alloc; b'x'; length.saturating_sub(beside)]?;
+        let mut hits = HitWriter::in_buffer(SpareBuffer::new(self.alloc));
+        push_hit(&mut hits, value.as_slice(), None)?;
+        if !self.asked.is_empty() {
+            let answered = answered(self.asked.remove(0), Reply::Values(hits.finish()));
             self.book.settle(answered);
         }
         Ok(())
@@ -139,11 +153,11 @@ fn answered(posted: Posted, reply: Reply) -> Answered {
 }
 
 /// Pushes the hit of `a` with this value.
-pub fn push_hit(hits: &mut HitWriter, value: &str, cas: Option<u64>) -> Result<(), NoMemory> {
+pub fn push_hit(hits: &mut HitWriter, value: &[u8], cas: Option<u64>) -> Result<(), NoMemory> {
     let hit = HitRef {
         key: b"a",
         flags: 0,
-        value: value.as_bytes(),
+        value,
         cas,
     };
     hits.reserve(hit.room().ok_or(NoMemory)?)?;
@@ -158,7 +172,11 @@ fn reply_to(alloc: Global, request: &Request, found: Option<&str>) -> Result<Rep
     };
     let mut hits = HitWriter::in_buffer(SpareBuffer::new(alloc));
     if let Some(value) = found {
-        push_hit(&mut hits, value, if *with_cas { Some(1) } else { None })?;
+        push_hit(
+            &mut hits,
+            value.as_bytes(),
+            if *with_cas { Some(1) } else { None },
+        )?;
     }
     Ok(Reply::Values(hits.finish()))
 }

@@ -236,13 +236,18 @@ class Proofs:
 
     def __init__(self, lines):
         self.names, self.have_ended = set(), False
-        threading.Thread(target=self.read, args=(lines,), daemon=True).start()
+        self.reader = threading.Thread(target=self.read, args=(lines,), daemon=True)
+        self.reader.start()
 
     def read(self, lines):
         try:
             self.names.update(found[1].decode() for it in lines if (found := IS_PROVED.match(it.rstrip())))
         finally:
             self.have_ended = True
+
+    def wait(self):
+        """Waits until all is read: Python aborts if it ends while a thread reads standard input."""
+        self.reader.join()
 
     def has_those_below(self, name):
         return self.names.issuperset(prove.with_those_below(prove.read_crates(), name) - {name})
@@ -319,6 +324,8 @@ class Run:
                 self.interrupted.set()
                 pool.shutdown(wait=False, cancel_futures=True)
                 raise
+        if self.proofs:
+            self.proofs.wait()
 
     def try_task(self, asked, tried, label):
         began, tries = time.monotonic(), Tries(asked.crate, self.interrupted)

@@ -195,6 +195,7 @@ def test_beside_the_proofs_a_crate_waits_for_those_below(above, low, capsys, pro
         write(low.parent / "below" / "out" / "rlib" / "below.rlib" / "format", "made once")
     above(b"== below\n", b"rt: below: its tests are proved\n", proved, b"rt: low NOT PROVED\n", b"0 passed, 2 failed\n")
     assert run(capsys, "--beside") == (0, "1 passed, 0 failed", {})
+    assert not list(sys.stdin.buffer), "it ended before rt ci"
 
 
 def test_beside_the_proofs_a_crate_above_one_that_is_refused_is_not_tried(above, low, capsys):

@@ -20,11 +20,12 @@ MIB = 1 << 20
 KEY_BYTES, HEAD_BYTES = 11, 24
 # How many reads warm and how many are counted, as multiples of the number of keys, and the least number of reads.
 WARMED, COUNTED, LEAST = 4, 2, 1_000_000
-SEGMENT_SIZE = 64 << 10
+# Of each class of TTLs a segment is open, so keys with TTLs have larger ones.
+SEGMENT_SIZE, TIMED_SEGMENT_SIZE = 64 << 10, 512 << 10
 MEMORIES, VALUES, EXPONENTS = (32, 64, 128), (100, 300, 1000), (0.8, 0.99)
 # How many times the memory the keys with their values have: in the curve, and in a table of its own.
 TIMES, OTHER_TIMES = 2.5, (1.5, 1.8, 4.0)
-SEGMENT_SIZES = (64 << 10, 256 << 10, 1 << 20)
+SEGMENT_SIZES = (64 << 10, 256 << 10, 512 << 10, 1 << 20)
 EVICTIONS = ("oldest", "least-read")
 # Neither server asks for huge pages: with them what is resident is rounded up to 2 MiB in several places.
 PLAIN = {name: value for name, value in os.environ.items() if name != "GLIBC_TUNABLES"}
@@ -112,7 +113,7 @@ def curve():
     """The points of the picture, those with fewer and with more keys, and those with TTLs, by both rules."""
     plain = [Point(memory, value, zipf, evict=evict) for zipf in EXPONENTS for value in VALUES for memory in MEMORIES for evict in EVICTIONS]
     others = [Point(32, value, 0.99, times, evict=evict) for value in VALUES for times in OTHER_TIMES for evict in EVICTIONS]
-    timed = [Point(64, value, 0.99, timed=SHORT, segment_size=MIB, evict=evict) for value in (100, 1000) for evict in EVICTIONS]
+    timed = [Point(64, value, 0.99, timed=SHORT, segment_size=TIMED_SEGMENT_SIZE, evict=evict) for value in (100, 1000) for evict in EVICTIONS]
     return plain, others, timed
 
 
@@ -249,7 +250,7 @@ def least_held(results):
 
 def conditions(results):
     """What the tables don't say of the runs."""
-    return f"segcached has segments of {SEGMENT_SIZE >> 10} KiB, and of 1 MiB with TTLs. {least_held(results)}"
+    return f"segcached has segments of {SEGMENT_SIZE >> 10} KiB, and of {TIMED_SEGMENT_SIZE >> 10} KiB with TTLs. {least_held(results)}"
 
 
 def ratios(results):

@@ -253,12 +253,12 @@ fn a_session_that_asks_for_much_does_not_wait_for_ever(rt: HostRuntime) -> Resul
     checked
 }
 
-/// A `get` is put off if its answer is likely to have more than 262,144 bytes: the keys of the answers before took 29,128 bytes
-/// each or 29,127, or half of the former.
+/// A `get` for more than 8 keys is put off if its answer is likely to have more than 262,144 bytes: each key of the last answer
+/// took 29,128 bytes, 29,127 or 66,666, or half of the first.
 const PUT_OFF: [(&[(&str, usize)], &str, bool); 8] = [
     (&[(FOR_9, 262_152)], FOR_9, true),
     (&[(FOR_9, 262_151)], FOR_9, false),
-    (&[(FOR_9, 262_152)], FOR_8, false),
+    (&[(FOR_9, 600_000)], FOR_8, false),
     (&[(FOR_9, 262_152)], "delete b b b b b b b b b\r\n", false),
     (&[(FOR_1, 262_152)], FOR_18, false),
     (&[(FOR_9, 262_152), (FOR_1, 100_025)], FOR_9, true),

@@ -9,9 +9,10 @@ pub mod StepLemmas
 pub mod ToldLemmas
 pub mod FollowLemmas
 pub mod PlayedLemmas
-pub mod HeldLemmas
+pub mod StageLemmas
 pub mod MessageLists
 pub mod Histories
 pub mod Serving
-pub mod Places
+pub mod Positions
 pub mod Running
+pub mod Sends

@@ -20,10 +20,10 @@ facts_closed None f agrees gone shut = refl
 facts_closed (Some x) f agrees gone shut = sym agrees.1 ∙ (λ i. gone i || shut i)
 
 -- where the script may be played as it stands, a consistent player's list says what the script does
-pub played : (p : Player) → IsPlayerConsistent p → is_playable p.script.value.items ≡ true
-    → IsPlayed p.script.value.items p.records p.can_fail
+pub played : (p : Player) → IsPlayerConsistent p → is_playable p.script ≡ true
+    → IsPlayed p.script p.records p.can_fail
 played p k tells =
-    let l = p.records in let whole = p.script.value.items in let left = events_left p.sessions (in_order p.events) in
+    let l = p.records in let whole = p.script in let left = events_left p.sessions (in_order p.events) in
     let f = k.follows tells in
     let none : is_in was.Ended l ≡ true → left ≡ [] =
     λ over. ap (events_left p.sessions) (k.finished (sym k.at_end ∙ over)) in record {

@@ -19,8 +19,8 @@ use Rattle.script.specs.declared.sessions.Stage.{Stage}
 use Rattle.script.specs.declared.sessions.Stage.TheVariants.{Closed}
 use Rattle.script.specs.PortEvents.{event_session, events_without, plays_from, is_playable}
 use Rattle.script.specs.PortSessions.{ScriptSessionState, numbers, newest, last_from, session_entry, is_some_and}
-use Rattle.script.specs.PortSessions.{is_closed, is_waiting, was_closed, is_session_open}
-use Rattle.script.specs.PortSessions.{is_paused, with_stage, with_output, ChangesAt}
+use Rattle.script.specs.PortSessions.{is_closed, is_paused, was_closed, is_session_open}
+use Rattle.script.specs.PortSessions.{is_session_paused, with_stage, with_output, ChangesAt}
 use Rattle.script.specs.Remaining.{RemainingState, in_order}
 use Rattle.script.specs.Records.{opened_sessions, opened_by}
 use Rattle.script.specs.Players.{is_left, is_ready, events_left, NoneReady, Agrees, IsPlayerConsistent, IsFirst}
@@ -73,10 +73,10 @@ option_cases None f g = g refl
 -- if no session of the table is above a number, no paused session is
 pub paused_old : (ss : List ScriptSessionState) (n t : ℕ)
     → ((s : ℕ) (x : ScriptSessionState) → session_entry ss s ≡ Some x → s ≤ n)
-    → is_paused ss t ≡ true → t ≤ n
+    → is_session_paused ss t ≡ true → t ≤ n
 paused_old ss n t rising h =
     option_cases (session_entry ss t) (λ x e. rising t x e)
-    (λ e. absurd (true≢false (sym h ∙ ap (is_some_and (λ (x : ScriptSessionState). is_waiting x.stage)) e)))
+    (λ e. absurd (true≢false (sym h ∙ ap (is_some_and (λ (x : ScriptSessionState). is_paused x.stage)) e)))
 
 -- an open session has an entry in the table, and it isn't closed
 pub open_entry : (ss : List ScriptSessionState) (t : ℕ) → is_session_open ss t ≡ true
@@ -91,33 +91,54 @@ open_entry ss t h =
     ))
     (λ e. absurd (true≢false (sym h ∙ ap (is_some_and (λ (x : ScriptSessionState). not (is_closed x.stage))) e)))
 
+-- a session that is open in the list has an open entry, if the entry agrees with the list
+facts_open : (o : Option ScriptSessionState) (f : PortFacts) → Agrees o f → (f.opened && not (f.gone || f.shut)) ≡ true
+    → is_some_and (λ (x : ScriptSessionState). not (is_closed x.stage)) o ≡ true
+facts_open None f agrees active = absurd (true≢false
+    (sym (and_left f.opened (not (f.gone || f.shut)) active) ∙ agrees.0))
+facts_open (Some x) f agrees active = sym (ap not agrees.1) ∙ and_right f.opened (not (f.gone || f.shut)) active
+
+-- a session that is open in the list is open in the table too
+pub open_in_table : (p : Player) (s : ℕ) → IsPlayerConsistent p → list.is_open s p.records ≡ true
+    → is_session_open p.sessions s ≡ true
+open_in_table p s k active = facts_open (session_entry p.sessions s) (port_facts p.records s) (k.each s) active
+
+-- an open session is open in the list too
+pub open_in_list : (p : Player) (s : ℕ) → IsPlayerConsistent p → is_session_open p.sessions s ≡ true
+    → list.is_open s p.records ≡ true
+open_in_list p s k e =
+    let x = open_entry p.sessions s e in
+    let h : Agrees (Some x.0) (port_facts p.records s) =
+    subst (λ (o : Option ScriptSessionState). Agrees o (port_facts p.records s)) x.1 (k.each s) in
+    (λ i. h.0 i && not (h.1 i)) ∙ ap not x.2
+
 -- ---- the first event that may be played
 
 -- if it isn't so that one test passes and another fails, the other passes where the one does
-held_here : (a b : Bool) → (a && not b) ≡ false → a ≡ true → b ≡ true
-held_here a b h e = not_false b (ap (λ c. c && not b) (sym e) ∙ h)
+paused_here : (a b : Bool) → (a && not b) ≡ false → a ≡ true → b ≡ true
+paused_here a b h e = not_false b (ap (λ c. c && not b) (sym e) ∙ h)
 
 -- of events that can't be played now, those still left are of paused sessions
-pub held_before : (ss : List ScriptSessionState) (xs : List ScriptEvent)
+pub paused_before : (ss : List ScriptSessionState) (xs : List ScriptEvent)
     → AllByRecursion (λ (x : ScriptEvent). is_ready ss x ≡ false) xs
-    → AllByRecursion (λ (x : ScriptEvent). is_paused ss (event_session x) ≡ true) (events_left ss xs)
-held_before ss [] h = tt
-held_before ss (x ∷ xs) h =
-    let P : List ScriptEvent → Type 0 = AllByRecursion (λ (x : ScriptEvent). is_paused ss (event_session x) ≡ true) in
+    → AllByRecursion (λ (x : ScriptEvent). is_session_paused ss (event_session x) ≡ true) (events_left ss xs)
+paused_before ss [] h = tt
+paused_before ss (x ∷ xs) h =
+    let P : List ScriptEvent → Type 0 = AllByRecursion (λ (x : ScriptEvent). is_session_paused ss (event_session x) ≡ true) in
     bool_cases (is_left ss x)
     (λ yes. subst (λ b. P (cond b (x ∷ events_left ss xs) (events_left ss xs))) (sym yes)
-    (held_here (is_left ss x) (is_paused ss (event_session x)) h.0 yes, held_before ss xs h.1))
-    (λ no. subst (λ b. P (cond b (x ∷ events_left ss xs) (events_left ss xs))) (sym no) (held_before ss xs h.1))
+    (paused_here (is_left ss x) (is_session_paused ss (event_session x)) h.0 yes, paused_before ss xs h.1))
+    (λ no. subst (λ b. P (cond b (x ∷ events_left ss xs) (events_left ss xs))) (sym no) (paused_before ss xs h.1))
 
 -- events of paused sessions aren't of a session that isn't paused, nor of one above a bound of the table's numbers
 pub apart_before : (ss : List ScriptSessionState) (n : ℕ) (e : ScriptEvent) (xs : List ScriptEvent)
-    → ((s : ℕ) (x : ScriptSessionState) → session_entry ss s ≡ Some x → s ≤ n) → is_paused ss (event_session e) ≡ false
-    → AllByRecursion (λ (x : ScriptEvent). is_paused ss (event_session x) ≡ true) xs → AllByRecursion (IsApart n e) xs
+    → ((s : ℕ) (x : ScriptSessionState) → session_entry ss s ≡ Some x → s ≤ n) → is_session_paused ss (event_session e) ≡ false
+    → AllByRecursion (λ (x : ScriptEvent). is_session_paused ss (event_session x) ≡ true) xs → AllByRecursion (IsApart n e) xs
 apart_before ss n e [] rising free h = tt
 apart_before ss n e (x ∷ xs) rising free h = (
   record {
     old = paused_old ss n (event_session x) rising h.0;
-    other = λ q. true≢false (sym h.0 ∙ ap (is_paused ss) q ∙ free);
+    other = λ q. true≢false (sym h.0 ∙ ap (is_session_paused ss) q ∙ free);
   },
   apart_before ss n e xs rising free h.1,
 )
@@ -126,11 +147,11 @@ apart_before ss n e (x ∷ xs) rising free h = (
 pub record AroundFirst (p : Player) (e : ScriptEvent) (before after : List ScriptEvent) : Type 0 where
   pub left_is : events_left p.sessions (in_order p.events)
       ≡ events_left p.sessions before ++ e ∷ events_left p.sessions after
-  pub held : AllByRecursion (λ (x : ScriptEvent). is_paused p.sessions (event_session x) ≡ true)
+  pub paused : AllByRecursion (λ (x : ScriptEvent). is_session_paused p.sessions (event_session x) ≡ true)
       (events_left p.sessions before)
-  pub free : is_paused p.sessions (event_session e) ≡ false
+  pub free : is_session_paused p.sessions (event_session e) ≡ false
   pub is_left_too : is_left p.sessions e ≡ true
-  pub taken : is_playable p.script.value.items ≡ true
+  pub taken : is_playable p.script ≡ true
       → TakenOut (newest p.sessions) (is_session_open p.sessions) e
       (events_left p.sessions before ++ events_left p.sessions after)
 
@@ -147,20 +168,20 @@ pub around : (p : Player) (e : ScriptEvent) → IsPlayerConsistent p → (f : Is
     → AroundFirst p e p.events.aside f.after
 around p e k f =
     let ss = p.sessions in
-    let yes = and_left (is_left ss e) (not (is_paused ss (event_session e))) f.ready in
-    let free = not_true (is_paused ss (event_session e))
-    (and_right (is_left ss e) (not (is_paused ss (event_session e))) f.ready) in
-    let held = held_before ss p.events.aside k.aside in
+    let yes = and_left (is_left ss e) (not (is_session_paused ss (event_session e))) f.ready in
+    let free = not_true (is_session_paused ss (event_session e))
+    (and_right (is_left ss e) (not (is_session_paused ss (event_session e))) f.ready) in
+    let paused = paused_before ss p.events.aside k.aside in
     let left = ap (λ (l : List ScriptEvent). events_left ss (p.events.aside ++ l)) f.rest_is
     ∙ left_with ss p.events.aside e f.after yes in
     record {
       left_is = left;
-      held = held;
+      paused = paused;
       free = free;
       is_left_too = yes;
       taken = λ tells. take_out (newest ss) (is_session_open ss) (events_left ss p.events.aside) e
           (events_left ss f.after)
-          (apart_before ss (newest ss) e (events_left ss p.events.aside) k.rising free held)
+          (apart_before ss (newest ss) e (events_left ss p.events.aside) k.rising free paused)
           (ap (plays_from (newest ss) (is_session_open ss)) (sym left) ∙ k.plays tells);
     }
 
@@ -292,31 +313,31 @@ none_ready ss ss' (x ∷ xs) h k = (h x k.0, none_ready ss ss' xs h k.1)
 
 -- where the same sessions are closed and paused, the same events may be played
 pub ready_same : (ss ss' : List ScriptSessionState) → ((t : ℕ) → was_closed ss' t ≡ was_closed ss t)
-    → ((t : ℕ) → is_paused ss' t ≡ is_paused ss t) → (x : ScriptEvent) → is_ready ss x ≡ false → is_ready ss' x ≡ false
+    → ((t : ℕ) → is_session_paused ss' t ≡ is_session_paused ss t) → (x : ScriptEvent) → is_ready ss x ≡ false → is_ready ss' x ≡ false
 ready_same ss ss' closed paused x h =
     (λ i. not (closed (event_session x) i) && not (paused (event_session x) i)) ∙ h
 
 -- if a session is closed, no event may be played that might not be before
 pub ready_closed : (ss ss' : List ScriptSessionState) (s : ℕ) → was_closed ss' s ≡ true
-    → ((t : ℕ) → t ≢ s → was_closed ss' t ≡ was_closed ss t) → ((t : ℕ) → t ≢ s → is_paused ss' t ≡ is_paused ss t)
+    → ((t : ℕ) → t ≢ s → was_closed ss' t ≡ was_closed ss t) → ((t : ℕ) → t ≢ s → is_session_paused ss' t ≡ is_session_paused ss t)
     → (x : ScriptEvent) → is_ready ss x ≡ false → is_ready ss' x ≡ false
 ready_closed ss ss' s closed others apart x h =
     either_way (event_session x) s
-    (λ eq. ap (λ (b : Bool). not b && not (is_paused ss' (event_session x))) (ap (was_closed ss') eq ∙ closed))
+    (λ eq. ap (λ (b : Bool). not b && not (is_session_paused ss' (event_session x))) (ap (was_closed ss') eq ∙ closed))
     (λ ne. (λ i. not (others (event_session x) ne i) && not (apart (event_session x) ne i)) ∙ h)
 
 -- if a session is paused, no event may be played that might not be before
-pub ready_paused : (ss ss' : List ScriptSessionState) (s : ℕ) → is_paused ss' s ≡ true
-    → ((t : ℕ) → t ≢ s → was_closed ss' t ≡ was_closed ss t) → ((t : ℕ) → t ≢ s → is_paused ss' t ≡ is_paused ss t)
+pub ready_paused : (ss ss' : List ScriptSessionState) (s : ℕ) → is_session_paused ss' s ≡ true
+    → ((t : ℕ) → t ≢ s → was_closed ss' t ≡ was_closed ss t) → ((t : ℕ) → t ≢ s → is_session_paused ss' t ≡ is_session_paused ss t)
     → (x : ScriptEvent) → is_ready ss x ≡ false → is_ready ss' x ≡ false
 ready_paused ss ss' s paused others apart x h =
     either_way (event_session x) s
-    (λ eq. and_no (is_left ss' x) (is_paused ss' (event_session x)) (ap (is_paused ss') eq ∙ paused))
+    (λ eq. and_no (is_left ss' x) (is_session_paused ss' (event_session x)) (ap (is_session_paused ss') eq ∙ paused))
     (λ ne. (λ i. not (others (event_session x) ne i) && not (apart (event_session x) ne i)) ∙ h)
 
 -- if a session changes of which no event is aside, none of those aside may be played
 pub none_ready_but : (ss ss' : List ScriptSessionState) (s : ℕ) (xs : List ScriptEvent)
-    → ((t : ℕ) → t ≢ s → was_closed ss' t ≡ was_closed ss t) → ((t : ℕ) → t ≢ s → is_paused ss' t ≡ is_paused ss t)
+    → ((t : ℕ) → t ≢ s → was_closed ss' t ≡ was_closed ss t) → ((t : ℕ) → t ≢ s → is_session_paused ss' t ≡ is_session_paused ss t)
     → AllByRecursion (λ (x : ScriptEvent). event_session x ≢ s) xs → NoneReady ss xs → NoneReady ss' xs
 none_ready_but ss ss' s [] others apart h k = tt
 none_ready_but ss ss' s (x ∷ xs) others apart h k = (
@@ -387,12 +408,12 @@ agrees_shut ss ss' l s x a e h =
     (subst (Agrees (Some (with_stage Closed x))) (sym (shut_here l s)) new)
 
 -- if a session that stays open, or stays closed, gets another stage, its entry still agrees with the list
-pub agrees_held : (ss ss' : List ScriptSessionState) (l : List PortRecord) (s : ℕ) (stage : Stage)
+pub agrees_stage : (ss ss' : List ScriptSessionState) (l : List PortRecord) (s : ℕ) (stage : Stage)
     (x : ScriptSessionState)
     → ChangesAt ss s (with_stage stage) ss' → session_entry ss s ≡ Some x → is_closed stage ≡ is_closed x.stage
     → Agrees (session_entry ss s) (port_facts l s)
     → Agrees (session_entry ss' s) (port_facts l s)
-agrees_held ss ss' l s stage x a e same h =
+agrees_stage ss ss' l s stage x a e same h =
     let old : Agrees (Some x) (port_facts l s) =
     subst (λ (o : Option ScriptSessionState). Agrees o (port_facts l s)) e h in
     subst (λ (o : Option ScriptSessionState). Agrees o (port_facts l s))
@@ -406,8 +427,8 @@ none_some x e = cc
 
 -- a player that hasn't ended, with no sessions, no records, no `give` to fail and its whole script to play, is consistent
 pub no_sessions : (p : Player) → p.sessions ≡ [] → p.records ≡ [] → p.ended ≡ false → p.fail_give ≡ 0
-    → (is_playable p.script.value.items ≡ true → plays_from 0 (λ (t : ℕ). false) (in_order p.events) ≡ true)
-    → in_order p.events ≡ p.script.value.items → p.events.aside ≡ []
+    → (is_playable p.script ≡ true → plays_from 0 (λ (t : ℕ). false) (in_order p.events) ≡ true)
+    → in_order p.events ≡ p.script → p.events.aside ≡ []
     → IsPlayerConsistent p
 no_sessions p ss_is l_is ended fail_is plays all none_aside = record {
   each = λ t. subst (λ (ss : List ScriptSessionState). Agrees (session_entry ss t) (port_facts p.records t)) (sym ss_is)
@@ -418,7 +439,7 @@ no_sessions p ss_is l_is ended fail_is plays all none_aside = record {
   plays = λ tells. (λ i. plays_from (newest (ss_is i)) (is_session_open (ss_is i))
       (events_left (ss_is i) (in_order p.events)))
       ∙ ap (plays_from 0 (λ (t : ℕ). false)) (filter_all (is_left []) (in_order p.events) (λ x. refl)) ∙ plays tells;
-  follows = λ tells. let left_is : events_left p.sessions (in_order p.events) ≡ p.script.value.items = ap
+  follows = λ tells. let left_is : events_left p.sessions (in_order p.events) ≡ p.script = ap
       (λ ss. events_left ss (in_order p.events)) ss_is ∙ filter_all (is_left []) (in_order p.events) (λ x. refl)
       ∙ all in record {
         opened_are = (λ i. opened_sessions (sym l_is i) ++ script.sessions_opened (sym left_is i));

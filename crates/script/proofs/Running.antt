@@ -1,16 +1,16 @@
 -- One more event of a run.
 use Rattle.std.proofs.Common.{◌≡◌, ℕ, zero, suc, ◌<◌, ◌≤◌, Bool, true, false, cond, eqb, List, [], ◌∷◌}
 use Rattle.std.proofs.Common.{◌++◌, length, get_or, set, map, refl, sym, ap}
-use Rattle.std.proofs.Common.{subst, ◌∙◌, arith, inl, inr, length-append}
-use Rattle.std.specs.Prelude.{All, Contains, filter_map, ◌≢◌}
+use Rattle.std.proofs.Common.{subst, ◌∙◌, arith, inl, inr}
+use Rattle.std.specs.Prelude.{All, Contains, filter_map}
 use Rattle.std.specs.List.{AllByRecursion}
-use Rattle.std.proofs.lemmas.Bool.{cases_lt, cases_eq, eq-eqb, ne_eqb, both_ways}
+use Rattle.std.specs.List.Sorted.{IsStrictlyIncreasing}
+use Rattle.std.proofs.lemmas.Bool.{cases_eq, eq-eqb, ne_eqb, both_ways}
 use Rattle.std.proofs.lemmas.Grind.{flat_map-append}
-use Rattle.std.proofs.lemmas.List.{append-nil, map-append, length-map, get_or-map, get_or_append_left, get_or-set_same, get_or-set_other}
+use Rattle.std.proofs.lemmas.List.{append-nil, map-append, length-map, get_or-map, get_or-set_same, get_or-set_other}
 use Rattle.std.proofs.Math.ListN.{length-set}
 use Rattle.std.proofs.lemmas.List.Elements.{filter_map-append, All-push, All-weaker, All-contains, Contains-append_left, Contains-get_or, All-from_recursion}
 use Rattle.std.proofs.lemmas.List.Elements.{recursion_from_All}
-use Rattle.std.proofs.Math.Seq.{get_or-append_seam}
 use Rattle.proto.specs.declared.dialect.Dialect.TheVariants.{Strict}
 use Rattle.proto.proofs.ReadingLemmas.{reads_empty, reads_before}
 use Rattle.proto.specs.declared.history.Answered.{Answered}
@@ -27,8 +27,9 @@ use Rattle.script.specs.declared.sequential_session.SequentialSession.{Sequentia
 use Rattle.script.specs.Execution.{Execution}
 use Rattle.script.specs.SequentialSessions.{Setup, IsOfSession, HistoryGoesOn, AreBytesServed, IsNewSession}
 use Rattle.script.specs.declared.sequential_replay.SessionOutput.{SessionOutput}
-use Rattle.script.specs.SequentialReplays.{IsAnsweredIn, IsAmong, IsReplay, numbers_of, IsRising, IsFresh, HasRun, FeedsAt, output_of}
+use Rattle.script.specs.SequentialReplays.{IsAnsweredIn, IsAmong, IsReplay, numbers_of, IsFresh, HasRun, FeedsAt, output_of}
 use Rattle.script.proofs.Histories.{share_goes_on}
+use Rattle.script.proofs.Positions.{rising_more, apart_at}
 
 -- ---- what one more event adds
 
@@ -114,7 +115,7 @@ run_still setup events e now sessions run may no_open no_newer bytes =
       led = run.led;
       among = subst (λ (os : List ℕ). AllByRecursion (IsAmong os) run.history) (sym same) run.among;
       numbers = run.numbers ∙ sym same;
-      rising = subst IsRising (sym same) run.rising;
+      rising = subst IsStrictlyIncreasing (sym same) run.rising;
       highest = subst (λ (os : List ℕ). All (λ (n : ℕ). n ≤ newest_of (events ++ e ∷ [])) os) (sym same)
           (subst (λ (m : ℕ). All (λ (n : ℕ). n ≤ m) (sessions_opened events)) (sym newest) run.highest);
       fresh = fresh_more events e run.fresh may;
@@ -137,11 +138,15 @@ run_gone setup events session now sessions run may =
 -- a send to a session that isn't there changes none
 pub run_skipped : (setup : Setup) (events : List ScriptEvent) (session : ℕ) (bytes : List ℕ) (now : Execution)
     (sessions : List SequentialSession) → HasRun setup events now sessions
-    → MayFollow events (Send session bytes) → All (λ (s : SequentialSession). s.number ≢ session) sessions
+    → MayFollow events (Send session bytes) → (Contains (numbers_of sessions) session → ⊥)
     → HasRun setup (events ++ Send session bytes ∷ []) now sessions
 run_skipped setup events session bytes now sessions run may none =
     run_still setup events (Send session bytes) now sessions run may refl refl
-    (λ k d lt. sent_other events session (get_or sessions k d).number bytes (λ is. none k d lt (sym is)))
+    (λ k d lt. sent_other events session (get_or sessions k d).number bytes (λ is. none (
+    let len = length-map sessions (λ (s : SequentialSession). s.number) in
+    subst (λ (n : ℕ). Contains (numbers_of sessions) n)
+    (get_or-map (λ (s : SequentialSession). s.number) sessions k d 0 lt ∙ sym is)
+    (Contains-get_or (numbers_of sessions) k 0 (omega (arith, len))))))
 
 -- ---- a session that begins
 
@@ -162,25 +167,6 @@ share_none (e ∷ h) numbers newest n all highest above =
     let below : e.session ≤ newest = All-contains (λ (m : ℕ). m ≤ newest) numbers e.session highest all.0.session in
     rw (eq-eqb e.worker 0 all.0.worker, ne_eqb e.session n (omega arith))
     (share_none h numbers newest n all.1 highest above)
-
--- numbers that rise, and one above them
-rising_more : (numbers : List ℕ) (newest n : ℕ) → IsRising numbers → All (λ (m : ℕ). m ≤ newest) numbers → newest < n
-    → IsRising (numbers ++ n ∷ [])
-rising_more numbers newest n rising highest above i j lt within =
-    let len = length-append numbers (n ∷ []) in
-    let first : get_or (numbers ++ n ∷ []) i 0 ≡ get_or numbers i 0 =
-    get_or_append_left numbers (n ∷ []) 0 i (omega (arith, len)) in
-    elim (cases_lt j (length numbers)) [
-      | inl inside ↦
-          let second : get_or (numbers ++ n ∷ []) j 0 ≡ get_or numbers j 0 =
-          get_or_append_left numbers (n ∷ []) 0 j inside in
-          rw (first, second) (rising i j lt inside)
-      | inr outside ↦
-          let last : j ≡ length numbers = omega (arith, len) in
-          let second : get_or (numbers ++ n ∷ []) j 0 ≡ n =
-          ap (λ (k : ℕ). get_or (numbers ++ n ∷ []) k 0) last ∙ get_or-append_seam numbers n [] 0 in
-          rw (first, second) (omega (arith, highest i 0 (omega arith)))
-    ]
 
 -- a new session is served, with no bytes
 served_new : (s : SequentialSession) (n : ℕ) → IsNewSession n s → AreBytesServed [] [] s
@@ -222,8 +208,9 @@ run_opened setup events n now sessions s run may new =
       numbers = map-append (λ (x : SequentialSession). x.number) sessions (s ∷ [])
           ∙ ap (λ (x : List ℕ). x ++ s.number ∷ []) run.numbers
           ∙ ap (λ (x : ℕ). sessions_opened events ++ x ∷ []) new.number_is ∙ sym more;
-      rising = subst IsRising (sym more)
-          (rising_more (sessions_opened events) (newest_of events) n run.rising run.highest may);
+      rising = subst IsStrictlyIncreasing (sym more)
+          (rising_more (sessions_opened events) n run.rising
+          (λ k is. omega (arith, run.highest k 0 (omega arith))));
       highest = subst (λ (os : List ℕ). All (λ (m : ℕ). m ≤ newest_of (events ++ Open n ∷ [])) os) (sym more)
           (subst (λ (top : ℕ). All (λ (m : ℕ). m ≤ top) (sessions_opened events ++ n ∷ [])) (sym newest)
           (All-push (λ (m : ℕ). m ≤ n) (sessions_opened events) n
@@ -257,15 +244,6 @@ among-append : (numbers : List ℕ) (a b : List Answered) → AllByRecursion (Is
 among-append numbers [] b first second = second
 among-append numbers (e ∷ a) b first second = (first.0, among-append numbers a b first.1 second)
 
--- two numbers at different places differ
-apart_at : (numbers : List ℕ) (i j : ℕ) → IsRising numbers → i < length numbers → j < length numbers → (i ≡ j → ⊥)
-    → get_or numbers i 0 ≡ get_or numbers j 0 → ⊥
-apart_at numbers i j rising within inside apart is =
-    elim (cases_lt i j) [
-      | inl below ↦ let less = rising i j below inside in omega arith
-      | inr above ↦ let more = rising j i (omega arith) within in omega arith
-    ]
-
 -- a session in the place of one with its number leaves the numbers
 numbers_set : (sessions : List SequentialSession) (at : ℕ) (old new : SequentialSession) → old ≡ get_or sessions at old
     → new.number ≡ old.number
@@ -279,10 +257,10 @@ numbers_set (x ∷ sessions) (suc at) old new old_is number_is =
 -- a session is fed
 pub run_fed : (setup : Setup) (events : List ScriptEvent) (session : ℕ) (bytes : List ℕ) (now : Execution)
     (sessions : List SequentialSession) (at : ℕ) (after : Execution) (fed : List SequentialSession)
-    → HasRun setup events now sessions → MayFollow events (Send session bytes) → at < length sessions
+    → HasRun setup events now sessions → MayFollow events (Send session bytes) → at < length (numbers_of sessions)
     → get_or (numbers_of sessions) at 0 ≡ session
     → FeedsAt sessions at now bytes fed after → HasRun setup (events ++ Send session bytes ∷ []) after fed
-run_fed setup events session bytes now sessions at after fed run may within at_is feeding =
+run_fed setup events session bytes now sessions at after fed run may inside at_is feeding =
     let e = Send session bytes in
     let old = feeding.old in
     let new = feeding.new in
@@ -290,6 +268,7 @@ run_fed setup events session bytes now sessions at after fed run may within at_i
     let newest : newest_of (events ++ e ∷ []) ≡ newest_of events = newest_more events e in
     let len : length (numbers_of sessions) ≡ length sessions =
     length-map sessions (λ (s : SequentialSession). s.number) in
+    let within : at < length sessions = omega (arith, len) in
     let old_number : old.number ≡ session = ap (λ (s : SequentialSession). s.number) feeding.old_is
     ∙ sym (get_or-map (λ (s : SequentialSession). s.number) sessions at old 0 within) ∙ at_is in
     let new_number : new.number ≡ session = feeding.feeds.number_stays ∙ old_number in
@@ -313,14 +292,14 @@ run_fed setup events session bytes now sessions at after fed run may within at_i
     ∙ ap (sent_bytes (events ++ e ∷ [])) (sym new_number) in
     let here : AreBytesServed (sent_bytes (events ++ e ∷ []) new.number) (session_share by.history 0 new.number) new =
     subst (λ (b : List ℕ). AreBytesServed b (session_share by.history 0 new.number) new) bytes_are by.served in
-    let rising : IsRising (numbers_of sessions) = subst IsRising (sym run.numbers) run.rising in
+    let rising : IsStrictlyIncreasing (numbers_of sessions) = subst IsStrictlyIncreasing (sym run.numbers) run.rising in
     record {
       history = by.history;
       led = by.led;
       among = subst (λ (os : List ℕ). AllByRecursion (IsAmong os) by.history) (sym same) among;
       numbers = ap numbers_of feeding.after_is
           ∙ numbers_set sessions at old new feeding.old_is feeding.feeds.number_stays ∙ run.numbers ∙ sym same;
-      rising = subst IsRising (sym same) run.rising;
+      rising = subst IsStrictlyIncreasing (sym same) run.rising;
       highest = subst (λ (os : List ℕ). All (λ (n : ℕ). n ≤ newest_of (events ++ e ∷ [])) os) (sym same)
           (subst (λ (m : ℕ). All (λ (n : ℕ). n ≤ m) (sessions_opened events)) (sym newest) run.highest);
       fresh = fresh_more events e run.fresh may;
@@ -375,7 +354,7 @@ run_none setup now sizes cache moment clock = record {
   };
   among = tt;
   numbers = refl;
-  rising = λ i j lt within. absurd (omega arith);
+  rising = λ k within. absurd (omega arith);
   highest = λ k d lt. absurd (omega arith);
   fresh = λ s above. (refl, refl);
   each = λ k d lt. absurd (omega arith);

@@ -1,95 +1,54 @@
 -- The table of sessions: places, and what one change makes of it.
-use Rattle.std.proofs.Common.{◌≡◌, ◌≢◌, ℕ, zero, suc, ◌+◌, ◌<◌, ◌≤◌, ◌==◌, true, false, not, cond, eq-eqb, ne_eqb, List}
+use Rattle.std.proofs.Common.{◌≡◌, ◌≢◌, ℕ, zero, suc, ◌+◌, ◌<◌, ◌==◌, true, false, not, cond, eq-eqb, ne_eqb, List}
 use Rattle.std.proofs.Common.{[], ◌∷◌, ◌++◌, length, get_or}
-use Rattle.std.proofs.Common.{slice_set, refl, sym, ap, subst, ◌∙◌, arith, Some, None, option_map, ⊎_elim, Result, Ok}
+use Rattle.std.proofs.Common.{slice_set, refl, sym, ap, subst, ◌∙◌, arith, Some, None, option_map, Result, Ok}
 use Rattle.std.proofs.Common.{Err, is_err, OnOk, OnErr, true≢false}
-use Rattle.std.proofs.lemmas.Bool.{cases_lt}
-use Rattle.std.proofs.lemmas.List.{get_or_default}
-use Rattle.std.proofs.lemmas.List.Sorted.{IsPartitionedBy-ltb}
-use Rattle.std.specs.List.Sorted.{IsNonDecreasingBy, IsPartitionedBy}
-use Rattle.std.specs.Prelude.{nat_lt}
+use Rattle.std.proofs.lemmas.List.{get_or_default, get_or-map, length-map, map-append}
+use Rattle.std.specs.List.Sorted.{IsStrictlyIncreasing}
+use Rattle.std.specs.Prelude.{Contains}
 use Rattle.script.specs.declared.sessions.Stage.{Stage}
-use Rattle.script.specs.PortSessions.{ScriptSessionState, numbers, RisesFrom, last_from, session_entry, is_closed}
+use Rattle.script.specs.PortSessions.{ScriptSessionState, numbers, newest, last_from, session_entry, is_closed}
 use Rattle.script.specs.PortSessions.{is_session_open, is_some_and, with_stage}
 use Rattle.script.specs.PortSessions.{with_output, ChangesAt, AcceptsAt}
-use Rattle.proto.proofs.CountLemmas.{either_way}
+use Rattle.script.proofs.Positions.{rises, rising_more}
 
 -- ---- rising numbers
 
--- if the numbers of a table rise from above a bound, the number at each place is above the bound
-above : (n : ℕ) (xs : List ScriptSessionState) (j : ℕ) (d : ScriptSessionState) → RisesFrom n (numbers xs)
-    → j < length xs → n < (get_or xs j d).number
-above n [] j d h lt = absurd (omega arith)
-above n (x ∷ xs) zero d h lt = h.0
-above n (x ∷ xs) (suc j) d h lt = let k = above x.number xs j d h.1 (omega arith) in omega (arith, h.0, k)
+-- if the numbers of a table rise, an entry's number isn't that of one before it
+apart : (xs : List ScriptSessionState) (i j : ℕ) (d e : ScriptSessionState) → IsStrictlyIncreasing (numbers xs)
+    → i < j → j < length xs → (get_or xs i d).number ≢ (get_or xs j e).number
+apart xs i j d e rising lt within is =
+    let f = λ (x : ScriptSessionState). x.number in
+    let less = rises (numbers xs) i j rising lt (omega (arith, length-map xs f)) in
+    omega (arith, less, is, get_or-map f xs i d 0 (omega arith), get_or-map f xs j e 0 within)
 
--- in a table of rising numbers the later of two places has the greater number
-pub rises_on : (n : ℕ) (xs : List ScriptSessionState) (i j : ℕ) (d : ScriptSessionState) → RisesFrom n (numbers xs)
-    → i < j → j < length xs
-    → (get_or xs i d).number < (get_or xs j d).number
-rises_on n [] i j d h le lt = absurd (omega arith)
-rises_on n (x ∷ xs) zero zero d h le lt = absurd (omega arith)
-rises_on n (x ∷ xs) zero (suc j) d h le lt = above x.number xs j d h.1 (omega arith)
-rises_on n (x ∷ xs) (suc i) zero d h le lt = absurd (omega arith)
-rises_on n (x ∷ xs) (suc i) (suc j) d h le lt = rises_on x.number xs i j d h.1 (omega arith) (omega arith)
+-- the position of a number is the place of an entry with it
+pub placed_at : (l xs : List ScriptSessionState) (s at : ℕ) → l ≡ xs
+    → (at < length (numbers l)) × (get_or (numbers l) at 0 ≡ s)
+    → (at < length xs) × ((d : ScriptSessionState) → (get_or xs at d).number ≡ s)
+placed_at l xs s at same found =
+    let f = λ (x : ScriptSessionState). x.number in
+    let lt : at < length xs = omega (arith, found.0, length-map l f, ap length same) in
+    (lt, λ d. sym (get_or-map f xs at d 0 lt) ∙ ap (λ (m : List ScriptSessionState). get_or (numbers m) at 0) (sym same) ∙ found.1)
 
--- the last of some numbers that rise from above a bound isn't below the bound
-pub last_at_least : (n : ℕ) (xs : List ℕ) → RisesFrom n xs → n ≤ last_from n xs
-last_at_least n [] h = omega arith
-last_at_least n (x ∷ xs) h = let k = last_at_least x xs h.1 in omega (arith, h.0, k)
-
--- the entry that is found for a number has this number
-pub number_of : (xs : List ScriptSessionState) (s : ℕ) (x : ScriptSessionState) → session_entry xs s ≡ Some x
-    → x.number ≡ s
-number_of [] s x e = absurd (cc)
-number_of (y ∷ xs) s x e =
-    either_way y.number s
-    (λ eq. let here : Some y ≡ Some x = ap (λ b. cond b (Some y) (session_entry xs s))
-    (sym (eq-eqb y.number s eq)) ∙ e in
-    let same : y ≡ x = cc in ap (λ (z : ScriptSessionState). z.number) (sym same) ∙ eq)
-    (λ ne. number_of xs s x (ap (λ b. cond b (Some y) (session_entry xs s)) (sym (ne_eqb y.number s ne)) ∙ e))
-
--- a session in a table whose numbers rise from above a bound has a number above the bound, and not above the last
-pub found_in : (n : ℕ) (xs : List ScriptSessionState) (s : ℕ) (x : ScriptSessionState) → RisesFrom n (numbers xs)
-    → session_entry xs s ≡ Some x
-    → (n < s) × (s ≤ last_from n (numbers xs))
-found_in n [] s x h e = absurd (cc)
-found_in n (y ∷ xs) s x h e =
-    either_way y.number s
-    (λ eq. let k = last_at_least y.number (numbers xs) h.1 in (omega (arith, h.0, eq), omega (arith, k, eq)))
-    (λ ne. let k = found_in y.number xs s x h.1
-    (ap (λ b. cond b (Some y) (session_entry xs s)) (sym (ne_eqb y.number s ne)) ∙ e) in
-    (omega (arith, h.0, k.0), k.1))
-
--- if a table's numbers rise from above a bound, no number up to the bound has an entry
-pub no_entry : (n : ℕ) (xs : List ScriptSessionState) (s : ℕ) → RisesFrom n (numbers xs) → s ≤ n
-    → session_entry xs s ≡ None
-no_entry n [] s h le = refl
-no_entry n (y ∷ xs) s h le =
-    let ne : y.number ≢ s = λ e. omega (arith, e, h.0) in
-    ap (λ b. cond b (Some y) (session_entry xs s)) (ne_eqb y.number s ne)
-    ∙ no_entry y.number xs s h.1 (omega (arith, h.0))
-
--- the entry at a place
-pub entry_at : (n : ℕ) (xs : List ScriptSessionState) (i : ℕ) (d : ScriptSessionState) → RisesFrom n (numbers xs)
-    → i < length xs
+-- the entry at a place, if no entry before it has its number
+entry_at : (xs : List ScriptSessionState) (i : ℕ) (d : ScriptSessionState)
+    → ((j : ℕ) (e : ScriptSessionState) → j < i → (get_or xs j e).number ≢ (get_or xs i d).number) → i < length xs
     → session_entry xs (get_or xs i d).number ≡ Some (get_or xs i d)
-entry_at n [] i d h lt = absurd (omega arith)
-entry_at n (x ∷ xs) zero d h lt = ap (λ b. cond b (Some x) (session_entry xs x.number)) (eq-eqb x.number x.number refl)
-entry_at n (x ∷ xs) (suc i) d h lt =
+entry_at [] i d other lt = absurd (omega arith)
+entry_at (x ∷ xs) zero d other lt = ap (λ b. cond b (Some x) (session_entry xs x.number))
+    (eq-eqb x.number x.number refl)
+entry_at (x ∷ xs) (suc i) d other lt =
     let t = (get_or xs i d).number in
-    let k = above x.number xs i d h.1 (omega arith) in
-    let ne : x.number ≢ t = λ e. omega (arith, e, k) in
-    ap (λ b. cond b (Some x) (session_entry xs t)) (ne_eqb x.number t ne) ∙ entry_at x.number xs i d h.1 (omega arith)
+    ap (λ b. cond b (Some x) (session_entry xs t)) (ne_eqb x.number t (other 0 x (omega arith)))
+    ∙ entry_at xs i d (λ j e below. other (suc j) e (omega arith)) (omega arith)
 
--- no place has this number
-pub none_at : (xs : List ScriptSessionState) (s : ℕ)
-    → ((k : ℕ) (d : ScriptSessionState) → k < length xs → (get_or xs k d).number ≢ s)
-    → session_entry xs s ≡ None
-none_at [] s h = refl
-none_at (x ∷ xs) s h =
-    ap (λ b. cond b (Some x) (session_entry xs s)) (ne_eqb x.number s (h 0 x (omega arith)))
-    ∙ none_at xs s (λ k d lt. h (suc k) d (omega arith))
+-- a number that isn't there has no entry
+pub none_at : (xs : List ScriptSessionState) (s : ℕ) → (Contains (numbers xs) s → ⊥) → session_entry xs s ≡ None
+none_at [] s none = refl
+none_at (x ∷ xs) s none =
+    ap (λ b. cond b (Some x) (session_entry xs s)) (ne_eqb x.number s (λ is. none (0, omega arith, is)))
+    ∙ none_at xs s (λ there. none (suc there.0, omega (arith, there.1), there.2))
 
 -- ---- one more session
 
@@ -98,22 +57,6 @@ pub entry_behind : (xs : List ScriptSessionState) (x : ScriptSessionState) (s : 
     → session_entry (xs ++ x ∷ []) s ≡ session_entry xs s
 entry_behind [] x s ne = ap (λ b. cond b (Some x) None) (ne_eqb x.number s ne)
 entry_behind (y ∷ xs) x s ne = ap (λ o. cond (y.number == s) (Some y) o) (entry_behind xs x s ne)
-
--- a session after the table with a number above the table's last is found under its number
-pub entry_last : (n : ℕ) (xs : List ScriptSessionState) (x : ScriptSessionState) → RisesFrom n (numbers xs)
-    → last_from n (numbers xs) < x.number → session_entry (xs ++ x ∷ []) x.number ≡ Some x
-entry_last n [] x h lt = ap (λ b. cond b (Some x) None) (eq-eqb x.number x.number refl)
-entry_last n (y ∷ xs) x h lt =
-    let k = last_at_least y.number (numbers xs) h.1 in
-    let ne : y.number ≢ x.number = λ e. omega (arith, e, k, lt) in
-    ap (λ b. cond b (Some y) (session_entry (xs ++ x ∷ []) x.number)) (ne_eqb y.number x.number ne)
-    ∙ entry_last y.number xs x h.1 lt
-
--- with one more session after the table, with a number above the table's last, the numbers still rise
-pub rises_more : (n : ℕ) (xs : List ScriptSessionState) (x : ScriptSessionState) → RisesFrom n (numbers xs)
-    → last_from n (numbers xs) < x.number → RisesFrom n (numbers (xs ++ x ∷ []))
-rises_more n [] x h lt = (lt, tt)
-rises_more n (y ∷ xs) x h lt = (h.0, rises_more y.number xs x h.1 lt)
 
 -- with one more session after the table its number is the last one
 pub newest_more : (n : ℕ) (xs : List ScriptSessionState) (x : ScriptSessionState)
@@ -130,6 +73,20 @@ last_is n (x ∷ []) d (suc k) e = absurd (omega arith)
 last_is n (x ∷ (y ∷ xs)) d zero e = absurd (omega arith)
 last_is n (x ∷ (y ∷ xs)) d (suc k) e = last_is x.number (y ∷ xs) d k (omega arith)
 
+-- with one more session after the table, with a number above the newest, the numbers still rise
+pub rises_more : (xs : List ScriptSessionState) (x : ScriptSessionState) → IsStrictlyIncreasing (numbers xs)
+    → newest xs < x.number → IsStrictlyIncreasing (numbers (xs ++ x ∷ []))
+rises_more xs x rising lt =
+    let f = λ (y : ScriptSessionState). y.number in
+    rw (map-append f xs (x ∷ [])) (rising_more (numbers xs) x.number rising
+    (λ k is. omega (
+      arith,
+      lt,
+      length-map xs f,
+      get_or-map f xs k x 0 (omega (arith, length-map xs f)),
+      last_is 0 xs x k (omega (arith, length-map xs f)),
+    )))
+
 -- ---- one session changes
 
 -- if the entry at a place is replaced by one with the same number, the numbers of the table stay
@@ -139,19 +96,17 @@ numbers_set [] i y lt e = absurd (omega arith)
 numbers_set (x ∷ xs) zero y lt e = λ j. sym (e x) j ∷ numbers xs
 numbers_set (x ∷ xs) (suc i) y lt e = ap (λ l. x.number ∷ l) (numbers_set xs i y (omega arith) (λ d. e d))
 
--- an entry that replaces one with the same number is found under this number
-pub set_here : (n : ℕ) (xs : List ScriptSessionState) (i : ℕ) (y : ScriptSessionState) → RisesFrom n (numbers xs)
-    → i < length xs
-    → ((d : ScriptSessionState) → (get_or xs i d).number ≡ y.number)
+-- an entry that replaces one with the same number is found under this number, if no entry before it has the number
+set_here : (xs : List ScriptSessionState) (i : ℕ) (y : ScriptSessionState)
+    → ((j : ℕ) (e : ScriptSessionState) → j < i → (get_or xs j e).number ≢ y.number) → i < length xs
     → session_entry (slice_set xs i y) y.number ≡ Some y
-set_here n [] i y h lt e = absurd (omega arith)
-set_here n (x ∷ xs) zero y h lt e = ap (λ b. cond b (Some y) (session_entry xs y.number))
+set_here [] i y other lt = absurd (omega arith)
+set_here (x ∷ xs) zero y other lt = ap (λ b. cond b (Some y) (session_entry xs y.number))
     (eq-eqb y.number y.number refl)
-set_here n (x ∷ xs) (suc i) y h lt e =
-    let k = above x.number xs i x h.1 (omega arith) in let at = e x in
-    let ne : x.number ≢ y.number = λ q. omega (arith, q, k, at) in
-    ap (λ b. cond b (Some x) (session_entry (slice_set xs i y) y.number)) (ne_eqb x.number y.number ne)
-    ∙ set_here x.number xs i y h.1 (omega arith) (λ d. e d)
+set_here (x ∷ xs) (suc i) y other lt =
+    ap (λ b. cond b (Some x) (session_entry (slice_set xs i y) y.number))
+    (ne_eqb x.number y.number (other 0 x (omega arith)))
+    ∙ set_here xs i y (λ j e below. other (suc j) e (omega arith)) (omega arith)
 
 -- if the entry at a place is replaced by one with the same number, each other number is found as before
 pub set_other : (xs : List ScriptSessionState) (i : ℕ) (y : ScriptSessionState) (t : ℕ) → i < length xs
@@ -164,46 +119,6 @@ set_other (x ∷ xs) zero y t lt e ne =
     ∙ sym (ap (λ b. cond b (Some x) (session_entry xs t)) (ne_eqb x.number t was))
 set_other (x ∷ xs) (suc i) y t lt e ne =
     ap (λ o. cond (x.number == t) (Some x) o) (set_other xs i y t (omega arith) (λ d. e d) ne)
-
--- ---- where the search leads
-
--- a number has no entry if those in front of a place are smaller, and those from this place on greater
-below_none : (n : ℕ) (xs : List ScriptSessionState) (s low : ℕ) → RisesFrom n (numbers xs)
-    → ((k : ℕ) (d : ScriptSessionState) → k < low → (get_or xs k d).number < s)
-    → ((k : ℕ) (d : ScriptSessionState) → low ≤ k → k < length xs → s < (get_or xs k d).number)
-    → session_entry xs s ≡ None
-below_none n xs s low h under over =
-    none_at xs s
-    (λ k d lt e. ⊎_elim (λ (b : k < low). let q = under k d b in omega (arith, e, q))
-    (λ (b : low ≤ k). let q = over k d b lt in omega (arith, e, q)) (cases_lt k low))
-
--- numbers that rise don't fall
-not_falling : (xs : List ScriptSessionState) → RisesFrom 0 (numbers xs)
-    → IsNonDecreasingBy (λ (x : ScriptSessionState). x.number) xs
-not_falling xs h i j d le lt =
-    either_way i j
-    (λ eq. rw eq (omega arith))
-    (λ ne. let r = rises_on 0 xs i j d h (omega (arith, le, ne)) lt in omega (arith, r))
-
--- numbers that rise can be parted at any number
-pub parted_at : (xs : List ScriptSessionState) (s : ℕ) → RisesFrom 0 (numbers xs)
-    → IsPartitionedBy (λ (x : ScriptSessionState). nat_lt x.number s) xs
-parted_at xs s h = IsPartitionedBy-ltb (λ (x : ScriptSessionState). x.number) xs s (not_falling xs h)
-
--- a number has no entry where the first that isn't below it is another one, or there is none
-pub none_from : (xs : List ScriptSessionState) (s i : ℕ) → RisesFrom 0 (numbers xs)
-    → ((k : ℕ) (d : ScriptSessionState) → k < i → (get_or xs k d).number < s)
-    → ((k : ℕ) (d : ScriptSessionState) → i ≤ k → k < length xs → s ≤ (get_or xs k d).number)
-    → (i < length xs → (d : ScriptSessionState) → (get_or xs i d).number ≢ s) → session_entry xs s ≡ None
-none_from xs s i h under over other =
-    below_none 0 xs s i h under
-    (λ k d le lt.
-    let here : s < (get_or xs i d).number =
-    ⊎_elim (λ b. b) (λ above. let o = over i d (omega arith) (omega (arith, le, lt)) in
-    absurd (other (omega (arith, le, lt)) d (omega (arith, o, above))))
-    (cases_lt s (get_or xs i d).number) in
-    let on = not_falling xs h i k d le lt in
-    omega (arith, here, on))
 
 -- ---- at a place that was found
 
@@ -218,46 +133,44 @@ pub closed_when : (xs : List ScriptSessionState) (s : ℕ) (x : ScriptSessionSta
     → is_session_open xs s ≡ false
 closed_when xs s x e closed = ap (is_some_and (λ (y : ScriptSessionState). not (is_closed y.stage))) e ∙ ap not closed
 
--- a session without an entry isn't open
-pub none_open : (xs : List ScriptSessionState) (s : ℕ) → session_entry xs s ≡ None → is_session_open xs s ≡ false
-none_open xs s e = ap (is_some_and (λ (y : ScriptSessionState). not (is_closed y.stage))) e
-
 -- if a session's number stands at a place of rising numbers, its entry is the one at this place
-pub placed : (xs : List ScriptSessionState) (s at : ℕ) (d : ScriptSessionState) → RisesFrom 0 (numbers xs)
+pub placed : (xs : List ScriptSessionState) (s at : ℕ) (d : ScriptSessionState) → IsStrictlyIncreasing (numbers xs)
     → at < length xs
     → ((e : ScriptSessionState) → (get_or xs at e).number ≡ s) → session_entry xs s ≡ Some (get_or xs at d)
-placed xs s at d h lt is = ap (session_entry xs) (sym (is d)) ∙ entry_at 0 xs at d h lt
+placed xs s at d h lt is = ap (session_entry xs) (sym (is d))
+    ∙ entry_at xs at d (λ j e below. apart xs j at e d h below lt) lt
 
 -- what was read at a session's place is the session's entry
-pub placed_as : (xs : List ScriptSessionState) (s at : ℕ) (x : ScriptSessionState) → RisesFrom 0 (numbers xs)
+pub placed_as : (xs : List ScriptSessionState) (s at : ℕ) (x : ScriptSessionState) → IsStrictlyIncreasing (numbers xs)
     → at < length xs
     → ((e : ScriptSessionState) → (get_or xs at e).number ≡ s) → x ≡ get_or xs at x → session_entry xs s ≡ Some x
 placed_as xs s at x h lt is x_is = placed xs s at x h lt is ∙ ap (λ (y : ScriptSessionState). Some y) (sym x_is)
 
 -- if the entry at a place is replaced by one with the same number, the numbers still rise
-pub rises_set : (xs : List ScriptSessionState) (s at : ℕ) (y : ScriptSessionState) → RisesFrom 0 (numbers xs)
+pub rises_set : (xs : List ScriptSessionState) (s at : ℕ) (y : ScriptSessionState) → IsStrictlyIncreasing (numbers xs)
     → at < length xs
     → ((e : ScriptSessionState) → (get_or xs at e).number ≡ s) → y.number ≡ s
-    → RisesFrom 0 (numbers (slice_set xs at y))
-rises_set xs s at y h lt is y_is = subst (RisesFrom 0) (sym (numbers_set xs at y lt (λ d. is d ∙ sym y_is))) h
+    → IsStrictlyIncreasing (numbers (slice_set xs at y))
+rises_set xs s at y h lt is y_is = subst IsStrictlyIncreasing (sym (numbers_set xs at y lt (λ d. is d ∙ sym y_is))) h
 
 -- if the entry at a session's place is replaced by what a change makes of it, the session changes so, and the others stay
 changed : (xs : List ScriptSessionState) (s at : ℕ) (f : ScriptSessionState → ScriptSessionState)
-    (x : ScriptSessionState) → RisesFrom 0 (numbers xs)
+    (x : ScriptSessionState) → IsStrictlyIncreasing (numbers xs)
     → at < length xs → ((e : ScriptSessionState) → (get_or xs at e).number ≡ s) → x ≡ get_or xs at x → (f x).number ≡ s
     → ChangesAt xs s f (slice_set xs at (f x))
 changed xs s at f x h lt is x_is y_is =
     let y = f x in
     let old : session_entry xs s ≡ Some x = placed_as xs s at x h lt is x_is in record {
       numbers_are = numbers_set xs at y lt (λ d. is d ∙ sym y_is);
-      here = ap (session_entry (slice_set xs at y)) (sym y_is) ∙ set_here 0 xs at y h lt (λ d. is d ∙ sym y_is)
+      here = ap (session_entry (slice_set xs at y)) (sym y_is) ∙ set_here xs at y
+          (λ j e below same. apart xs j at e x h below lt (same ∙ y_is ∙ sym (is x))) lt
           ∙ sym (ap (option_map f) old);
       others = λ t ne. set_other xs at y t lt (λ d. is d ∙ sym y_is) (λ e. ne (e ∙ y_is));
     }
 
 -- if the entry at a session's place gets another stage, the session changes so, and the others stay
 pub stage_changed : (xs : List ScriptSessionState) (s at : ℕ) (stage : Stage) (x : ScriptSessionState)
-    → RisesFrom 0 (numbers xs)
+    → IsStrictlyIncreasing (numbers xs)
     → at < length xs → ((e : ScriptSessionState) → (get_or xs at e).number ≡ s) → x ≡ get_or xs at x
     → ChangesAt xs s (with_stage stage) (slice_set xs at (with_stage stage x))
 stage_changed xs s at stage x h lt is x_is =
@@ -265,7 +178,7 @@ stage_changed xs s at stage x h lt is x_is =
 
 -- if the entry at an open session's place gets bytes after its output, the session accepts them, and the others stay
 pub output_added : (xs : List ScriptSessionState) (s at : ℕ) (bytes : List ℕ) (x : ScriptSessionState)
-    → RisesFrom 0 (numbers xs)
+    → IsStrictlyIncreasing (numbers xs)
     → at < length xs → ((e : ScriptSessionState) → (get_or xs at e).number ≡ s) → x ≡ get_or xs at x
     → is_closed x.stage ≡ false
     → AcceptsAt xs s bytes (slice_set xs at (with_output bytes x))

@@ -1,5 +1,5 @@
 -- What playing one event leaves consistent, and what it tells.
-use Rattle.std.proofs.Common.{◌≡◌, ℕ, ◌<◌, ◌≤◌, ◌==◌, nat_lt, Bool, true, false, true≢false, not, ◌&&◌, ◌||◌, cond}
+use Rattle.std.proofs.Common.{◌≡◌, ℕ, ◌<◌, ◌≤◌, ◌==◌, nat_lt, Bool, true, false, true≢false, not, ◌||◌, cond}
 use Rattle.std.proofs.Common.{eq-eqb, ne_eqb, List, [], ◌∷◌, ◌++◌}
 use Rattle.std.proofs.Common.{length, drop, take, length-append, ◌⊎◌, refl, sym, ap, subst, ◌∙◌, arith, inl, inr}
 use Rattle.std.proofs.Common.{⊎_elim, Option, Some, None}
@@ -23,7 +23,7 @@ use Rattle.script.specs.declared.sessions.Stage.{Stage}
 use Rattle.script.specs.PortEvents.{event_session, events_without, send_after, plays_from, is_playable}
 use Rattle.script.specs.Remaining.{RemainingState, in_order}
 use Rattle.script.specs.PortSessions.{ScriptSessionState, numbers, newest, session_entry, is_some_and, is_closed}
-use Rattle.script.specs.PortSessions.{is_waiting, was_closed, is_session_open, is_paused}
+use Rattle.script.specs.PortSessions.{is_paused, was_closed, is_session_open, is_session_paused}
 use Rattle.script.specs.Records.{opened_sessions}
 use Rattle.script.specs.Players.{is_left, is_ready, events_left, NoneReady, player_state, Agrees}
 use Rattle.script.specs.Players.{IsPlayerConsistent, IsFirst, IsCausedAt, TellsNext, RecordsClose}
@@ -32,7 +32,7 @@ use Rattle.script.proofs.SessionLemmas.{entry_behind, newest_more}
 use Rattle.script.proofs.EventLemmas.{bool_cases, lt_true, TakenOut, send_again}
 use Rattle.script.specs.Following.{Follows}
 use Rattle.script.proofs.FollowLemmas.{follows_open, follows_send, follows_as, no_opens, sent_apart, goes_here}
-use Rattle.script.proofs.PlayerLemmas.{not_true, apart_before, option_cases, open_entry, around, each_step}
+use Rattle.script.proofs.PlayerLemmas.{not_true, apart_before, option_cases, open_in_list, around, each_step}
 use Rattle.script.proofs.PlayerLemmas.{opened_one, opened_more, plays_along}
 use Rattle.script.proofs.PlayerLemmas.{left_same, left_with, none_ready, ready_same, agrees_fed}
 
@@ -49,16 +49,16 @@ none_around p e k f over = seam_some p.events.aside e f.after
 
 -- what follows one player's script and faults follows the same of another
 follows_faults : (p q : Player) → q.script ≡ p.script → q.can_fail ≡ p.can_fail
-    → Follows p.script.value.items (events_left q.sessions (in_order q.events)) q.records
+    → Follows p.script (events_left q.sessions (in_order q.events)) q.records
     (was_closed q.sessions) p.can_fail
-    → Follows q.script.value.items (events_left q.sessions (in_order q.events)) q.records
+    → Follows q.script (events_left q.sessions (in_order q.events)) q.records
     (was_closed q.sessions) q.can_fail
 follows_faults p q script_is can_fail_is follows =
-    subst (λ (b : Bool). Follows q.script.value.items (events_left q.sessions (in_order q.events)) q.records
+    subst (λ (b : Bool). Follows q.script (events_left q.sessions (in_order q.events)) q.records
     (was_closed q.sessions) b) (sym can_fail_is)
     (subst (λ (script : List ScriptEvent). Follows script (events_left q.sessions (in_order q.events)) q.records
     (was_closed q.sessions) p.can_fail)
-    (sym (ap (λ sn. sn.value.items) script_is)) follows)
+    (sym script_is) follows)
 
 -- what is left once the first of the rest is dropped
 pub first_dropped : (old new : RemainingState) (e : ScriptEvent) (after : List ScriptEvent) → old.rest ≡ e ∷ after
@@ -68,16 +68,14 @@ first_dropped old new e after is dropped =
     dropped (omega (arith, k)) ∙ ap (λ (l : List ScriptEvent). record old { rest = drop 1 l }) is
 
 -- the first of the rest, where it may be played
-pub first_of_rest : (p : Player) (e : ScriptEvent) → p.events.rest ≡ e ∷ drop 1 p.events.rest
-    → ((e : ScriptEvent) (after : List ScriptEvent) → p.events.rest ≡ e ∷ after → is_ready p.sessions e ≡ true)
-    → IsPlayerConsistent p → p.ended ≡ false → IsFirst p e
-first_of_rest p e is ready k running = record {
-  consistent = k;
-  running = running;
-  after = drop 1 p.events.rest;
-  rest_is = is;
-  ready = ready e (drop 1 p.events.rest) is;
-}
+pub first_of_rest : (p q : Player) (e : ScriptEvent) → p ≡ q → p.events.rest ≡ e ∷ drop 1 p.events.rest
+    → ((e : ScriptEvent) (after : List ScriptEvent) → q.events.rest ≡ e ∷ after → is_ready q.sessions e ≡ true)
+    → q.ended ≡ false → IsFirst p e
+first_of_rest p q e same is ready running =
+    let rest = drop 1 p.events.rest in
+    subst (λ (x : Player). IsFirst x e) (sym same) (
+    let front = sym (ap (λ (x : Player). x.events.rest) same) ∙ is in
+    record { running = running; after = rest; rest_is = front; ready = ready e rest front })
 
 -- ---- a session is opened
 
@@ -174,7 +172,7 @@ open_consistent p q s k f o =
           ∙ e) in omega (arith, le, o.newer))));
       at_end = ap (is_in was.Ended) o.records_are ∙ ended_same l (was.Opened s) refl ∙ k.at_end ∙ sym o.ended_is;
       plays = λ tells.
-          let told = ap (λ sn. is_playable sn.value.items) (sym o.script_is) ∙ tells in
+          let told = ap is_playable (sym o.script_is) ∙ tells in
           (λ i. plays_from (newest (o.sessions_are i)) (is_session_open (o.sessions_are i))
           (events_left (o.sessions_are i) (in_order (o.events_are i))))
           ∙ plays_along s (newest ss') (λ t. open_after t (is_session_open ss t) (Open s)) (is_session_open ss')
@@ -185,11 +183,11 @@ open_consistent p q s k f o =
           ∙ filter-append (is_left ss) p.events.aside f.after)
           ((r.taken told).rest_plays);
       follows = λ tells.
-          let told = ap (λ sn. is_playable sn.value.items) (sym o.script_is) ∙ tells in
+          let told = ap is_playable (sym o.script_is) ∙ tells in
           let L1 = events_left ss p.events.aside in let L2 = events_left ss f.after in
-          let apart = apart_before ss (newest ss) (Open s) L1 k.rising r.free r.held in
+          let apart = apart_before ss (newest ss) (Open s) L1 k.rising r.free r.paused in
           follows_faults p q o.script_is o.can_fail_is
-          (follows_open p.script.value.items (events_left ss (in_order p.events))
+          (follows_open p.script (events_left ss (in_order p.events))
           (events_left q.sessions (in_order q.events)) L1 L2 l q.records s (was_closed ss)
           (was_closed q.sessions) p.can_fail
           r.left_is
@@ -207,7 +205,7 @@ open_consistent p q s k f o =
           (subst (λ (m : List ScriptSessionState). NoneReady m p.events.aside) (sym o.sessions_are)
           (none_ready ss ss' p.events.aside
           (ready_same ss ss' (test_added (λ (x : ScriptSessionState). is_closed x.stage) ss s none refl)
-          (test_added (λ (x : ScriptSessionState). is_waiting x.stage) ss s none refl)) k.aside));
+          (test_added (λ (x : ScriptSessionState). is_paused x.stage) ss s none refl)) k.aside));
       finished = λ over. absurd (none_around p (Open s) k f (sym o.ended_is ∙ over));
       may_fail = λ some. o.can_fail_is ∙ k.may_fail (subst (λ n. 0 < n) o.fail_is some);
     }
@@ -226,7 +224,7 @@ old_sessions p k t e = let x = not_opened (session_entry p.sessions t) (port_fac
 -- where the script may be played as it stands, a session that a running player opens next comes as it may
 pub open_told : (p q : Player) (s : ℕ) (k : IsPlayerConsistent p) (f : IsFirst p (Open s))
     → OpensTo p q s f.after
-    → p.ended ≡ false → is_playable p.script.value.items ≡ true
+    → p.ended ≡ false → is_playable p.script ≡ true
     → TellsNext (player_state p) (event.Opened s) (player_state q)
 open_told p q s k f o running tells =
     let ss = p.sessions in let ss' = ss ++ fresh s ∷ [] in
@@ -248,17 +246,17 @@ open_told p q s k f o running tells =
         before = events_left ss p.events.aside;
         after = events_left ss f.after;
         old_is = r.left_is;
-        held = r.held;
+        paused = r.paused;
         free = r.free;
         left_is = left ∙ ap (λ (l : List ScriptEvent). l ++ events_left ss f.after)
             (sym (append-nil (events_left ss p.events.aside)));
       };
       goes_on = (
-        ap (λ sn. sn.value.items) o.script_is,
+        o.script_is,
         o.accept_is,
         o.fail_is,
-        (λ t. ap (λ (m : List ScriptSessionState). is_paused m t) o.sessions_are
-            ∙ test_added (λ (x : ScriptSessionState). is_waiting x.stage) ss s none refl t),
+        (λ t. ap (λ (m : List ScriptSessionState). is_session_paused m t) o.sessions_are
+            ∙ test_added (λ (x : ScriptSessionState). is_paused x.stage) ss s none refl t),
       );
     }
 
@@ -343,17 +341,17 @@ send_consistent p q s bytes k f o =
           (k.rising t y (ap (λ (m : List ScriptSessionState). session_entry m t) (sym o.sessions_are) ∙ e));
       at_end = ap (is_in was.Ended) o.records_are ∙ ended_same l x refl ∙ k.at_end ∙ sym o.ended_is;
       plays = λ tells.
-          let told = ap (λ sn. is_playable sn.value.items) (sym o.script_is) ∙ tells in
+          let told = ap is_playable (sym o.script_is) ∙ tells in
           (λ i. plays_from (newest (o.sessions_are i)) (is_session_open (o.sessions_are i))
           (send_left p q s bytes f.after o r.is_left_too i))
           ∙ rest_plays (newest ss) (is_session_open ss) (events_left ss p.events.aside) s bytes (events_left ss f.after)
           (ap (plays_from (newest ss) (is_session_open ss)) (sym r.left_is) ∙ k.plays told) (r.taken told);
       follows = λ tells.
-          let told = ap (λ sn. is_playable sn.value.items) (sym o.script_is) ∙ tells in
+          let told = ap is_playable (sym o.script_is) ∙ tells in
           let L1 = events_left ss p.events.aside in let L2 = events_left ss f.after in
-          let apart = apart_before ss (newest ss) (Send s bytes) L1 k.rising r.free r.held in
+          let apart = apart_before ss (newest ss) (Send s bytes) L1 k.rising r.free r.paused in
           follows_faults p q o.script_is o.can_fail_is
-          (follows_send p.script.value.items (events_left ss (in_order p.events))
+          (follows_send p.script (events_left ss (in_order p.events))
           (events_left q.sessions (in_order q.events)) L1 L2 l q.records s bytes (was_closed ss)
           (was_closed q.sessions) p.can_fail
           r.left_is (send_left p q s bytes f.after o r.is_left_too) o.records_are
@@ -367,22 +365,13 @@ send_consistent p q s bytes k f o =
       may_fail = λ some. o.can_fail_is ∙ k.may_fail (subst (λ n. 0 < n) o.fail_is some);
     }
 
--- an open session is open in the list too
-pub open_in_list : (p : Player) (s : ℕ) → IsPlayerConsistent p → is_session_open p.sessions s ≡ true
-    → list.is_open s p.records ≡ true
-open_in_list p s k e =
-    let x = open_entry p.sessions s e in
-    let h : Agrees (Some x.0) (port_facts p.records s) =
-    subst (λ (o : Option ScriptSessionState). Agrees o (port_facts p.records s)) x.1 (k.each s) in
-    (λ i. h.0 i && not (h.1 i)) ∙ ap not x.2
-
 -- the first so many of some bytes are no more than so many
 short_take : (n : ℕ) (xs : List ℕ) → length (take n xs) ≤ n
 short_take n xs = omega (arith, length-take n xs)
 
 -- where the script may be played as it stands, a piece that a running player hands out next comes as it may
 pub send_told : (p q : Player) (s : ℕ) (bytes : List ℕ) (k : IsPlayerConsistent p) (f : IsFirst p (Send s bytes))
-    → SendsTo p q s bytes f.after → p.ended ≡ false → is_playable p.script.value.items ≡ true
+    → SendsTo p q s bytes f.after → p.ended ≡ false → is_playable p.script ≡ true
     → TellsNext (player_state p) (event.Data s (take 16384 bytes)) (player_state q)
 send_told p q s bytes k f o running tells =
     let ss = p.sessions in
@@ -399,33 +388,33 @@ send_told p q s bytes k f o running tells =
           before = events_left ss p.events.aside;
           after = events_left ss f.after;
           old_is = r.left_is;
-          held = r.held;
+          paused = r.paused;
           free = r.free;
           left_is = send_left p q s bytes f.after o r.is_left_too;
         },
       );
       goes_on = (
-        ap (λ sn. sn.value.items) o.script_is,
+        o.script_is,
         o.accept_is,
         o.fail_is,
-        (λ t. ap (λ (m : List ScriptSessionState). is_paused m t) o.sessions_are),
+        (λ t. ap (λ (m : List ScriptSessionState). is_session_paused m t) o.sessions_are),
       );
     }
 
 -- ---- the peer has gone
 
 -- the stage of a closed session isn't that of a paused one
-closed_stage : (g : Stage) → is_closed g ≡ true → is_waiting g ≡ false
+closed_stage : (g : Stage) → is_closed g ≡ true → is_paused g ≡ false
 closed_stage Playing e = refl
 closed_stage Paused e = absurd (true≢false (sym e))
 closed_stage Closed e = refl
 
 -- a session that is closed isn't paused
-pub closed_waits : (o : Option ScriptSessionState)
+pub closed_not_paused : (o : Option ScriptSessionState)
     → is_some_and (λ (x : ScriptSessionState). is_closed x.stage) o ≡ true
-    → is_some_and (λ (x : ScriptSessionState). is_waiting x.stage) o ≡ false
-closed_waits None e = refl
-closed_waits (Some x) e = closed_stage x.stage e
+    → is_some_and (λ (x : ScriptSessionState). is_paused x.stage) o ≡ false
+closed_not_paused None e = refl
+closed_not_paused (Some x) e = closed_stage x.stage e
 
 -- a player takes an event away, and nothing else changes
 pub record GoesTo (m q : Player) (after : List ScriptEvent) : Type 0 where
@@ -470,7 +459,7 @@ gone_consistent p m q s old f c g k =
       at_end = k.at_end;
       plays = λ tells. ap (plays_from (newest m.sessions) (is_session_open m.sessions)) (gone_left p m q s f c g)
           ∙ k.plays tells;
-      follows = λ tells. follows_as m.script.value.items (events_left m.sessions (in_order m.events)) _ m.records
+      follows = λ tells. follows_as m.script (events_left m.sessions (in_order m.events)) _ m.records
           (was_closed m.sessions) (was_closed m.sessions) m.can_fail (gone_left p m q s f c g) (λ t. refl)
           (k.follows tells);
       aside = subst (λ (e : RemainingState). NoneReady m.sessions e.aside) (sym g.events_are) k.aside;
@@ -481,7 +470,7 @@ gone_consistent p m q s old f c g k =
 -- where the script may be played as it stands, a peer that goes next from a running player goes as it may
 pub gone_told : (p m q : Player) (s : ℕ) (k : IsPlayerConsistent p) (f : IsFirst p (Gone s))
     → RecordsClose p s (was.Gone s) m
-    → GoesTo m q f.after → p.ended ≡ false → is_playable p.script.value.items ≡ true
+    → GoesTo m q f.after → p.ended ≡ false → is_playable p.script ≡ true
     → TellsNext (player_state p) (event.Gone s) (player_state q)
 gone_told p m q s k f c g running tells =
     let ss = p.sessions in
@@ -493,7 +482,7 @@ gone_told p m q s k f c g running tells =
       may = λ sizes dialect worker exchange history. (open_in_list p s k ((r.taken tells).may), k.at_end ∙ running);
       plays = (
         L1 ++ [] ++ L2,
-        record { before = L1; after = L2; old_is = r.left_is; held = r.held; free = r.free; left_is = refl },
+        record { before = L1; after = L2; old_is = r.left_is; paused = r.paused; free = r.free; left_is = refl },
         gone_left p m q s f c g ∙ c.shuts.left ∙ ap (events_without s) r.left_is ∙ without_gone s L1 L2
             ∙ ap (events_without s) (sym none),
       );
@@ -502,8 +491,8 @@ gone_told p m q s k f c g running tells =
         c.shuts.faults.1,
         c.shuts.faults.2,
         (λ t. either_way t s
-            (λ eq. ap (is_paused m.sessions) eq ∙ closed_waits (session_entry m.sessions s) c.closed
-            ∙ sym (ap (is_paused ss) eq ∙ r.free))
+            (λ eq. ap (is_session_paused m.sessions) eq ∙ closed_not_paused (session_entry m.sessions s) c.closed
+            ∙ sym (ap (is_session_paused ss) eq ∙ r.free))
             (λ ne. c.shuts.others t ne)),
       );
     })
@@ -522,7 +511,7 @@ pub odd_consistent : (p q : Player) → IsPlayerConsistent p → q.sessions ≡ 
     → q.ended ≡ p.ended
     → q.script ≡ p.script → q.fail_give ≡ p.fail_give → q.can_fail ≡ p.can_fail → q.events.aside ≡ p.events.aside
     → (q.ended ≡ true → in_order q.events ≡ [])
-    → (is_playable p.script.value.items ≡ true → ⊥) → IsPlayerConsistent q
+    → (is_playable p.script ≡ true → ⊥) → IsPlayerConsistent q
 odd_consistent p q k sessions_are records_are ended_is script_is fail_is can_fail_is aside_is finished silent = record {
   each = λ t. subst (λ (m : List ScriptSessionState). Agrees (session_entry m t) (port_facts q.records t))
       (sym sessions_are)
@@ -532,8 +521,8 @@ odd_consistent p q k sessions_are records_are ended_is script_is fail_is can_fai
   rising = λ t y e. subst (λ (m : List ScriptSessionState). t ≤ newest m) (sym sessions_are)
       (k.rising t y (ap (λ (m : List ScriptSessionState). session_entry m t) (sym sessions_are) ∙ e));
   at_end = ap (is_in was.Ended) records_are ∙ k.at_end ∙ sym ended_is;
-  plays = λ tells. absurd (silent (ap (λ sn. is_playable sn.value.items) (sym script_is) ∙ tells));
-  follows = λ tells. absurd (silent (ap (λ sn. is_playable sn.value.items) (sym script_is) ∙ tells));
+  plays = λ tells. absurd (silent (ap is_playable (sym script_is) ∙ tells));
+  follows = λ tells. absurd (silent (ap is_playable (sym script_is) ∙ tells));
   aside = subst (λ (m : List ScriptSessionState). NoneReady m q.events.aside) (sym sessions_are)
       (subst (NoneReady p.sessions) (sym aside_is) k.aside);
   finished = finished;
@@ -542,17 +531,17 @@ odd_consistent p q k sessions_are records_are ended_is script_is fail_is can_fai
 
 -- a session that opens is new, and one of which something comes is open
 pub opens_new : (p : Player) (s : ℕ) → IsPlayerConsistent p → IsFirst p (Open s)
-    → is_playable p.script.value.items ≡ true → newest p.sessions < s
+    → is_playable p.script ≡ true → newest p.sessions < s
 opens_new p s k f tells = lt_true (newest p.sessions) s (((around p (Open s) k f).taken tells).may)
 
 -- where the script may be played as it stands, the session of a send that is played next is open
 pub sends_open : (p : Player) (s : ℕ) (bytes : List ℕ) → IsPlayerConsistent p → IsFirst p (Send s bytes)
-    → is_playable p.script.value.items ≡ true → is_session_open p.sessions s ≡ true
+    → is_playable p.script ≡ true → is_session_open p.sessions s ≡ true
 sends_open p s bytes k f tells = ((around p (Send s bytes) k f).taken tells).may
 
 -- where the script may be played as it stands, the session of a peer that goes next is open
 pub goes_open : (p : Player) (s : ℕ) → IsPlayerConsistent p → IsFirst p (Gone s)
-    → is_playable p.script.value.items ≡ true → is_session_open p.sessions s ≡ true
+    → is_playable p.script ≡ true → is_session_open p.sessions s ≡ true
 goes_open p s k f tells = ((around p (Gone s) k f).taken tells).may
 
 -- ---- closed sessions' events in front

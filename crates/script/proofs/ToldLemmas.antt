@@ -1,7 +1,7 @@
 -- What a port tells after each of its calls.
-use Rattle.std.proofs.Common.{◌≡◌, ◌≢◌, ℕ, ◌==◌, Bool, true, false, true≢false, not, ◌&&◌, ◌||◌, cond, eq-eqb, ne_eqb}
+use Rattle.std.proofs.Common.{◌≡◌, ◌≢◌, ℕ, ◌==◌, Bool, true, false, ◌||◌, cond, eq-eqb, ne_eqb}
 use Rattle.std.proofs.Common.{List, [], ◌∷◌, ◌++◌, refl, sym}
-use Rattle.std.proofs.Common.{ap, subst, ◌∙◌, Option, Some, None, option_map, Result, Ok, Err}
+use Rattle.std.proofs.Common.{ap, subst, ◌∙◌, Some, None, option_map, Result, Ok, Err}
 use Rattle.worker_port.specs.declared.events.PortRecord.{PortRecord}
 use Rattle.worker_port.specs.declared.events.PortRecord.TheVariants as was
 use Rattle.worker_port.specs.declared.events.PortEvent.{PortEvent}
@@ -12,13 +12,11 @@ use Rattle.worker_port.specs.Giving.{by_any_clock}
 use Rattle.worker_port.specs.Ports.{PortTrace, then_told, then_gave, with_pause, event_records, is_open, MayCome}
 use Rattle.script.specs.PortEvents.{is_playable}
 use Rattle.script.specs.Records.{give_records}
-use Rattle.script.specs.States.{PortState, PlayerState, is_held, script_trace, trace_told, Gives, DropsSession, SetsHeld}
-use Rattle.worker_port.specs.PortFacts.{PortFacts, port_facts}
+use Rattle.script.specs.PortSessions.{is_session_paused}
+use Rattle.script.specs.States.{PortState, PlayerState, script_trace, trace_told, Gives, DropsSession, SetsPaused}
 use Rattle.script.specs.declared.player.Player.{Player}
-use Rattle.script.specs.PortSessions.{ScriptSessionState, is_some_and, is_closed}
-use Rattle.script.specs.PortSessions as in_table
-use Rattle.script.specs.Players.{Agrees, IsPlayerConsistent, player_state, TellsNext}
-use Rattle.script.proofs.EventLemmas.{bool_cases, and_left, and_right}
+use Rattle.script.specs.Players.{player_state, TellsNext}
+use Rattle.script.proofs.EventLemmas.{bool_cases}
 use Rattle.proto.proofs.CountLemmas.{either_way}
 
 -- where it tells, its trace is as it is said; where it doesn't, it still doesn't
@@ -33,26 +31,12 @@ told_step old new f script_is step =
     ap (λ b. cond b (Some (script_trace new)) None) (ap is_playable script_is ∙ no)
     ∙ sym (ap (λ b. option_map f (cond b (Some (script_trace old)) None)) no))
 
--- what is asked of a call, where the port tells
-pub open_where_told : (port : PortState) (s : ℕ)
-    → ((trace : PortTrace) → trace_told port ≡ Some trace → is_open s trace.events ≡ true) → is_playable port.player.script ≡ true
-    → is_open s port.player.records ≡ true
-open_where_told port s asked tells = asked (script_trace port) (ap (λ b. cond b (Some (script_trace port)) None) tells)
-
--- a session that is open in the list is open in the table too
-facts_open : (o : Option ScriptSessionState) (f : PortFacts) → Agrees o f → (f.opened && not (f.gone || f.shut)) ≡ true
-    → is_some_and (λ (x : ScriptSessionState). not (is_closed x.stage)) o ≡ true
-facts_open None f agrees active = absurd (true≢false
-    (sym (and_left f.opened (not (f.gone || f.shut)) active) ∙ agrees.0))
-facts_open (Some x) f agrees active = sym (ap not agrees.1) ∙ and_right f.opened (not (f.gone || f.shut)) active
-
--- where the port tells, a session that is open in its trace is open in the player's table
-pub open_in_table : (port : PortState) (p : Player) (s : ℕ) → player_state p ≡ port.player → IsPlayerConsistent p
+-- where the port tells, a session that is open in its trace is open in the player's list
+pub open_where_told : (port : PortState) (p : Player) (s : ℕ) → player_state p ≡ port.player
     → ((trace : PortTrace) → trace_told port ≡ Some trace → is_open s trace.events ≡ true)
-    → is_playable port.player.script ≡ true → in_table.is_session_open p.sessions s ≡ true
-open_in_table port p s same k asked tells =
-    facts_open (in_table.session_entry p.sessions s) (port_facts p.records s) (k.each s)
-    (ap (λ (q : PlayerState). is_open s q.records) same ∙ open_where_told port s asked tells)
+    → is_playable port.player.script ≡ true → is_open s p.records ≡ true
+open_where_told port p s same asked tells = ap (λ (q : PlayerState). is_open s q.records) same
+    ∙ asked (script_trace port) (ap (λ b. cond b (Some (script_trace port)) None) tells)
 
 -- what may come, where the port tells
 pub may_where_told : (port : PortState) (result : PortEvent)
@@ -72,13 +56,14 @@ or_none true = refl
 or_none false = refl
 
 -- what ends a session leaves it paused no more, and the others as they are
-ends_held : (old new : PlayerState) (s t : ℕ) (ends : Bool) → ends ≡ (s == t) → is_held new s ≡ false
-    → ((u : ℕ) → u ≢ s → is_held new u ≡ is_held old u) → is_held new t ≡ cond ends false (is_held old t)
-ends_held old new s t ends ends_is here others =
+ends_paused : (old new : PlayerState) (s t : ℕ) (ends : Bool) → ends ≡ (s == t) → is_session_paused new.sessions s ≡ false
+    → ((u : ℕ) → u ≢ s → is_session_paused new.sessions u ≡ is_session_paused old.sessions u)
+    → is_session_paused new.sessions t ≡ cond ends false (is_session_paused old.sessions t)
+ends_paused old new s t ends ends_is here others =
     either_way t s
-    (λ same. ap (is_held new) same ∙ here
-    ∙ sym (ap (λ b. cond b false (is_held old t)) (ends_is ∙ eq-eqb s t (sym same))))
-    (λ apart. others t apart ∙ sym (ap (λ b. cond b false (is_held old t)) (ends_is ∙ ne_eqb s t (λ e. apart (sym e)))))
+    (λ same. ap (is_session_paused new.sessions) same ∙ here
+    ∙ sym (ap (λ b. cond b false (is_session_paused old.sessions t)) (ends_is ∙ eq-eqb s t (sym same))))
+    (λ apart. others t apart ∙ sym (ap (λ b. cond b false (is_session_paused old.sessions t)) (ends_is ∙ ne_eqb s t (λ e. apart (sym e)))))
 
 -- two numbers are compared in either order
 either_order : (s t : ℕ) → (t == s) ≡ (s == t)
@@ -90,12 +75,12 @@ by_gone : (s t : ℕ) → (((s == t) || false) || false) ≡ (s == t)
 by_gone s t = or_none ((s == t) || false) ∙ or_none (s == t)
 
 -- this session is paused or not, and the others as they were
-now_held : (old new : PlayerState) (s t : ℕ) (held : Bool) → SetsHeld old s held new
-    → is_held new t ≡ cond (t == s) held (is_held old t)
-now_held old new s t held sets =
+now_paused : (old new : PlayerState) (s t : ℕ) (paused : Bool) → SetsPaused old s paused new
+    → is_session_paused new.sessions t ≡ cond (t == s) paused (is_session_paused old.sessions t)
+now_paused old new s t paused sets =
     either_way t s
-    (λ same. ap (is_held new) same ∙ sets.here ∙ sym (ap (λ b. cond b held (is_held old t)) (eq-eqb t s same)))
-    (λ apart. sets.others t apart ∙ sym (ap (λ b. cond b held (is_held old t)) (ne_eqb t s apart)))
+    (λ same. ap (is_session_paused new.sessions) same ∙ sets.here ∙ sym (ap (λ b. cond b paused (is_session_paused old.sessions t)) (eq-eqb t s same)))
+    (λ apart. sets.others t apart ∙ sym (ap (λ b. cond b paused (is_session_paused old.sessions t)) (ne_eqb t s apart)))
 
 -- these fields are the same
 pub record IsSameBeside (old new : PortState) : Type 0 where
@@ -107,11 +92,11 @@ pub record IsSameBeside (old new : PortState) : Type 0 where
 
 -- the trace of a port, by its list and by who is paused, where the rest is as it was
 trace_is : (old new : PortState) (events : List PortRecord) (paused : ℕ → Bool) → IsSameBeside old new
-    → new.player.records ≡ events → ((t : ℕ) → is_held new.player t ≡ paused t)
+    → new.player.records ≡ events → ((t : ℕ) → is_session_paused new.player.sessions t ≡ paused t)
     → script_trace new ≡ record (script_trace old) { events = events; paused = paused }
-trace_is old new events paused same events_are held i = record {
+trace_is old new events paused same events_are paused_are i = record {
   events = events_are i;
-  paused = λ t. held t i;
+  paused = λ t. paused_are t i;
   terms = by_any_clock (same.sizes i);
   dialect = same.dialect i;
   worker = same.worker i;
@@ -142,7 +127,7 @@ told_next old new event.Ended same script_is tells =
 told_next old new (event.Gone s) same script_is tells =
     told_step old new (then_told (was.Gone s ∷ [])) script_is
     (λ yes. trace_is old new _ _ same (tells yes).records_are
-    (λ t. ends_held old.player new.player s t (((s == t) || false) || false) (by_gone s t)
+    (λ t. ends_paused old.player new.player s t (((s == t) || false) || false) (by_gone s t)
     ((tells yes).goes_on.3 s ∙ (tells yes).plays.1.free) (λ u ne. (tells yes).goes_on.3 u)))
 
 -- bytes were offered, by this history
@@ -159,17 +144,17 @@ told_give old new s bytes (Ok n) history same script_is tells =
 told_give old new s bytes (Err e) history same script_is tells =
     told_step old new (then_gave s bytes (Err e) history) script_is
     (λ yes. trace_is (record old { history = history }) new _ _ same (tells yes).0
-    (λ t. ends_held old.player new.player s t (t == s) (either_order s t) (tells yes).1.2 (tells yes).1.3))
+    (λ t. ends_paused old.player new.player s t (t == s) (either_order s t) (tells yes).1.2 (tells yes).1.3))
 
 -- a session was paused or resumed
-pub told_held : (old new : PortState) (s : ℕ) (held : Bool) → IsSameBeside old new
+pub told_paused : (old new : PortState) (s : ℕ) (paused : Bool) → IsSameBeside old new
     → new.player.script ≡ old.player.script
-    → (is_playable old.player.script ≡ true → SetsHeld old.player s held new.player)
-    → trace_told new ≡ option_map (with_pause s held) (trace_told old)
-told_held old new s held same script_is sets =
-    told_step old new (with_pause s held) script_is
+    → (is_playable old.player.script ≡ true → SetsPaused old.player s paused new.player)
+    → trace_told new ≡ option_map (with_pause s paused) (trace_told old)
+told_paused old new s paused same script_is sets =
+    told_step old new (with_pause s paused) script_is
     (λ yes. trace_is old new _ _ same (ap (λ (p : PlayerState). p.records) (sets yes).rest)
-    (λ t. now_held old.player new.player s t held (sets yes)))
+    (λ t. now_paused old.player new.player s t paused (sets yes)))
 
 -- a session was shut
 pub told_shut : (old new : PortState) (s : ℕ) → IsSameBeside old new → new.player.script ≡ old.player.script
@@ -179,4 +164,4 @@ pub told_shut : (old new : PortState) (s : ℕ) → IsSameBeside old new → new
 told_shut old new s same script_is tells =
     told_step old new (then_told (was.Shut s ∷ [])) script_is
     (λ yes. trace_is old new _ _ same (tells yes).0
-    (λ t. ends_held old.player new.player s t ((s == t) || false) (or_none (s == t)) (tells yes).1.here (tells yes).1.others))
+    (λ t. ends_paused old.player new.player s t ((s == t) || false) (or_none (s == t)) (tells yes).1.here (tells yes).1.others))

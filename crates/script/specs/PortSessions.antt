@@ -1,6 +1,6 @@
 -- The sessions that a port has opened.
-use Rattle.std.specs.Prelude.{◌≡◌, ◌≢◌, ℕ, ◌<◌, ⊤, Bool, true, false, not, ◌==◌, if◌then◌else◌, List, [], ◌∷◌, ◌++◌}
-use Rattle.std.specs.Prelude.{length, map, slice_index_or, Option}
+use Rattle.std.specs.Prelude.{◌≡◌, ◌≢◌, ℕ, ◌<◌, Bool, true, false, not, ◌==◌, if◌then◌else◌, List, [], ◌∷◌, ◌++◌}
+use Rattle.std.specs.Prelude.{length, map, slice_index, Contains, Option}
 use Rattle.std.specs.Prelude.{Some, None, option_map, MatchOption}
 use Rattle.script.specs.declared.sessions.Stage.{Stage}
 use Rattle.script.specs.declared.sessions.Stage.TheVariants.{Playing, Paused, Closed}
@@ -13,11 +13,6 @@ pub record ScriptSessionState : Type 0 where
 
 abbrev pub numbers : List ScriptSessionState → List ℕ
 numbers sessions = map (λ (x : ScriptSessionState). x.number) sessions
-
--- the numbers rise from one above this one
-abbrev pub RisesFrom : ℕ → List ℕ → Type 0
-RisesFrom n [] = ⊤
-RisesFrom n (x ∷ xs) = (n < x) × RisesFrom x xs
 
 -- the last number, or this one where there is none
 abbrev pub last_from : ℕ → List ℕ → ℕ
@@ -37,10 +32,10 @@ is_closed Playing = false
 is_closed Paused = false
 is_closed Closed = true
 
-abbrev pub is_waiting : Stage → Bool
-is_waiting Playing = false
-is_waiting Paused = true
-is_waiting Closed = false
+abbrev pub is_paused : Stage → Bool
+is_paused Playing = false
+is_paused Paused = true
+is_paused Closed = false
 
 abbrev pub is_some_and : (ScriptSessionState → Bool) → Option ScriptSessionState → Bool
 is_some_and p (Some x) = p x
@@ -54,15 +49,15 @@ abbrev pub is_session_open : List ScriptSessionState → ℕ → Bool
 is_session_open sessions session = is_some_and (λ (x : ScriptSessionState). not (is_closed x.stage))
     (session_entry sessions session)
 
-abbrev pub is_paused : List ScriptSessionState → ℕ → Bool
-is_paused sessions session = is_some_and (λ (x : ScriptSessionState). is_waiting x.stage)
+abbrev pub is_session_paused : List ScriptSessionState → ℕ → Bool
+is_session_paused sessions session = is_some_and (λ (x : ScriptSessionState). is_paused x.stage)
     (session_entry sessions session)
 
--- the place of a session, if it is there
-abbrev pub IsPlaceOf : List ScriptSessionState → ℕ → Option ℕ → Type 0
-IsPlaceOf sessions session place =
-    MatchOption place (session_entry sessions session ≡ None)
-    (λ at. (at < length sessions) × ((d : ScriptSessionState) → (slice_index_or sessions at d).number ≡ session))
+-- the position of a number, if it is there
+abbrev pub IsPositionOf : List ℕ → ℕ → Option ℕ → Type 0
+IsPositionOf numbers number position =
+    MatchOption position (Contains numbers number → ⊥)
+    (λ at. (at < length numbers) × (slice_index numbers at ≡ number))
 
 abbrev pub with_stage : Stage → ScriptSessionState → ScriptSessionState
 with_stage stage x = record x { stage = stage }

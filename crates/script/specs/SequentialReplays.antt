@@ -1,8 +1,8 @@
 -- What a run of one worker's events gives.
-use Rattle.std.specs.Prelude.{◌≡◌, ℕ, ◌<◌, ◌≤◌, ◌++◌, ◌≢◌, false, List, [], ◌∷◌, length, map, slice_index}
+use Rattle.std.specs.Prelude.{◌≡◌, ℕ, ◌<◌, ◌≤◌, ◌++◌, false, List, [], ◌∷◌, map}
 use Rattle.std.specs.Prelude.{slice_index_or, slice_set, Contains, All}
-use Rattle.std.specs.Prelude.{MatchOption, Option}
 use Rattle.std.specs.List.{AllByRecursion}
+use Rattle.std.specs.List.Sorted.{IsStrictlyIncreasing}
 use Rattle.proto.specs.declared.dialect.Dialect.TheVariants.{Strict}
 use Rattle.proto.specs.declared.message.Message.{Message}
 use Rattle.proto.specs.declared.history.Answered.{Answered}
@@ -50,10 +50,6 @@ pub record IsReplay (sizes : Sizes) (clock : ClockState) (events : List ScriptEv
 abbrev pub numbers_of : List SequentialSession → List ℕ
 numbers_of sessions = map (λ (s : SequentialSession). s.number) sessions
 
--- each number is below those after it
-abbrev pub IsRising : List ℕ → Type 0
-IsRising numbers = (i j : ℕ) → i < j → j < length numbers → slice_index numbers i < slice_index numbers j
-
 -- a session with a higher number is neither open nor has sent anything
 abbrev pub IsFresh : List ScriptEvent → Type 0
 IsFresh events = (session : ℕ) → newest_of events < session
@@ -66,18 +62,12 @@ pub record HasRun (setup : Setup) (events : List ScriptEvent) (now : Execution)
   pub led : LedTo setup history now
   pub among : AllByRecursion (IsAmong (sessions_opened events)) history
   pub numbers : numbers_of sessions ≡ sessions_opened events
-  pub rising : IsRising (sessions_opened events)
+  pub rising : IsStrictlyIncreasing (sessions_opened events)
   pub highest : All (λ (n : ℕ). n ≤ newest_of events) (sessions_opened events)
   pub fresh : IsFresh events
   pub each : All (λ (s : SequentialSession). AreBytesServed (sent_bytes events s.number)
       (session_share history 0 s.number) s)
       sessions
-
--- the place of a session, if it is there
-abbrev pub IsSessionAt : List SequentialSession → ℕ → Option ℕ → Type 0
-IsSessionAt sessions number place =
-    MatchOption place (All (λ (s : SequentialSession). s.number ≢ number) sessions)
-    (λ at. (at < length sessions) × (slice_index (numbers_of sessions) at ≡ number))
 
 -- the session at a place is fed, and the others stay
 pub record FeedsAt (before : List SequentialSession) (at : ℕ) (from : Execution) (piece : List ℕ)

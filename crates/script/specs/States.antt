@@ -18,7 +18,8 @@ use Rattle.worker_port.specs.declared.events.Gone.{Gone}
 use Rattle.worker_port.specs.Giving.{by_any_clock}
 use Rattle.worker_port.specs.Ports.{PortTrace, is_open}
 use Rattle.script.specs.PortEvents.{event_session, events_without, send_after, is_playable}
-use Rattle.script.specs.PortSessions.{ScriptSessionState, is_paused}
+use Rattle.script.specs.PortSessions.{ScriptSessionState, is_session_paused}
+use Rattle.script.specs.Remaining.{RemainingState}
 
 -- ---- what is played
 
@@ -34,12 +35,20 @@ pub record PlayerState : Type 0 where
   pub fail_give : ℕ
   pub can_fail : Bool
 
-abbrev pub is_held : PlayerState → ℕ → Bool
-is_held player session = is_paused player.sessions session
+-- What contracts see of a player. Its events have those of closed sessions too.
+pub record PlayerParts : Type 0 where
+  pub script : List ScriptEvent
+  pub events : RemainingState
+  pub sessions : List ScriptSessionState
+  pub records : List PortRecord
+  pub accept : ℕ
+  pub fail_give : ℕ
+  pub can_fail : Bool
+  pub ended : Bool
 
 -- nothing is paused or resumed, but for what becomes of this session
 abbrev pub KeepsOthers : ℕ → PlayerState → PlayerState → Type 0
-KeepsOthers session old new = (t : ℕ) → t ≢ session → is_held new t ≡ is_held old t
+KeepsOthers session old new = (t : ℕ) → t ≢ session → is_session_paused new.sessions t ≡ is_session_paused old.sessions t
 
 -- the first event left whose session isn't paused is this one; after the call this stands in its place
 pub record TakesEvent (old : PlayerState) (e : ScriptEvent) (rest : List ScriptEvent)
@@ -47,8 +56,8 @@ pub record TakesEvent (old : PlayerState) (e : ScriptEvent) (rest : List ScriptE
   pub before : List ScriptEvent
   pub after : List ScriptEvent
   pub old_is : old.left ≡ before ++ e ∷ after
-  pub held : AllByRecursion (λ (x : ScriptEvent). is_held old (event_session x) ≡ true) before
-  pub free : is_held old (event_session e) ≡ false
+  pub paused : AllByRecursion (λ (x : ScriptEvent). is_session_paused old.sessions (event_session x) ≡ true) before
+  pub free : is_session_paused old.sessions (event_session e) ≡ false
   pub left_is : left ≡ before ++ rest ++ after
 
 -- The next event: the first one left whose session isn't paused, of a send its next piece. Behind Gone no event
@@ -66,7 +75,7 @@ Plays old event.Ended new = (old.left ≡ []) × (new.left ≡ [])
 -- neither the script nor the faults change, and nothing is paused or resumed
 abbrev pub PortGoesOn : PlayerState → PlayerState → Type 0
 PortGoesOn old new = (new.script ≡ old.script) × (new.accept ≡ old.accept) × (new.fail_give ≡ old.fail_give)
-    × ((t : ℕ) → is_held new t ≡ is_held old t)
+    × ((t : ℕ) → is_session_paused new.sessions t ≡ is_session_paused old.sessions t)
 
 -- the count of offers of at least one byte, until the one that fails
 abbrev pub count_down : ℕ → List ℕ → ℕ
@@ -85,25 +94,25 @@ most_accepted accept bytes = if accept == 0 then length bytes else min accept (l
 -- Else it accepts all that it may, or, out of memory, nothing.
 abbrev pub Gives : PlayerState → ℕ → List ℕ → Result ℕ Gone → PlayerState → Type 0
 Gives old s bytes (Err e) new =
-    Fails old bytes × (new.left ≡ events_without s old.left) × (is_held new s ≡ false) × KeepsOthers s old new
+    Fails old bytes × (new.left ≡ events_without s old.left) × (is_session_paused new.sessions s ≡ false) × KeepsOthers s old new
 Gives old s bytes (Ok n) new =
     (Fails old bytes → ⊥) × ((n ≡ 0) ⊎ (n ≡ most_accepted old.accept bytes)) × (new.left ≡ old.left)
-    × ((t : ℕ) → is_held new t ≡ is_held old t)
+    × ((t : ℕ) → is_session_paused new.sessions t ≡ is_session_paused old.sessions t)
 
 abbrev pub CountsGive : PlayerState → List ℕ → PlayerState → Type 0
 CountsGive old bytes new =
     (new.script ≡ old.script) × (new.accept ≡ old.accept) × (new.fail_give ≡ count_down old.fail_give bytes)
 
 -- the session is paused, or resumed, and nothing else changes
-pub record SetsHeld (old : PlayerState) (s : ℕ) (held : Bool) (new : PlayerState) : Type 0 where
+pub record SetsPaused (old : PlayerState) (s : ℕ) (paused : Bool) (new : PlayerState) : Type 0 where
   pub rest : new ≡ record old { sessions = new.sessions }
-  pub here : is_held new s ≡ held
+  pub here : is_session_paused new.sessions s ≡ paused
   pub others : KeepsOthers s old new
 
 -- the session's events that are left are dropped, and it is paused no more
 pub record DropsSession (old : PlayerState) (s : ℕ) (new : PlayerState) : Type 0 where
   pub left : new.left ≡ events_without s old.left
-  pub here : is_held new s ≡ false
+  pub here : is_session_paused new.sessions s ≡ false
   pub others : KeepsOthers s old new
   pub faults : (new.script ≡ old.script) × (new.accept ≡ old.accept) × (new.fail_give ≡ old.fail_give)
 
@@ -143,7 +152,7 @@ pub record PortState : Type 0 where
 abbrev pub script_trace : PortState → PortTrace
 script_trace port = record {
   events = port.player.records;
-  paused = is_held port.player;
+  paused = is_session_paused port.player.sessions;
   terms = by_any_clock port.sizes;
   dialect = port.dialect;
   worker = port.worker;

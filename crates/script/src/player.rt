@@ -7,12 +7,12 @@ ghost use Rattle.script.specs.declared.event.ScriptEvent.TheVariants as script;
 ghost use Rattle.script.specs.declared.event.ScriptEvent.{ScriptEvent};
 ghost use Rattle.script.specs.PortEvents.{is_playable};
 ghost use Rattle.script.specs.Remaining.{in_order};
-ghost use Rattle.script.specs.PortSessions.{is_closed, is_waiting};
-ghost use Rattle.script.specs.PortSessions as sessions;
+ghost use Rattle.script.specs.PortSessions.{is_closed, is_paused};
 ghost use Rattle.script.specs.Players.{is_left, is_ready, events_left, NoneReady, player_state};
-ghost use Rattle.script.specs.Players.{IsPlayerConsistent, PlayerGoesOn, IsFirst, IsCausedAt, PlaysNext};
-ghost use Rattle.script.specs.Players.{RecordsClose, EndsSession, Keeps, SamePlayer, CountsOffer, GivesAs};
-ghost use Rattle.script.specs.States.{CountsGive, SetsHeld, new_player, with_faults};
+ghost use Rattle.script.specs.Players.{PlayerGoesOn, IsFirst, IsCausedAt, PlaysNext};
+ghost use Rattle.script.specs.Players.{RecordsClose, EndsSession, Keeps, CountsOffer, GivesAs};
+ghost use Rattle.script.specs.States.{CountsGive, SetsPaused, new_player, with_faults};
+ghost use Rattle.worker_port.specs.Ports.{is_open};
 
 use crate::ScriptEvent;
 use crate::records::Records;
@@ -20,9 +20,11 @@ use crate::remaining::{Remaining, event_session};
 use crate::sessions::{Sessions, Stage};
 use bytes::Bytes;
 use std::alloc::{AllocError, Global};
+use std::marker::Model;
 use std::snapshot::Snapshot;
 use worker_port::{Gone, MAX_PIECE, PortEvent, PortRecord};
 
+/// A script that is played. Contracts see it as `PlayerParts`.
 #[derive(Drop)]
 pub(crate) struct Player {
     pub(crate) alloc: Global,
@@ -39,6 +41,18 @@ pub(crate) struct Player {
     /// Whether a `give` was asked to fail.
     pub(crate) can_fail: bool,
     pub(crate) ended: bool,
+}
+
+impl Model for Player {
+    ghost use Rattle.script.specs.States.{PlayerParts};
+
+    ghost Value = { PlayerParts };
+
+    ghost use Rattle.script.specs.Players.{parts_of, IsPlayerConsistent};
+
+    ghost view = { parts_of };
+
+    ghost invariant = { λ p. IsPlayerConsistent (parts_of p) };
 }
 
 // Whether the event's session is neither gone nor shut.
@@ -101,8 +115,7 @@ fn next_piece(bytes: &Bytes) -> Result<(Bytes, Bytes), AllocError>
 
 impl Player {
     pub(crate) fn new(alloc: Global, events: Vec<ScriptEvent>) -> Player
-        ensures consistent { IsPlayerConsistent result }
-        ensures fresh { player_state result ≡ new_player events.items }
+        ensures { player_state result ≡ new_player events.items }
     {
         let script = Snapshot::of(&events);
         Player {
@@ -120,9 +133,7 @@ impl Player {
 
     /// From now on each `give` accepts at most `accept` bytes, and the `fail_give`th fails.
     pub(crate) fn set_faults(&mut self, accept: usize, fail_give: u64)
-        requires consistent { IsPlayerConsistent self.old }
-        ensures consistent { IsPlayerConsistent self.new }
-        ensures state { player_state self.new ≡ with_faults accept fail_give (player_state self.old) }
+        ensures { player_state self.new ≡ with_faults accept fail_give (player_state self.old) }
     {
         self.accept = accept;
         self.fail_give = fail_give;
@@ -148,7 +159,6 @@ impl Player {
 
     // Plays the first of the rest, if there is one.
     fn play(&mut self) -> PortEvent
-        requires consistent { IsPlayerConsistent self.old }
         requires running { self.old.ended ≡ false }
         requires first { (e : ScriptEvent) (after : List ScriptEvent) → self.old.events.rest ≡ e ∷ after
             → is_ready self.old.sessions e ≡ true }
@@ -176,7 +186,6 @@ impl Player {
 
     // Ends the port, as no event is left.
     fn end(&mut self) -> PortEvent
-        requires consistent { IsPlayerConsistent self.old }
         requires running { self.old.ended ≡ false }
         requires none { in_order self.old.events ≡ [] }
         ensures { PlaysNext self.old result self.new }
@@ -189,7 +198,6 @@ impl Player {
     /// The first event left whose session isn't paused, of a send its next piece. `Idle` if there is none, once
     /// `Ended` was given, and if out of memory.
     pub(crate) fn next(&mut self) -> PortEvent
-        requires consistent { IsPlayerConsistent self.old }
         ensures { PlaysNext self.old result self.new }
     {
         if self.ended {
@@ -207,13 +215,12 @@ impl Player {
 
     /// Ends an open session with this entry. Its events are left no more.
     pub(crate) fn close(&mut self, session: u64, entry: PortRecord)
-        requires consistent { IsPlayerConsistent self.old }
         requires ends { EndsSession session entry }
         requires caused { IsCausedAt self.old session entry }
         ensures goes_on { PlayerGoesOn self.old self.new }
-        ensures closes { sessions.is_session_open self.old.sessions session ≡ true
+        ensures closes { is_open session self.old.records ≡ true
             → RecordsClose self.old session entry self.new }
-        ensures same { sessions.is_session_open self.old.sessions session ≡ false → self.new ≡ self.old }
+        ensures same { is_open session self.old.records ≡ false → self.new ≡ self.old }
     {
         if self.sessions.change(session, Stage::Closed) {
             self.records.write(entry);
@@ -221,13 +228,12 @@ impl Player {
     }
 
     /// Pauses or resumes an open session.
-    pub(crate) fn hold(&mut self, session: u64, stage: Stage)
-        requires consistent { IsPlayerConsistent self.old }
+    pub(crate) fn set_stage(&mut self, session: u64, stage: Stage)
         requires stage { is_closed stage ≡ false }
         ensures goes_on { PlayerGoesOn self.old self.new }
         ensures records { self.new.records ≡ self.old.records }
-        ensures held { sessions.is_session_open self.old.sessions session ≡ true
-            → SetsHeld (player_state self.old) session (is_waiting stage) (player_state self.new) }
+        ensures paused { is_open session self.old.records ≡ true
+            → SetsPaused (player_state self.old) session (is_paused stage) (player_state self.new) }
     {
         if !self.sessions.change(session, stage) {
             return;
@@ -241,10 +247,8 @@ impl Player {
 
     // Keeps bytes that a session is given. False if out of memory, and then nothing changes.
     fn keep(&mut self, session: u64, bytes: &[u8]) -> bool
-        requires consistent { IsPlayerConsistent self.old }
-        ensures consistent { IsPlayerConsistent self.new }
         ensures kept { result ≡ true → Keeps self.old session bytes.now self.new }
-        ensures same { result ≡ false → SamePlayer self.old self.new }
+        ensures same { result ≡ false → player_state self.new ≡ player_state self.old }
     {
         let Ok(copy) = Bytes::copy_from_slice(self.alloc, bytes) else {
             return false;
@@ -258,9 +262,8 @@ impl Player {
 
     // Whether this offer is the one that fails.
     fn fails(&mut self, bytes: &[u8]) -> bool
-        requires { IsPlayerConsistent self.old }
-        ensures consistent { IsPlayerConsistent self.new }
         ensures counts { CountsOffer self.old bytes.now self.new result }
+        ensures can_fail { result ≡ true → self.old.can_fail ≡ true }
     {
         if bytes.is_empty() || self.fail_give == 0 {
             return false;
@@ -271,12 +274,10 @@ impl Player {
 
     /// Offers bytes to a session.
     pub(crate) fn give(&mut self, session: u64, bytes: &[u8]) -> Result<usize, Gone>
-        requires consistent { IsPlayerConsistent self.old }
-        ensures consistent { IsPlayerConsistent self.new }
         ensures within { IfOk result (λ n. n ≤ length bytes.now) }
         ensures counts { CountsGive (player_state self.old) bytes.now (player_state self.new) }
         ensures can_fail { self.new.can_fail ≡ self.old.can_fail }
-        ensures given { sessions.is_session_open self.old.sessions session ≡ true
+        ensures given { is_open session self.old.records ≡ true
             → GivesAs self.old session bytes.now result self.new }
     {
         if self.fails(bytes) {

@@ -9,7 +9,7 @@ ghost use Rattle.script.specs.PortEvents.{is_playable};
 ghost use Rattle.script.specs.PortSessions.{numbers};
 ghost use Rattle.script.specs.Records.{opened_sessions};
 ghost use Rattle.script.specs.Following.{IsPlayed};
-ghost use Rattle.script.specs.States.{trace_told, PlaysOn, Plays, Gives, PortGoesOn, CountsGive, SetsHeld};
+ghost use Rattle.script.specs.States.{trace_told, PlaysOn, Plays, Gives, PortGoesOn, CountsGive, SetsPaused};
 ghost use Rattle.script.specs.States.{DropsSession, IsNewPort, IsOpenWhereTold, with_faults};
 
 use crate::ScriptEvent;
@@ -40,7 +40,7 @@ pub struct ScriptPort {
 impl Model for ScriptPort {
     ghost use Rattle.worker_port.specs.Ports.{told_last};
     ghost use Rattle.script.specs.States.{PortState};
-    ghost use Rattle.script.specs.Players.{player_state, IsPlayerConsistent};
+    ghost use Rattle.script.specs.Players.{player_state};
 
     ghost Value = { PortState };
 
@@ -52,8 +52,6 @@ impl Model for ScriptPort {
       exchange = p.exchange;
       history = told_last p.history;
     } };
-
-    ghost invariant = { λ p. IsPlayerConsistent p.player };
 }
 
 impl ScriptPort {
@@ -152,20 +150,20 @@ impl Port for ScriptPort {
         requires { IsOpenWhereTold self.old session }
         ensures leads { PlaysOn self.old self.new }
         ensures told { trace_told self.new ≡ option_map (with_pause session true) (trace_told self.old) }
-        ensures held { is_playable self.old.player.script ≡ true
-            → SetsHeld self.old.player session true self.new.player }
+        ensures paused { is_playable self.old.player.script ≡ true
+            → SetsPaused self.old.player session true self.new.player }
     {
-        self.player.hold(session, Stage::Paused);
+        self.player.set_stage(session, Stage::Paused);
     }
 
     fn resume(&mut self, session: u64)
         requires { IsOpenWhereTold self.old session }
         ensures leads { PlaysOn self.old self.new }
         ensures told { trace_told self.new ≡ option_map (with_pause session false) (trace_told self.old) }
-        ensures held { is_playable self.old.player.script ≡ true
-            → SetsHeld self.old.player session false self.new.player }
+        ensures paused { is_playable self.old.player.script ≡ true
+            → SetsPaused self.old.player session false self.new.player }
     {
-        self.player.hold(session, Stage::Playing);
+        self.player.set_stage(session, Stage::Playing);
     }
 
     fn shut(&mut self, session: u64)

@@ -1,14 +1,16 @@
 //! A whole run.
 
 ghost use Rattle.std.specs.Prelude.{◌≡◌, ℕ, ◌<◌, ◌++◌, ◌∷◌, [], List, length, map, IfOk, OnOk, slice_index, slice_set};
+ghost use Rattle.std.specs.List.Sorted.{IsStrictlyIncreasing};
 ghost use Rattle.proto.specs.Cache.{empty_cache};
 ghost use Rattle.script.specs.declared.event.ScriptEvent.{ScriptEvent};
 ghost use Rattle.script.specs.Events.{IsPlayable, MayFollow};
 ghost use Rattle.script.specs.declared.sequential_session.SequentialSession.{SequentialSession};
 ghost use Rattle.script.specs.SequentialSessions.{Setup};
-ghost use Rattle.script.specs.SequentialReplays.{IsSessionAt, IsReplay, IsRising, RunsEvent, numbers_of, output_of};
+ghost use Rattle.script.specs.SequentialReplays.{IsReplay, RunsEvent, numbers_of, output_of};
 
 use crate::sequential_session::{Executor, SequentialSession};
+use crate::sessions::{Numbered, position_of};
 use crate::{ScriptClock, ScriptEvent};
 use engine::StorageEngine;
 use proto::{ByteString, NoMemory};
@@ -21,14 +23,13 @@ pub struct SessionOutput {
     pub output: ByteString,
 }
 
-/// The place of the session with this number.
-fn place_of(sessions: &[SequentialSession], number: u64) -> Option<usize>
-    requires { IsRising (numbers_of sessions.now) }
-    ensures { IsSessionAt sessions.now number result }
-{
-    match sessions.binary_search_by_key(&number, |session| session.number) {
-        Ok(at) => Some(at),
-        Err(_) => None,
+impl Numbered for SequentialSession {
+    ghost number_of = { λ s. s.number };
+
+    fn number(&self) -> u64
+        ensures { result ≡ self.now.number }
+    {
+        self.number
     }
 }
 
@@ -39,13 +40,13 @@ fn play<E: StorageEngine + Drop>(
     sessions: &mut Vec<SequentialSession>,
     event: &ScriptEvent,
 ) -> Result<(), NoMemory>
-    requires { IsRising (numbers_of sessions.old.items) }
+    requires { IsStrictlyIncreasing (numbers_of sessions.old.items) }
     ensures { OnOk result (RunsEvent executor.old sessions.old.items event.now executor.new sessions.new.items) }
 {
     match event {
         ScriptEvent::Open(number) => sessions.push(SequentialSession::new(alloc, *number))?,
         ScriptEvent::Send(number, bytes) => {
-            if let Some(at) = place_of(sessions.as_slice(), *number) {
+            if let Some(at) = position_of(sessions.as_slice(), *number) {
                 sessions[at].feed(alloc, executor, bytes.as_slice())?;
             }
         }

@@ -1,10 +1,11 @@
 //! The sessions that a port has opened.
 
 ghost use Rattle.std.specs.Prelude.{◌≡◌, ℕ, ◌+◌, ◌<◌, [], ◌∷◌, ◌++◌, length, map, true, false, Some, None, option_map};
-ghost use Rattle.std.specs.Prelude.{MatchOption, OnOk, OnErr, slice_index_or, if◌then◌else◌};
-ghost use Rattle.script.specs.PortSessions.{ScriptSessionState, numbers, RisesFrom, newest, session_entry};
-ghost use Rattle.script.specs.PortSessions.{is_session_open, is_closed, is_waiting, with_stage};
-ghost use Rattle.script.specs.PortSessions.{IsPlaceOf, ChangesAt, AcceptsAt};
+ghost use Rattle.std.specs.Prelude.{MatchOption, OnOk, OnErr};
+ghost use Rattle.script.specs.PortSessions.{ScriptSessionState, newest, session_entry};
+ghost use Rattle.script.specs.PortSessions.{is_session_open, is_closed, is_paused, with_stage};
+ghost use Rattle.script.specs.PortSessions.{IsPositionOf, ChangesAt, AcceptsAt};
+ghost use Rattle.std.specs.List.Sorted.{IsStrictlyIncreasing};
 
 use std::alloc::{AllocError, Global};
 use std::marker::Model;
@@ -26,7 +27,7 @@ impl Stage {
     }
 
     pub(crate) fn is_paused(self) -> bool
-        ensures { result ≡ is_waiting self }
+        ensures { result ≡ is_paused self }
     {
         matches!(self, Stage::Paused)
     }
@@ -91,25 +92,42 @@ pub(crate) struct Sessions {
 
 impl Model for Sessions {
     ghost use Rattle.std.specs.Prelude.{List};
-    ghost use Rattle.script.specs.PortSessions.{ScriptSessionState, RisesFrom, numbers};
+    ghost use Rattle.std.specs.List.Sorted.{IsStrictlyIncreasing};
+    ghost use Rattle.script.specs.PortSessions.{ScriptSessionState, numbers};
 
     ghost Value = { List ScriptSessionState };
 
     ghost view = { λ s. s.entries.items };
 
-    ghost invariant = { λ s. RisesFrom 0 (numbers s.entries.items) };
+    ghost invariant = { λ s. IsStrictlyIncreasing (numbers s.entries.items) };
 }
 
-// The place of the session with this number.
-fn place_of(sessions: &[ScriptSession], number: u64) -> Option<usize>
-    requires { RisesFrom 0 (numbers sessions.now) }
-    ensures { IsPlaceOf sessions.now number result }
+/// What is found by its number.
+pub(crate) trait Numbered {
+    ghost number_of: { Self → ℕ };
+
+    fn number(&self) -> u64
+        ensures { result ≡ Self.number_of self.now };
+}
+
+impl Numbered for ScriptSession {
+    ghost number_of = { λ s. s.number };
+
+    fn number(&self) -> u64
+        ensures { result ≡ self.now.number }
+    {
+        self.number
+    }
+}
+
+/// The position of the session with this number.
+pub(crate) fn position_of<S: Numbered>(sessions: &[S], number: u64) -> Option<usize>
+    requires { IsStrictlyIncreasing (map S.number_of sessions.now) }
+    ensures { IsPositionOf (map S.number_of sessions.now) number result }
 {
-    let at = sessions.partition_point(|session| session.number() < number);
-    if at < sessions.len() && sessions[at].number() == number {
-        Some(at)
-    } else {
-        None
+    match sessions.binary_search_by_key(&number, |session| session.number()) {
+        Ok(at) => Some(at),
+        Err(_) => None,
     }
 }
 
@@ -134,7 +152,7 @@ impl Sessions {
         ensures { MatchOption result (session_entry self.now number ≡ None)
             (λ s. session_entry self.now number ≡ Some s.now) }
     {
-        let at = place_of(self.entries.as_slice(), number)?;
+        let at = position_of(self.entries.as_slice(), number)?;
         Some(&self.entries[at])
     }
 
@@ -170,7 +188,7 @@ impl Sessions {
         ensures changes { result ≡ true → ChangesAt self.old number (with_stage stage) self.new }
         ensures same { result ≡ false → self.new ≡ self.old }
     {
-        let Some(at) = place_of(self.entries.as_slice(), number) else {
+        let Some(at) = position_of(self.entries.as_slice(), number) else {
             return false;
         };
         if self.entries[at].stage().is_closed() {
@@ -185,7 +203,7 @@ impl Sessions {
         ensures ok { OnOk result (AcceptsAt self.old number bytes.now self.new) }
         ensures err { OnErr result (self.new ≡ self.old) }
     {
-        let Some(at) = place_of(self.entries.as_slice(), number) else {
+        let Some(at) = position_of(self.entries.as_slice(), number) else {
             return Err(AllocError);
         };
         if self.entries[at].stage().is_closed() {

@@ -1,5 +1,7 @@
 use Rattle.std.proofs.Common.{Some, refl, ◌∙◌}
 use Rattle.std.specs.Prelude.{map}
+use denote.Exit.{no}
+use denote.Param.Send.{param_send, arg_send}
 use Rattle.script.specs.declared.clock.RecordingClock.{RecordingClock}
 use Rattle.script.specs.Readings.{readings_in_order}
 use Rattle.script.specs.ClockLeading.{GivesAnswers}
@@ -8,6 +10,7 @@ use Rattle.replaying.specs.Printed.{lines_from, events_of}
 use Rattle.group.proofs.Keeping.{keeping_run}
 use Rattle.replaying.proofs.ReplayLemmas.{replayed}
 use Rattle.replaying.proofs.Lines.{owned}
+use Rattle.script.proofs.Sends.{port_sends}
 use Rattle.replaying.proofs.run.replay.Goals as goal
 
 pub run_group-requires-clause-ports : goal.run_group-requires-clause-ports
@@ -61,3 +64,6 @@ returns-clause-printed g c =
           all.1,
       all.0,
     )
+
+pub run_group-requires-send-P : goal.run_group-requires-send-P
+run_group-requires-send-P g c κs within = param_send 0 _ (arg_send _ no _ port_sends)

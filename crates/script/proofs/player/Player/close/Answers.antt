@@ -8,12 +8,13 @@ use Rattle.worker_port.proofs.Facts.{about}
 use Rattle.worker_port.proofs.Lists.{ended_same}
 use Rattle.script.specs.declared.sessions.Stage.TheVariants.{Closed}
 use Rattle.script.specs.PortSessions.{ScriptSessionState, newest, last_from, session_entry, is_session_open}
-use Rattle.script.specs.PortSessions.{is_some_and, is_closed, was_closed, is_waiting}
+use Rattle.script.specs.PortSessions.{is_some_and, is_closed, was_closed, is_paused}
 use Rattle.script.specs.PortSessions.{with_stage}
 use Rattle.script.specs.PortEvents.{plays_from}
 use Rattle.script.specs.Remaining.{in_order}
 use Rattle.script.specs.Records.{opened_by}
-use Rattle.script.specs.Players.{Agrees, events_left}
+use Rattle.script.specs.declared.player.Player.{Player}
+use Rattle.script.specs.Players.{Agrees, events_left, parts_of, IsCausedAt}
 use Rattle.script.specs.Following.{MayGo}
 use Rattle.script.proofs.EventLemmas.{leave_out}
 use Rattle.script.proofs.FollowLemmas.{follows_close, opens_without}
@@ -23,9 +24,10 @@ use Rattle.script.proofs.PlayerLemmas.{none_ready, ready_closed}
 use Rattle.script.proofs.player.Player.close.Goals as goal
 use Rattle.proto.proofs.CountLemmas.{either_way}
 
-pub returns-then-change-clause-goes_on : goal.returns-then-change-clause-goes_on
-returns-then-change-clause-goes_on c =
-    let p = c.args.self.now in let k = c.requires.consistent in let s = c.args.session in let e = c.args.entry in
+pub invariant_of-self : goal.invariant_of-self
+invariant_of-self c =
+    let p = parts_of c.self.inside in let k = c.self.invariant in let s = c.args.session in let e = c.args.entry in
+    let caused = subst (λ (q : Player). IsCausedAt q s e) (sym c.self.view_is) c.requires.caused in
     let ss = p.sessions in let ss' = c.change.new.self in let l = p.records in let l' = c.write.new.self in
     let a = c.change.ensures.changes c.if-change.true in
     let x = open_entry ss s (sym c.change.ensures.open ∙ c.if-change.true) in
@@ -48,68 +50,65 @@ returns-then-change-clause-goes_on c =
     (λ (q : e ≡ was.Shut s). ap (is_entry was.Ended) q) c.requires.ends in
     let left = left_without ss ss' s (in_order p.events)
     (test_here (λ (y : ScriptSessionState). is_closed y.stage) ss ss' s (with_stage Closed) x.0 a x.1)
-    (test_other (λ (y : ScriptSessionState). is_closed y.stage) ss ss' s (with_stage Closed) a) in (
-      record {
-        each = each_step ss ss' l l' e s k.each l_is apart a.others here;
-        opened_are = a.numbers_are ∙ k.opened_are ∙ sym (opened_more l l' e l_is none);
-        rising = rising_at ss ss' s (with_stage Closed) a k.rising;
-        at_end = ap (is_in was.Ended) l_is ∙ ended_same l e no_end ∙ k.at_end;
-        plays = λ tells. (λ i. plays_from (ap (last_from 0) a.numbers_are i) (is_session_open ss') (left i))
-            ∙ leave_out (newest ss) (is_session_open ss) (is_session_open ss') s (events_left ss (in_order p.events))
-            (k.rising s x.0 x.1)
-            (test_other (λ (y : ScriptSessionState). not (is_closed y.stage)) ss ss' s (with_stage Closed) a)
-            (k.plays tells);
-        follows = λ tells.
-            let nothing : (t : ℕ)
-            → fed t (e ∷ []) ≡ [] = λ t. ⊎_elim (λ (q : e ≡ was.Gone s). ap (λ (x : PortRecord). fed t (x ∷ [])) q)
-            (λ (q : e ≡ was.Shut s). ap (λ (x : PortRecord). fed t (x ∷ [])) q) c.requires.ends in
-            follows_close p.script.value.items (events_left ss (in_order p.events))
-            (events_left ss' (in_order p.events)) l l' e s
-            (was_closed ss) (was_closed ss') p.can_fail left l_is none nothing
-            (λ t leaves. ⊎_elim
-            (λ (q : e ≡ was.Gone s).
-            either_way s t
-            (λ eq. subst (MayGo p.script.value.items p.can_fail) eq (c.requires.caused tells q))
-            (λ ne. absurd (true≢false (sym leaves ∙ ap (is_entry (was.Gone t)) q ∙ ne_eqb s t ne))))
-            (λ (q : e ≡ was.Shut s). absurd (true≢false (sym leaves ∙ ap (is_entry (was.Gone t)) q)))
-            c.requires.ends)
-            (λ t. ⊎_elim (λ (q : e ≡ was.Gone s). ap (is_entry (was.EndOfInput t)) q)
-            (λ (q : e ≡ was.Shut s). ap (is_entry (was.EndOfInput t)) q) c.requires.ends)
-            (opens_without (newest ss) (is_session_open ss) s (events_left ss (in_order p.events)) (k.rising s x.0 x.1)
-            (k.plays tells))
-            (ap (is_some_and (λ (y : ScriptSessionState). is_closed y.stage)) x.1 ∙ x.2)
-            (test_here (λ (y : ScriptSessionState). is_closed y.stage) ss ss' s (with_stage Closed) x.0 a x.1)
-            (test_other (λ (y : ScriptSessionState). is_closed y.stage) ss ss' s (with_stage Closed) a)
-            (k.follows tells);
-        aside = none_ready ss ss' p.events.aside
-            (ready_closed ss ss' s
-            (test_here (λ (y : ScriptSessionState). is_closed y.stage) ss ss' s (with_stage Closed) x.0 a x.1)
-            (test_other (λ (y : ScriptSessionState). is_closed y.stage) ss ss' s (with_stage Closed) a)
-            (test_other (λ (y : ScriptSessionState). is_waiting y.stage) ss ss' s (with_stage Closed) a)) k.aside;
-        finished = k.finished;
-        may_fail = k.may_fail;
-      },
-      refl,
-      refl,
-      refl,
-    )
+    (test_other (λ (y : ScriptSessionState). is_closed y.stage) ss ss' s (with_stage Closed) a) in
+    record {
+      each = each_step ss ss' l l' e s k.each l_is apart a.others here;
+      opened_are = a.numbers_are ∙ k.opened_are ∙ sym (opened_more l l' e l_is none);
+      rising = rising_at ss ss' s (with_stage Closed) a k.rising;
+      at_end = ap (is_in was.Ended) l_is ∙ ended_same l e no_end ∙ k.at_end;
+      plays = λ tells. (λ i. plays_from (ap (last_from 0) a.numbers_are i) (is_session_open ss') (left i))
+          ∙ leave_out (newest ss) (is_session_open ss) (is_session_open ss') s (events_left ss (in_order p.events))
+          (k.rising s x.0 x.1)
+          (test_other (λ (y : ScriptSessionState). not (is_closed y.stage)) ss ss' s (with_stage Closed) a)
+          (k.plays tells);
+      follows = λ tells.
+          let nothing : (t : ℕ)
+          → fed t (e ∷ []) ≡ [] = λ t. ⊎_elim (λ (q : e ≡ was.Gone s). ap (λ (x : PortRecord). fed t (x ∷ [])) q)
+          (λ (q : e ≡ was.Shut s). ap (λ (x : PortRecord). fed t (x ∷ [])) q) c.requires.ends in
+          follows_close p.script (events_left ss (in_order p.events))
+          (events_left ss' (in_order p.events)) l l' e s
+          (was_closed ss) (was_closed ss') p.can_fail left l_is none nothing
+          (λ t leaves. ⊎_elim
+          (λ (q : e ≡ was.Gone s).
+          either_way s t
+          (λ eq. subst (MayGo p.script p.can_fail) eq (caused tells q))
+          (λ ne. absurd (true≢false (sym leaves ∙ ap (is_entry (was.Gone t)) q ∙ ne_eqb s t ne))))
+          (λ (q : e ≡ was.Shut s). absurd (true≢false (sym leaves ∙ ap (is_entry (was.Gone t)) q)))
+          c.requires.ends)
+          (λ t. ⊎_elim (λ (q : e ≡ was.Gone s). ap (is_entry (was.EndOfInput t)) q)
+          (λ (q : e ≡ was.Shut s). ap (is_entry (was.EndOfInput t)) q) c.requires.ends)
+          (opens_without (newest ss) (is_session_open ss) s (events_left ss (in_order p.events)) (k.rising s x.0 x.1)
+          (k.plays tells))
+          (ap (is_some_and (λ (y : ScriptSessionState). is_closed y.stage)) x.1 ∙ x.2)
+          (test_here (λ (y : ScriptSessionState). is_closed y.stage) ss ss' s (with_stage Closed) x.0 a x.1)
+          (test_other (λ (y : ScriptSessionState). is_closed y.stage) ss ss' s (with_stage Closed) a)
+          (k.follows tells);
+      aside = none_ready ss ss' p.events.aside
+          (ready_closed ss ss' s
+          (test_here (λ (y : ScriptSessionState). is_closed y.stage) ss ss' s (with_stage Closed) x.0 a x.1)
+          (test_other (λ (y : ScriptSessionState). is_closed y.stage) ss ss' s (with_stage Closed) a)
+          (test_other (λ (y : ScriptSessionState). is_paused y.stage) ss ss' s (with_stage Closed) a)) k.aside;
+      finished = k.finished;
+      may_fail = k.may_fail;
+    }
 
 pub returns-then-change-clause-closes : goal.returns-then-change-clause-closes
 returns-then-change-clause-closes c _ =
-    let p = c.args.self.now in let s = c.args.session in
+    let p = parts_of c.self.inside in let s = c.args.session in
     let ss = p.sessions in let ss' = c.change.new.self in
     let a = c.change.ensures.changes c.if-change.true in
-    let x = open_entry ss s (sym c.change.ensures.open ∙ c.if-change.true) in record {
+    let x = open_entry ss s (sym c.change.ensures.open ∙ c.if-change.true) in
+    rw (← c.self.view_is) (record {
       records_are = c.write.ensures;
       shuts = record {
         left = left_without ss ss' s (in_order p.events)
             (test_here (λ (y : ScriptSessionState). is_closed y.stage) ss ss' s (with_stage Closed) x.0 a x.1)
             (test_other (λ (y : ScriptSessionState). is_closed y.stage) ss ss' s (with_stage Closed) a);
-        here = test_here (λ (y : ScriptSessionState). is_waiting y.stage) ss ss' s (with_stage Closed) x.0 a x.1;
-        others = test_other (λ (y : ScriptSessionState). is_waiting y.stage) ss ss' s (with_stage Closed) a;
+        here = test_here (λ (y : ScriptSessionState). is_paused y.stage) ss ss' s (with_stage Closed) x.0 a x.1;
+        others = test_other (λ (y : ScriptSessionState). is_paused y.stage) ss ss' s (with_stage Closed) a;
         faults = (refl, refl, refl);
       };
       closed = test_here (λ (y : ScriptSessionState). is_closed y.stage) ss ss' s (with_stage Closed) x.0 a x.1;
       events_are = refl;
       ended_is = refl;
-    }
+    })

@@ -3,19 +3,19 @@ use Rattle.worker_port.specs.declared.events.PortRecord.{PortRecord}
 use Rattle.worker_port.specs.declared.events.PortRecord.TheVariants as was
 use Rattle.worker_port.specs.Ports.{is_in}
 use Rattle.worker_port.proofs.Lists.{ended_same}
-use Rattle.script.specs.PortSessions.{ScriptSessionState, newest, last_from, is_session_open, is_closed, is_waiting}
+use Rattle.script.specs.PortSessions.{ScriptSessionState, newest, last_from, is_session_open, is_closed, is_paused}
 use Rattle.script.specs.PortSessions.{was_closed, with_output, AcceptsAt}
 use Rattle.script.specs.Remaining.{in_order}
-use Rattle.script.specs.Players.{events_left}
+use Rattle.script.specs.Players.{events_left, parts_of}
 use Rattle.script.proofs.SessionLemmas.{ok_of}
 use Rattle.script.proofs.FollowLemmas.{follows_still}
 use Rattle.script.proofs.PlayerLemmas.{opened_more, each_step, open_entry, rising_at, test_same, left_same}
 use Rattle.script.proofs.PlayerLemmas.{plays_along, none_ready, ready_same, agrees_accepted}
 use Rattle.script.proofs.player.Player.keep.Goals as goal
 
-pub returns-clause-consistent : goal.returns-clause-consistent
-returns-clause-consistent c =
-    let p = c.args.self.now in let k = c.requires.consistent in let s = c.args.session in let b = c.args.bytes.now in
+pub invariant_of-self-2 : goal.invariant_of-self-2
+invariant_of-self-2 c =
+    let p = parts_of c.self.inside in let k = c.self.invariant in let s = c.args.session in let b = c.args.bytes.now in
     let ss = p.sessions in let ss' = c.accept.new.self in let l = p.records in let l' = c.write.new.self in
     let a = ok_of (AcceptsAt ss s b ss') c.accept.result
     (sym c.is_err.ensures.value ∙ c.if-is_err.false) c.accept.ensures.ok in
@@ -39,14 +39,14 @@ returns-clause-consistent c =
       follows = λ tells.
           let same = test_same (λ (y : ScriptSessionState). is_closed y.stage) ss ss' s
           (with_output b) x.0 a.at x.1 refl in
-          follows_still p.script.value.items (events_left ss (in_order p.events))
+          follows_still p.script (events_left ss (in_order p.events))
           (events_left ss' (in_order p.events)) l l'
           (was.Accepted s b) (was_closed ss) (was_closed ss') p.can_fail
           (left_same ss ss' (in_order p.events) same) l_is refl (λ t. refl) (λ t. refl) (λ t. refl) same (k.follows tells);
       aside = none_ready ss ss' p.events.aside
           (ready_same ss ss'
           (test_same (λ (y : ScriptSessionState). is_closed y.stage) ss ss' s (with_output b) x.0 a.at x.1 refl)
-          (test_same (λ (y : ScriptSessionState). is_waiting y.stage) ss ss' s (with_output b) x.0 a.at x.1 refl))
+          (test_same (λ (y : ScriptSessionState). is_paused y.stage) ss ss' s (with_output b) x.0 a.at x.1 refl))
           k.aside;
       finished = k.finished;
       may_fail = k.may_fail;

@@ -16,7 +16,7 @@ returns-clause-told c =
       exchange = ap (λ (p : PortState). p.exchange) c.self.view_is;
       history = ap (λ (p : PortState). p.history) c.self.view_is;
     })
-    (ap (λ sn. sn.value.items) c.next.ensures.goes_on.1 ∙ ap (λ (p : PlayerState). p.script) player_is)
+    (c.next.ensures.goes_on.0 ∙ ap (λ (p : PlayerState). p.script) player_is)
     (λ yes. subst (λ (p : PlayerState). TellsNext p c.next.result (player_state c.next.new.self)) player_is
     (c.next.ensures.played (ap (λ (p : PlayerState). is_playable p.script) player_is ∙ yes)))
 

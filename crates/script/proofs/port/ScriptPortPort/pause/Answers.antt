@@ -1,20 +1,19 @@
 use Rattle.std.proofs.Common.{true, ap, subst, ◌∙◌}
-use Rattle.script.specs.States.{PortState, PlayerState, SetsHeld}
+use Rattle.script.specs.States.{PortState, PlayerState, SetsPaused}
 use Rattle.script.specs.Players.{player_state}
-use Rattle.script.proofs.ToldLemmas.{open_in_table, told_held}
+use Rattle.script.proofs.ToldLemmas.{open_where_told, told_paused}
 use Rattle.script.proofs.port.ScriptPortPort.pause.Goals as goal
 
-pub returns-clause-held : goal.returns-clause-held
-returns-clause-held c tells =
+pub returns-clause-paused : goal.returns-clause-paused
+returns-clause-paused c tells =
     let player_is = ap (λ (p : PortState). p.player) c.self.view_is in
-    subst (λ (p : PlayerState). SetsHeld p c.args.session true (player_state c.hold.new.self)) player_is
-    (c.hold.ensures.held (open_in_table c.args.self.now c.self.inside.player c.args.session player_is
-    c.self.invariant c.requires tells))
+    subst (λ (p : PlayerState). SetsPaused p c.args.session true (player_state c.set_stage.new.self)) player_is
+    (c.set_stage.ensures.paused (open_where_told c.args.self.now c.self.inside.player c.args.session player_is c.requires tells))
 
 pub returns-clause-told : goal.returns-clause-told
 returns-clause-told c =
     let player_is = ap (λ (p : PortState). p.player) c.self.view_is in
-    told_held c.args.self.now _ c.args.session true
+    told_paused c.args.self.now _ c.args.session true
     (record {
       sizes = ap (λ (p : PortState). p.sizes) c.self.view_is;
       dialect = ap (λ (p : PortState). p.dialect) c.self.view_is;
@@ -22,5 +21,5 @@ returns-clause-told c =
       exchange = ap (λ (p : PortState). p.exchange) c.self.view_is;
       history = ap (λ (p : PortState). p.history) c.self.view_is;
     })
-    (ap (λ sn. sn.value.items) c.hold.ensures.goes_on.1 ∙ ap (λ (p : PlayerState). p.script) player_is)
-    (returns-clause-held c)
+    (c.set_stage.ensures.goes_on.0 ∙ ap (λ (p : PlayerState). p.script) player_is)
+    (returns-clause-paused c)

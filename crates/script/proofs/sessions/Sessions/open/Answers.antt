@@ -1,5 +1,6 @@
 use Rattle.std.proofs.Common.{List, subst, sym, ◌∙◌, ap, ◌∷◌, ◌++◌, [], arith}
-use Rattle.script.specs.PortSessions.{ScriptSessionState, numbers, RisesFrom, newest}
+use Rattle.std.specs.List.Sorted.{IsStrictlyIncreasing}
+use Rattle.script.specs.PortSessions.{ScriptSessionState, numbers, newest}
 use Rattle.script.specs.declared.sessions.Stage.TheVariants.{Playing}
 use Rattle.script.proofs.SessionLemmas.{rises_more}
 use Rattle.script.proofs.sessions.Sessions.open.Goals as goal
@@ -11,5 +12,5 @@ invariant_of-self-2 c =
     let old = ap newest c.self.view_is in
     let items = c.push_reserved.ensures.items
     ∙ ap (λ (l : List ScriptSessionState). l ++ x ∷ []) c.in_ok-reserve.ensures.items in
-    subst (λ (l : List ScriptSessionState). RisesFrom 0 (numbers l)) (sym items)
-    (rises_more 0 xs x c.self.invariant (omega (arith, old, c.requires)))
+    subst (λ (l : List ScriptSessionState). IsStrictlyIncreasing (numbers l)) (sym items)
+    (rises_more xs x c.self.invariant (omega (arith, old, c.requires)))

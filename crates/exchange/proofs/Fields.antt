@@ -12,7 +12,7 @@ use Rattle.proto.specs.History.{asked_posted}
 use Rattle.std.proofs.Common.{◌≡◌, ◌≢◌, ◌⊎◌, ℕ, zero, suc, ◌+◌, ◌<◌, ◌≤◌, List, [], ◌∷◌, ◌++◌, length}
 use Rattle.std.proofs.Common.{get_or, replicate, Option, Some, None, Bool, true, false}
 use Rattle.std.proofs.Common.{true≢false}
-use Rattle.std.proofs.Common.{refl, sym, ap, ◌∙◌, subst, ⊎_elim, arith, length-append}
+use Rattle.std.proofs.Common.{refl, sym, ap, ◌∙◌, subst, inr, ⊎_elim, arith, length-append}
 use Rattle.std.specs.Prelude.{is_some}
 use mathlib.Core.Option.{some}
 use lib.ListN.{get_elem?, length-map}
@@ -25,52 +25,73 @@ use Rattle.exchange.specs.Beginnings.{StartsWith, posted_of}
 use Rattle.proto.proofs.HistoryLemmas.{legal_none}
 use Rattle.proto.specs.History.{worker_share}
 use Rattle.exchange.specs.Lanes.{SeatState, first_worker_state}
-use Rattle.exchange.specs.Steps.{Learnt, holding_slot, took_seen, put_on, all_sent, with_bye, with_held_answered}
-use Rattle.exchange.specs.Steps.{all_told, settled_count}
+use Rattle.exchange.specs.Steps.{holding_slot, with_seen_slot_taken, put_on, all_sent, with_bye, with_held_answered}
+use Rattle.exchange.specs.Steps.{all_told, lane_request}
 use Rattle.exchange.specs.declared.messages.LaneMessage.{LaneMessage}
 use Rattle.exchange.specs.declared.messages.LaneMessage.TheVariants.{Ask, Bye, Answer}
 use Rattle.std.specs.Prelude.{option_map}
-use Rattle.exchange.specs.Seats.{open_in, lane_request, worker_state_in, HasToldOf, WorkerAgrees, StateTakes, worker_view, storage_state_in, StorageAgrees}
+use Rattle.exchange.specs.Seats.{open_in, worker_state_in, StateWasTold, WorkerAgrees, StateTakes, worker_view, storage_state_in, StorageAgrees}
 use Rattle.exchange.specs.Seats.{IsWaiting, IsNamed}
-use Rattle.exchange.specs.Ends.{WorkerView, WorkerBatchView, max_posts, with_put_sent, IsToldDone, WasTold, TakesAnswer}
+use Rattle.exchange.specs.Ends.{WorkerView, WorkerBatchView, max_posts, with_put_sent, IsToldHistory, IsDoneHistory, WasTold, TakesAnswer}
 use Rattle.exchange.specs.Ends.{new_worker_view, new_storage_view, AreNew}
 use Rattle.exchange.specs.Ends.{AreMade}
 use Rattle.exchange.specs.Ends.{StorageView}
 use Rattle.exchange.proofs.Known.{last_look_at}
-use Rattle.exchange.specs.Ends.{LastLook}
+use Rattle.exchange.specs.Ends.{settled_count, LastLook, IsNextMessage, with_taken, LooksAt, SeesNext}
+use Rattle.exchange.specs.declared.messages.Taken.{Taken}
+use Rattle.exchange.specs.declared.messages.Taken.TheVariants.{Asked, Bye as ByeTaken}
 use Rattle.exchange.proofs.Lists.{at_below, at_end, starts_more, starts_below, take_whole, take_front}
 use Rattle.atomic_table.specs.Seated.{TableId}
 use Rattle.proto.specs.declared.terms.Terms.{Terms}
 use Rattle.proto.proofs.CountLemmas.{either_way, share_mine, share_other}
 
--- the answers that a worker is told of are no more than its requests
-pub few_answers : (c : WorkerState) (d : ℕ) (g : List Answered) → Learnt c d g
-    → length (worker_share g c.worker) ≤ length c.sent
-few_answers c d g h = let e = ap length h.asks in
-    omega (arith, e, length-map (worker_share g c.worker) posted_of, length-take d c.sent)
-
--- after a load of done that found d, d answers are known, or all n where those are fewer
-pub told_of_load : (c : WorkerState) (d n known : ℕ) (g : List Answered) → Learnt c d g → length c.sent ≡ n
-    → ((d < n) × (known ≡ d)) ⊎ ((n ≤ d) × (known ≡ n))
-    → (asked_posted (worker_share g c.worker) ≡ take known c.sent) × (length (worker_share g c.worker) ≡ known)
-told_of_load c d n known g h n_is known_is = let e = ap length h.asks in
-    let l : ℕ = length (worker_share g c.worker) in ⊎_elim
-    (λ (k : (d < n) × (known ≡ d)). let below : d < n = k.0 in let is : known ≡ d = k.1 in (
-      h.asks
-          ∙ ap (λ (z : ℕ). take z c.sent) (sym is),
-      let q : l ≡ known = omega (arith, e, length-map (worker_share g c.worker) posted_of, length-take d c.sent) in q,
-    ))
-    (λ (k : (n ≤ d) × (known ≡ n)). let below : n ≤ d = k.0 in let is : known ≡ n = k.1 in (
-      h.asks
-          ∙ (take_whole c.sent d (omega arith) ∙ sym (take_whole c.sent known (omega arith))),
-      let q : l ≡ known =
-          omega (arith, e, length-map (worker_share g c.worker) posted_of, length-take d c.sent) in q,
-    ))
-    known_is
-
 -- known is the lesser of d and n
 abbrev pub Least : ℕ → ℕ → ℕ → Type 0
 Least known d n = ((d < n) × (known ≡ d)) ⊎ ((n ≤ d) × (known ≡ n))
+
+-- the answers that a worker is told of are no more than its requests
+pub few_answers : {terms : Terms} {w : ℕ} {sent : List Posted} {taken g : List Answered} {d : ℕ}
+    → IsToldHistory terms w sent taken g d → length (worker_share g w) ≤ length sent
+few_answers {terms} {w} {sent} {taken} {g} {d} h = let e = ap length h.asked in
+    omega (arith, e, length-map (worker_share g w) posted_of, length-take d sent)
+
+-- after a load of done that found d, d answers are known, or all n if those are fewer
+known_by_load : {terms : Terms} {w : ℕ} {sent : List Posted} {taken g : List Answered} {d : ℕ} (n known : ℕ)
+    → IsToldHistory terms w sent taken g d → length sent ≡ n → Least known d n → length (worker_share g w) ≡ known
+known_by_load {terms} {w} {sent} {taken} {g} {d} n known h n_is least = let e = ap length h.asked in
+    let m = length-map (worker_share g w) posted_of in let t = length-take d sent in
+    ⊎_elim (λ (k : (d < n) × (known ≡ d)). let q : length (worker_share g w) ≡ known = omega (arith, e, m, t) in q)
+    (λ (k : (n ≤ d) × (known ≡ n)). let q : length (worker_share g w) ≡ known = omega (arith, e, m, t) in q) least
+
+-- what a load of done tells is what is known of the history then
+pub told_by_load : {terms : Terms} {w : ℕ} {sent : List Posted} {bye : Bool} {taken seen g : List Answered} {d : ℕ}
+    → IsDoneHistory terms w sent bye taken seen g d → IsToldHistory terms w sent taken g (length (worker_share g w))
+told_by_load {terms} {w} {sent} {bye} {taken} {seen} {g} {d} h = let l : ℕ = length (worker_share g w) in
+    let e = ap length h.history.asked in let m = length-map (worker_share g w) posted_of in
+    let t = length-take d sent in record {
+      legal = h.history.legal;
+      asked = h.history.asked ∙ ⊎_elim (λ (k : d ≡ l). ap (λ (z : ℕ). take z sent) k)
+          (λ (k : (bye ≡ true) × (d ≡ length sent + 1)). let all : d ≡ length sent + 1 = k.1 in
+          take_whole sent d (omega arith) ∙ sym (take_whole sent l (omega (arith, e, m, t)))) h.counted;
+      back = h.history.back;
+    }
+
+-- the same with more requests sent
+pub told_longer : {terms : Terms} {w : ℕ} {sent : List Posted} {taken g : List Answered} (more : List Posted)
+    → IsToldHistory terms w sent taken g (length (worker_share g w))
+    → IsToldHistory terms w (sent ++ more) taken g (length (worker_share g w))
+told_longer {terms} {w} {sent} {taken} {g} more h = record {
+  legal = h.legal;
+  asked = h.asked ∙ sym (take_front sent more (length (worker_share g w)) (few_answers h));
+  back = h.back;
+}
+
+-- the same with the next answer taken back
+pub told_taken : {terms : Terms} {w : ℕ} {sent : List Posted} {taken g : List Answered} {d : ℕ} (a : Answered)
+    → IsToldHistory terms w sent taken g d → get_elem? (worker_share g w) (length taken) ≡ some a
+    → IsToldHistory terms w sent (taken ++ a ∷ []) g d
+told_taken {terms} {w} {sent} {taken} {g} {d} a h at =
+    record { legal = h.legal; asked = h.asked; back = starts_more (worker_share g w) taken a h.back at }
 
 -- the fields agree once an answer was counted
 pub taken_more : (me me' : SeatState) (w sent put back known known' d : ℕ) (bye : Bool) (result : Option Answered)
@@ -81,13 +102,14 @@ pub taken_more : (me me' : SeatState) (w sent put back known known' d : ℕ) (by
 taken_more me me' w sent put back known known' d bye None r e t seat least = absurd (true≢false (sym e))
 taken_more me me' w sent put back known known' d bye (Some a) r _ t seat least = let c : WorkerState =
     worker_state_in me.0 in
-    let few : length (worker_share t.0 c.worker) ≤ length c.sent = few_answers c d t.0 t.1 in let at = t.2.0 in
+    let few : length (worker_share t.0 c.worker) ≤ length c.sent = few_answers t.1.history in
+    let at = t.2.0 in
     let below : length c.back < length (worker_share t.0 c.worker) =
     at_below (worker_share t.0 c.worker) (length c.back) a at in
     let is = t.2.1 in let sent_is : length c.sent ≡ sent = r.sent_is in
     let back_is : length c.back ≡ back = r.back_is in let order = r.order in
-    let o0 : sent + put ≤ back + WINDOW = order.2 in let now = told_of_load c d sent known' t.0 t.1 sent_is least in
-    let known_is : length (worker_share t.0 c.worker) ≡ known' = now.1 in record {
+    let o0 : sent + put ≤ back + WINDOW = order.2 in
+    let known_is : length (worker_share t.0 c.worker) ≡ known' = known_by_load sent known' t.1.history sent_is least in record {
       seated = seat;
       worker_is = ap (λ (z : WorkerState). z.worker) is ∙ r.worker_is;
       sent_is = ap (λ (z : WorkerState). length z.sent) is ∙ r.sent_is;
@@ -103,13 +125,8 @@ taken_more me me' w sent put back known known' d bye (Some a) r _ t seat least =
         order.3,
       );
       all_back = λ y. let q : back ≡ sent = (r.all_back y).0 in absurd (omega arith);
-      told = subst (λ (z : WorkerState). HasToldOf z known') (sym is) record {
-        legal = t.1.legal;
-        asked = now.0;
-        known_is = now.1;
-        back = starts_more
-            (worker_share t.0 c.worker) c.back a t.1.back at;
-      };
+      known_is = ap (λ (z : WorkerState). length (worker_share z.seen z.worker)) is ∙ known_is;
+      told = subst StateWasTold (sym is) (told_taken a (told_by_load t.1) at);
     }
 
 -- the fields agree where no answer came, too
@@ -121,13 +138,12 @@ pub taken_none : (me me' : SeatState) (w sent put back known known' d : ℕ) (by
 taken_none me me' w sent put back known known' d bye (Some a) r e t seat least = absurd (true≢false e)
 taken_none me me' w sent put back known known' d bye None r _ t seat least = let c : WorkerState =
     worker_state_in me.0 in
-    let few : length (worker_share t.0 c.worker) ≤ length c.sent = few_answers c d t.0 t.1 in
+    let few : length (worker_share t.0 c.worker) ≤ length c.sent = few_answers t.1.history in
     let is = t.2.1 in let sent_is : length c.sent ≡ sent = r.sent_is in
     let back_is : length c.back ≡ back = r.back_is in let order = r.order in
-    let now = told_of_load c d sent known' t.0 t.1 sent_is least in
-    let known_is : length (worker_share t.0 c.worker) ≡ known' = now.1 in
+    let known_is : length (worker_share t.0 c.worker) ≡ known' = known_by_load sent known' t.1.history sent_is least in
     let low : length c.back ≤ length (worker_share t.0 c.worker) =
-    starts_below (worker_share t.0 c.worker) c.back t.1.back in record {
+    starts_below (worker_share t.0 c.worker) c.back t.1.history.back in record {
       seated = seat;
       worker_is = ap (λ (z : WorkerState). z.worker) is ∙ r.worker_is;
       sent_is = ap (λ (z : WorkerState). length z.sent) is ∙ r.sent_is;
@@ -137,8 +153,8 @@ taken_none me me' w sent put back known known' d bye None r _ t seat least = let
       idle = ap (λ (z : WorkerState). z.slot_held) is ∙ r.idle;
       order = (let g : back ≤ known' = omega arith in g, let g : known' ≤ sent = omega arith in g, order.2, order.3);
       all_back = r.all_back;
-      told = subst (λ (z : WorkerState). HasToldOf z known')
-          (sym is) record { legal = t.1.legal; asked = now.0; known_is = now.1; back = t.1.back };
+      known_is = ap (λ (z : WorkerState). length (worker_share z.seen z.worker)) is ∙ known_is;
+      told = subst StateWasTold (sym is) (told_by_load t.1);
     }
 
 -- after an answer that was seen
@@ -146,7 +162,7 @@ pub taken_seen : (me me' : SeatState) (w sent put back known : ℕ) (bye : Bool)
     → WorkerAgrees me w sent put back known bye → back < known
     → get_elem? (worker_share (worker_state_in me.0).seen (worker_state_in me.0).worker)
     (length (worker_state_in me.0).back) ≡ some a
-    → me' ≡ (Worker (holding_slot (took_seen (worker_state_in me.0) a) 0), [])
+    → me' ≡ (Worker (holding_slot (with_seen_slot_taken (worker_state_in me.0) a) 0), [])
     → WorkerAgrees me' w sent put (back + 1) known bye
 taken_seen me me' w sent put back known bye a r more at is = let c : WorkerState = worker_state_in me.0 in
     let back_is : length c.back ≡ back = r.back_is in
@@ -167,13 +183,8 @@ taken_seen me me' w sent put back known bye a r more at is = let c : WorkerState
         order.3,
       );
       all_back = λ y. let q : back ≡ sent = (r.all_back y).0 in absurd (omega arith);
-      told = record {
-        legal = r.told.legal;
-        asked = r.told.asked;
-        known_is = r.told.known_is;
-        back = starts_more
-            (worker_share c.seen c.worker) c.back a r.told.back at;
-      };
+      known_is = r.known_is;
+      told = told_taken a r.told at;
     }
 
 -- with one more request put
@@ -199,7 +210,8 @@ put_more me me' w sent put back known p r room room' is = let c : WorkerState = 
         let g : sent + (put + 1) ≤ max_posts = omega arith in g,
       );
       all_back = λ y. absurd (true≢false (sym y));
-      told = record { legal = r.told.legal; asked = r.told.asked; known_is = r.told.known_is; back = r.told.back };
+      known_is = r.known_is;
+      told = r.told;
     }
 
 -- with all that was put sent
@@ -226,13 +238,8 @@ sent_all me me' w sent put back known number bye r some_put number_is is = let c
         let g : number + 0 ≤ max_posts = omega arith in g,
       );
       all_back = λ y. let q : put ≡ 0 = (r.all_back y).1 in absurd (omega arith);
-      told = record {
-        legal = r.told.legal;
-        asked = r.told.asked ∙ sym (take_front c.sent c.put known (let g : known ≤ length c.sent = omega arith in
-            g));
-        known_is = r.told.known_is;
-        back = r.told.back;
-      };
+      known_is = r.known_is;
+      told = told_longer c.put r.told;
     }
 
 -- with a bye
@@ -250,7 +257,8 @@ bye_said me me' w sent put back known r none_put all is =
       idle = refl;
       order = r.order;
       all_back = λ _. (all, none_put);
-      told = record { legal = r.told.legal; asked = r.told.asked; known_is = r.told.known_is; back = r.told.back };
+      known_is = r.known_is;
+      told = r.told;
     }
 
 -- a worker's end as it is made
@@ -272,12 +280,8 @@ new_agrees me g w is = subst (λ (z : SeatState). WorkerAgrees z w 0 0 0 0 false
     let g : 0 + 0 ≤ max_posts = omega arith in g,
   );
   all_back = λ _. (refl, refl);
-  told = record {
-    legal = legal_none _;
-    asked = refl;
-    known_is = refl;
-    back = ([], refl);
-  };
+  known_is = refl;
+  told = record { legal = legal_none _; asked = refl; back = ([], refl) };
 }
 
 -- nothing put, nothing sent
@@ -291,37 +295,24 @@ none_flushed v none_put = let e = none_of v.put none_put in
     none_of [] e = refl
     none_of (x ∷ l) e = absurd (omega arith)
 
--- what a take tells, seen from outside
-told_outside : (z : TableId) (c : WorkerState) (d : ℕ) (g : List Answered) → Learnt c d g
-    → IsToldDone (worker_view z c) d g
-told_outside z c d g h = record { legal = h.legal; later = h.later; asked = h.asks; counted = h.counted; back = h.back }
-
 -- what a take tells, in the words of contracts
 pub takes_outside : (z : TableId) (c c' : WorkerState) (d : ℕ) (result : Option Answered) → StateTakes c d result c'
     → TakesAnswer (worker_view z c) result (worker_view z c')
-takes_outside z c c' d None t = (d, t.0, told_outside z c d t.0 t.1, (t.2.0, ap (worker_view z) t.2.1))
-takes_outside z c c' d (Some a) t = (d, t.0, told_outside z c d t.0 t.1, (t.2.0, ap (worker_view z) t.2.1))
+takes_outside z c c' d None t = (d, t.0, t.1, (t.2.0, ap (worker_view z) t.2.1))
+takes_outside z c c' d (Some a) t = (d, t.0, t.1, (t.2.0, ap (worker_view z) t.2.1))
 
 -- a take leaves what was put
 pub takes_put : (c c' : WorkerState) (d : ℕ) (result : Option Answered) → StateTakes c d result c' → c'.put ≡ c.put
 takes_put c c' d None t = ap (λ (z : WorkerState). z.put) t.2.1
 takes_put c c' d (Some a) t = ap (λ (z : WorkerState). z.put) t.2.1
 
--- what is known of the history that a worker saw, seen from outside
-pub was_told : (z : TableId) (c : WorkerState) (known : ℕ) → HasToldOf c known → WasTold (worker_view z c)
-was_told z c known h = record {
-  legal = h.legal;
-  asked = h.asked ∙ ap (λ (n : ℕ). take n c.sent) (sym h.known_is);
-  back = h.back;
-}
-
 -- what came back is a beginning of the worker's share
 pub taken_back : (v v' : WorkerView) (result : Option Answered) → TakesAnswer v result v'
     → StartsWith (worker_share v'.seen v.worker) v'.back
 taken_back v v' None t = subst (λ (z : WorkerView). StartsWith (worker_share z.seen v.worker) z.back)
-    (sym t.3.1) t.2.back
+    (sym t.3.1) t.2.history.back
 taken_back v v' (Some a) t = subst (λ (z : WorkerView). StartsWith (worker_share z.seen v.worker) z.back) (sym t.3.1)
-    (starts_more (worker_share t.1 v.worker) v.back a t.2.back t.3.0)
+    (starts_more (worker_share t.1 v.worker) v.back a t.2.history.back t.3.0)
 
 -- a list of zeros has 0 everywhere
 pub blank_words : (n i : ℕ) → let z : ℕ = 0 in get_or (replicate n z) i z ≡ z
@@ -379,7 +370,7 @@ taken_own v v' None t = tt
 taken_own v v' (Some a) t = let at = t.3.0 in (
   share_at t.1 v.worker (length v.back) a at,
   taken_at v.sent t.0 (length v.back) (posted_of a)
-      (subst (λ (l : List Posted). get_elem? l (length v.back) ≡ some (posted_of a)) t.2.asked
+      (subst (λ (l : List Posted). get_elem? l (length v.back) ≡ some (posted_of a)) t.2.history.asked
       (asked_at (worker_share t.1 v.worker) (length v.back) a at)),
 )
 
@@ -398,7 +389,7 @@ seen_own v a h at = (
 pub taken_next : (v v' : WorkerView) (result : Option Answered) → TakesAnswer v result v'
     → IfSome result (λ a. a.number ≡ length v.back + 1)
 taken_next v v' None t = tt
-taken_next v v' (Some a) t = t.2.legal.legal.numbers v.worker (length v.back) a t.3.0
+taken_next v v' (Some a) t = t.2.history.legal.legal.numbers v.worker (length v.back) a t.3.0
 
 -- an answer that was seen is the next one by its number
 pub seen_next : (v : WorkerView) (a : Answered) → WasTold v
@@ -493,8 +484,8 @@ waits_more d a waiting lane workers was inside others = record {
 
 -- the look that named a message that isn't settled
 pub named_look : (d : StorageState) (lane named workers count : ℕ) → IsNamed d lane named workers
-    → count ≡ settled_count d lane → count < named
-    → (k p : ℕ) × (get_elem? d.looks k ≡ some (lane, p)) × (settled_count d lane < p)
+    → count ≡ settled_count d.history d.byes lane → count < named
+    → (k p : ℕ) × (get_elem? d.looks k ≡ some (lane, p)) × (settled_count d.history d.byes lane < p)
 named_look d lane named workers count is count_is more =
     ⊎_elim (λ (h : (d.looks ≡ []) × (named ≡ 0)). let z : named ≡ 0 = h.1 in absurd (omega arith))
     (λ (l : LastLook d.looks lane named). (
@@ -515,3 +506,22 @@ named_none looks lane named w n is l = ⊎_elim
     let b = ap length l.1 ∙ length-append l.0 ((w, n) ∷ []) in let same : length h.0 ≡ length l.0 = omega arith in
     some-injective (lane, named) (w, n)
     (sym (last_look_at looks lane named h) ∙ (ap (get_elem? looks) same ∙ last_look_at looks w n l))) is
+
+-- a look, and then the next message that it named
+pub by_look : (old new : StorageView) (w n : ℕ) (result : Option Taken)
+    → SeesNext (record old { looks = old.looks ++ (w, n) ∷ [] }) result new → LooksAt old w result new
+by_look old new w n None t = (n, (t.0 w n (old.looks, refl), t.1))
+by_look old new w n (Some (Asked v p)) t = (
+  n,
+  subst (λ (z : ℕ × ℕ). (settled_count old.history old.byes z.0 < z.1)
+      × IsNextMessage old z.0 (Asked v p)
+      × (new ≡ record (with_taken old z.0 (Asked v p)) { looks = old.looks ++ (w, n) ∷ [] }))
+      (sym (named_none (old.looks ++ (w, n) ∷ []) w n t.0 t.1 (inr (old.looks, refl)) t.2)) (t.4, t.5, t.6),
+)
+by_look old new w n (Some (ByeTaken v)) t = (
+  n,
+  subst (λ (z : ℕ × ℕ). (settled_count old.history old.byes z.0 < z.1)
+      × IsNextMessage old z.0 (ByeTaken v)
+      × (new ≡ record (with_taken old z.0 (ByeTaken v)) { looks = old.looks ++ (w, n) ∷ [] }))
+      (sym (named_none (old.looks ++ (w, n) ∷ []) w n t.0 t.1 (inr (old.looks, refl)) t.2)) (t.4, t.5, t.6),
+)

@@ -20,7 +20,8 @@ use Rattle.exchange.specs.Beginnings.{posted_of}
 use Rattle.proto.specs.History.{LegalBy, worker_share}
 use Rattle.exchange.specs.Lanes.{SeatState, lane_slot, LanesHold}
 use Rattle.exchange.specs.Steps.{holding_slot, placed_count, request_put, tells_post, bye_posted, done_loaded, slot_returned}
-use Rattle.exchange.specs.Steps.{settled_count, tells_answer, told_done, settle_bye}
+use Rattle.exchange.specs.Ends.{settled_count}
+use Rattle.exchange.specs.Steps.{tells_answer, told_done, settle_bye}
 use Rattle.exchange.proofs.WorkerSteps.{item_or, answer_or, puts_it, posts_it, posts_bye, loads_done, returns_it}
 use Rattle.exchange.proofs.StorageSteps.{answers_it, tells_it, settles_bye_it}
 
@@ -82,7 +83,7 @@ module _ (key : LaneKey) (n id : ℕ) (me : SeatState) where
 
   -- the store of done, with an answer
   pub answers_as : (d : StorageState) (w : ℕ) (p : Posted) (a : Answered) (i : ℕ)
-      → me ≡ (Storage d, (lane_slot w (settled_count d w), Some (Answer a)) ∷ [])
+      → me ≡ (Storage d, (lane_slot w (settled_count d.history d.byes w), Some (Answer a)) ∷ [])
       → d.holding ≡ Some (w, Ask p) → a.worker ≡ w → posted_of a ≡ p → w < key.workers
       → LegalBy d.terms (d.history ++ a ∷ [])
       → Allows (LanesHold key) n id me i (λ x. x) (tells_answer (step n i 0 0 none) me)
@@ -91,7 +92,7 @@ module _ (key : LaneKey) (n id : ℕ) (me : SeatState) where
       (answers_it key n id d w p a i held mine for inside legal)
 
   -- the answers to lane w are told of
-  pub tells_as : (d : StorageState) (w i new : ℕ) → me.0 ≡ Storage d → i ≡ 16 * w + 16 → new ≡ settled_count d w
+  pub tells_as : (d : StorageState) (w i new : ℕ) → me.0 ≡ Storage d → i ≡ 16 * w + 16 → new ≡ settled_count d.history d.byes w
       → w < key.workers
       → ((j : ℕ) → j ≢ w → worker_share d.history j ≡ worker_share d.told j)
       → Allows (LanesHold key) n id me i (λ _. new) (λ _. told_done (step n i new 0 none) me new)
@@ -101,9 +102,9 @@ module _ (key : LaneKey) (n id : ℕ) (me : SeatState) where
 
   -- the store of done, after a bye
   pub settles_bye_as : (d : StorageState) (w : ℕ) (i new : ℕ)
-      → me ≡ (Storage d, (lane_slot w (settled_count d w), None) ∷ [])
+      → me ≡ (Storage d, (lane_slot w (settled_count d.history d.byes w), None) ∷ [])
       → i ≡ 16 * w + 16
-      → new ≡ suc (settled_count d w) → d.holding ≡ Some (w, Bye) → w < key.workers
+      → new ≡ suc (settled_count d.history d.byes w) → d.holding ≡ Some (w, Bye) → w < key.workers
       → Allows (LanesHold key) n id me i (λ _. new) (λ _. settle_bye (step n i new 0 none) me new)
   settles_bye_as d w i new is i_is new_is held inside = subst
       (λ (z : SeatState × ℕ × ℕ). Allows (LanesHold key) n id z.0 z.1 (λ _. z.2)

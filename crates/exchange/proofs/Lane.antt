@@ -17,7 +17,7 @@ use Rattle.exchange.specs.declared.rule.WorkerState.{WorkerState}
 use Rattle.exchange.specs.Beginnings.{StartsWith, posted_of}
 use Rattle.proto.specs.History.{asked_posted}
 use Rattle.exchange.specs.Lanes.{bye_at_end, messages, count_of, At, LaneOk}
-use Rattle.exchange.specs.Steps.{holding_slot, placed_count, put_on, all_sent, with_bye, learnt_of, took_seen}
+use Rattle.exchange.specs.Steps.{holding_slot, placed_count, put_on, all_sent, with_bye, with_history, with_seen_slot_taken}
 use Rattle.exchange.proofs.Lists.{at_below, at_end, at_either, starts_at, starts_more, starts_longer, starts_below, starts_self, starts_trans, take_more}
 use Rattle.exchange.proofs.Lists.{take_front, take_whole}
 use Rattle.std.proofs.lemmas.List.{append-nil}
@@ -361,7 +361,7 @@ module _ (c : WorkerState) (mine told : List Answered) (byes : ℕ) (held : mayb
   -- the load of done, where an answer is taken
   pub takes_back : (at' : At) (a : Answered) → c.slot_held ≡ 0 → get_elem? told (length c.back) ≡ some a
       → Else at at' (length c.back)
-      → LaneOk (took_seen c a) mine told byes held posted done at'
+      → LaneOk (with_seen_slot_taken c a) mine told byes held posted done at'
   takes_back at' a idle is same = let b : ℕ = length c.back in let q : ℕ = length c.put in let all = count c in
       let high : length mine ≤ length c.sent = r.answered in
       let low : b < length mine = at_below mine b a (starts_at mine told b a r.told_is is) in
@@ -403,7 +403,7 @@ module _ (c : WorkerState) (mine told : List Answered) (byes : ℕ) (held : mayb
       }
 
   -- the load of done, where nothing is taken
-  pub is_told : (g : List Answered) (n : ℕ) → LaneOk (learnt_of c g n) mine told byes held posted done at
+  pub is_told : (g : List Answered) (n : ℕ) → LaneOk (with_history c n g) mine told byes held posted done at
   is_told g n = record {
     posted_is = r.posted_is;
     done_is = r.done_is;

@@ -14,7 +14,7 @@ use Rattle.exchange.specs.declared.messages.Taken.{Taken}
 use Rattle.exchange.specs.declared.messages.Taken.TheVariants.{Asked, Bye}
 use Rattle.proto.specs.Counts.{times}
 use Rattle.exchange.specs.Beginnings.{StartsWith}
-use Rattle.exchange.specs.Ends.{StorageView, looks_of_lane, lanes_of, lanes_in_turn, done_in, FoundNone, LookedOnce}
+use Rattle.exchange.specs.Ends.{StorageView, looks_of_lane, lanes_of, lanes_in_turn, settled_count, FoundNone, LookedOnce}
 use Rattle.exchange.specs.Ends.{IsNextMessage, with_taken, LooksAt, FindsNone}
 use Rattle.exchange.specs.Ends.{FindsOne}
 use Rattle.proto.proofs.CountLemmas.{one_more_time, no_more_time, times-append}
@@ -64,7 +64,7 @@ pub no_look : (old : StorageView) → InVain old old []
 no_look old = record {
   looks = [];
   lanes_are = refl;
-  found_none = All-nil (λ (x : ℕ × ℕ). x.1 ≤ done_in old x.0);
+  found_none = All-nil (λ (x : ℕ × ℕ). x.1 ≤ settled_count old.history old.byes x.0);
   now_is = λ i. let l : Pairs = sym (append-nil old.looks) i in record old { looks = l };
 }
 
@@ -74,18 +74,18 @@ lanes_more looks w n = map-append (λ (x : ℕ × ℕ). x.0) looks ((w, n) ∷ [
 
 module _ (old now : StorageView) (lanes : List ℕ) (r : InVain old now lanes) where
   -- what is done stays while no entry and no bye comes
-  done_same : (w : ℕ) → done_in now w ≡ done_in old w
-  done_same w = ap (λ (z : StorageView). done_in z w) r.now_is
+  done_same : (w : ℕ) → settled_count now.history now.byes w ≡ settled_count old.history old.byes w
+  done_same w = ap (λ (z : StorageView). settled_count z.history z.byes w) r.now_is
 
   -- one more look in vain
-  pub look_more : (new : StorageView) (w n : ℕ) → n ≤ done_in now w
+  pub look_more : (new : StorageView) (w n : ℕ) → n ≤ settled_count now.history now.byes w
       → new ≡ record now { looks = now.looks ++ (w, n) ∷ [] } → InVain old new (lanes ++ w ∷ [])
   look_more new w n small is = record {
     looks = r.looks ++ (w, n) ∷ [];
     lanes_are = lanes_more r.looks w n ∙ ap (λ (l : List ℕ). l ++ w ∷ []) r.lanes_are;
-    found_none = All-append (λ (x : ℕ × ℕ). x.1 ≤ done_in old x.0) r.looks ((w, n) ∷ []) r.found_none
-        (All-cons (λ (x : ℕ × ℕ). x.1 ≤ done_in old x.0) (w, n) [] (subst (λ (z : ℕ). n ≤ z) (done_same w) small)
-        (All-nil (λ (x : ℕ × ℕ). x.1 ≤ done_in old x.0)));
+    found_none = All-append (λ (x : ℕ × ℕ). x.1 ≤ settled_count old.history old.byes x.0) r.looks ((w, n) ∷ []) r.found_none
+        (All-cons (λ (x : ℕ × ℕ). x.1 ≤ settled_count old.history old.byes x.0) (w, n) [] (subst (λ (z : ℕ). n ≤ z) (done_same w) small)
+        (All-nil (λ (x : ℕ × ℕ). x.1 ≤ settled_count old.history old.byes x.0)));
     now_is = is ∙ (λ i. let z : StorageView = r.now_is i in record z { looks = z.looks ++ (w, n) ∷ [] })
         ∙ ap (λ (l : Pairs). record old { looks = l }) (append_assoc old.looks r.looks ((w, n) ∷ []));
   }
@@ -196,7 +196,7 @@ one_there P (x ∷ looks) w e all = dite (ℕ_discrete x.0 w)
 -- a call that found nothing looked once at each lane
 pub each_once : (old new : StorageView) (w : ℕ) → old.last < old.workers → w < old.workers → FindsNone old new
     → LookedOnce old new w
-each_once old new w inside small f = let one = one_there (λ (x : ℕ × ℕ). x.1 ≤ done_in old x.0) f.0 w
+each_once old new w inside small f = let one = one_there (λ (x : ℕ × ℕ). x.1 ≤ settled_count old.history old.byes x.0) f.0 w
     (ap (times w) f.1 ∙ once_in_turn old.workers old.last w inside small) f.2 in (
       one.0,
       one.1,
@@ -269,7 +269,7 @@ module _ (old now : StorageView) (workers last k : ℕ)
         (subst (StartsWith (lanes_in_turn workers last)) one_more (starts_take (lanes_in_turn workers last) (suc k)))) l
 
     -- in vain
-    pub vain_in_turn : (n : ℕ) → n ≤ done_in now lane → new ≡ record now { looks = now.looks ++ (lane, n) ∷ [] }
+    pub vain_in_turn : (n : ℕ) → n ≤ settled_count now.history now.byes lane → new ≡ record now { looks = now.looks ++ (lane, n) ∷ [] }
         → InVain old new (first_lanes workers last (suc k))
     vain_in_turn n few now_is = subst (InVain old new) (sym one_more)
         (look_more old now (first_lanes workers last k) r new lane n few now_is)

@@ -2,15 +2,15 @@
 use Rattle.std.proofs.Common.{◌≡◌, ◌≢◌, ◌⊎◌, ℕ, zero, suc, ◌+◌, ◌*◌, ◌<◌, ◌≤◌, List, [], ◌∷◌, ◌++◌, map, length}
 use Rattle.std.proofs.Common.{get_or, set, replicate, Option, Some, None}
 use Rattle.std.proofs.Common.{Bool, true, refl, sym, ap, ◌∙◌, subst, inl, inr, ⊎_elim, arith, length-set}
-use Rattle.std.proofs.Common.{length-append, get_or-set_other, get_or-set_same}
+use Rattle.std.proofs.Common.{get_or-set_other, get_or-set_same}
 use Rattle.std.proofs.Common.{le_refl, eq-eqb, ne_eqb}
 use mathlib.Core.Logic.{dite}
 use mathlib.Core.Option.{none, some, some-injective, some-ne-none}
 use mathlib.Core.Option as maybe
-use native.Mathlib.Decide.{ℕ_discrete, dec_le}
+use native.Mathlib.Decide.{ℕ_discrete}
 use lib.ListN.{get_elem?, length-map, length-replicate}
 use lib.Seq.{set-get_or}
-use Rattle.atomic_table.specs.Table.{step, stepped, keeps, takes, gives, Act, Valid, carried_after, Allows, Splits, Joins, opening}
+use Rattle.atomic_table.specs.Table.{step, keeps, takes, gives, Allows, Splits, Joins, opening}
 use Rattle.atomic_table.proofs.Lists.{at_set, set_else, at_longer}
 use Rattle.proto.specs.declared.limits.TheConstants.{WINDOW}
 use Rattle.proto.specs.declared.history.Posted.{Posted}
@@ -26,9 +26,10 @@ use Rattle.exchange.specs.Beginnings.{StartsWith, posted_of}
 use Rattle.proto.proofs.HistoryLemmas.{legal_none}
 use Rattle.proto.specs.History.{worker_share, LegalBy}
 use Rattle.exchange.specs.Lanes.{Homes, SeatState, messages, open_at, count_of, lane_slot, at_home, LaneIs, Agree, Fits, first_worker_state}
-use Rattle.exchange.specs.Lanes.{first_storage_state, LanesHold, opening_view, worker_seated}
+use Rattle.exchange.specs.Lanes.{storage_state_with, LanesHold, opening_view, worker_seated}
 use Rattle.proto.specs.Counts.{times}
-use Rattle.exchange.specs.Steps.{PostedTells, settled_count, looked_at, with_message_held, SeenTells}
+use Rattle.exchange.specs.Ends.{settled_count}
+use Rattle.exchange.specs.Steps.{looked_at, with_message_held, SeenTells}
 use Rattle.exchange.specs.Steps.{with_held_answered}
 use Rattle.exchange.specs.Steps.{all_told, bye_settled, posted_loaded, tells_answer}
 use Rattle.exchange.specs.Steps.{seen_opened, told_done, settle_bye, with_one_more}
@@ -91,28 +92,28 @@ module _ (key : LaneKey) where
   -- no Bye was taken of a lane whose next message is a request
   next_number : (words : List ℕ) (homes : Homes) (c : WorkerState) (d : StorageState) (w : ℕ) → LaneIs words homes d c w
       → (p : Posted)
-      → get_elem? c.sent (settled_count d w) ≡ some p → p.number ≡ suc (length (worker_share d.history w))
+      → get_elem? c.sent (settled_count d.history d.byes w) ≡ some p → p.number ≡ suc (length (worker_share d.history w))
   next_number words homes c d w lane p at = let byes : ℕ = times w d.byes in
       let n : ℕ = length (worker_share d.history w) in
-      let below : n + byes < length c.sent = at_below c.sent (settled_count d w) p at in
+      let below : n + byes < length c.sent = at_below c.sent (settled_count d.history d.byes w) p at in
       let low : length c.back ≤ n = back_low words homes c d w lane in
       let none_gone : byes ≡ 0 = dite (ℕ_discrete byes 0) (λ z. z)
       (λ nz. let q : length c.back ≡ length c.sent = lane.all_back (lane.leaves (omega arith)) in
       absurd (omega arith)) in
-      lane.numbered (settled_count d w) p (at_longer c.sent c.put (settled_count d w) p at)
+      lane.numbered (settled_count d.history d.byes w) p (at_longer c.sent c.put (settled_count d.history d.byes w) p at)
       ∙ (let g : suc (n + byes) ≡ suc n = omega arith in g)
 
   -- no Bye was taken of a lane that has a further message
   no_bye : (words : List ℕ) (homes : Homes) (c : WorkerState) (d : StorageState) (w : ℕ) → LaneIs words homes d c w
       → (m : LaneMessage)
-      → SentAt c.sent c.said_bye (settled_count d w) m → times w d.byes ≡ 0
+      → SentAt c.sent c.said_bye (settled_count d.history d.byes w) m → times w d.byes ≡ 0
   no_bye words homes c d w lane m at = let byes : ℕ = times w d.byes in let n : ℕ = length (worker_share d.history w) in
       let low : length c.back ≤ n = back_low words homes c d w lane in let high : n ≤ length c.sent = lane.answered in
       dite (ℕ_discrete byes 0) (λ z. z)
       (λ nz. let q : length c.back ≡ length c.sent = lane.all_back (lane.leaves (omega arith)) in
-      ⊎_elim (λ (h : (p : Posted) × (m ≡ Ask p) × (get_elem? c.sent (settled_count d w) ≡ some p)).
-      let below : n + byes < length c.sent = at_below c.sent (settled_count d w) h.0 h.2 in absurd (omega arith))
-      (λ (h : (m ≡ Bye) × (c.said_bye ≡ true) × (settled_count d w ≡ length c.sent)). let e : n + byes
+      ⊎_elim (λ (h : (p : Posted) × (m ≡ Ask p) × (get_elem? c.sent (settled_count d.history d.byes w) ≡ some p)).
+      let below : n + byes < length c.sent = at_below c.sent (settled_count d.history d.byes w) h.0 h.2 in absurd (omega arith))
+      (λ (h : (m ≡ Bye) × (c.said_bye ≡ true) × (settled_count d.history d.byes w ≡ length c.sent)). let e : n + byes
       ≡ length c.sent = h.2 in absurd (omega arith)) at)
 
   -- a look that named no more than the lane's messages may be one more of the looks
@@ -125,24 +126,45 @@ module _ (key : LaneKey) where
       (subst (λ (z : ℕ × ℕ). z.0 < key.workers → z.1 ≤ length (messages (states z.0))) h.1 few))
       (at_end d.looks (w, x) k (j, n) e)
 
-  -- At a load storage takes the next message of the lane. Its looks may be others then.
-  takes_next : (s : St) (r : LanesHold key s) (id i : ℕ) (me : SeatState) (d : StorageState) (looks : List (ℕ × ℕ))
-      (w : ℕ) (told : SeatState → Type 0)
-      → me.0 ≡ Storage d → d.holding ≡ None → w < key.workers → get_elem? s.views id ≡ some me.0
-      → settled_count d w < length (messages (r.states w))
-      → ((k j n : ℕ) → get_elem? looks k ≡ some (j, n) → (get_elem? d.looks k ≡ some (j, n))
-      ⊎ (j < key.workers → n ≤ length (messages (r.states j))))
-      → ((after : SeatState) → SeenTells (record d { looks = looks }) w me.1 after → told after)
-      → (v : LaneView) × (a : Act (Option LaneMessage)) × Valid s.homes me.1 a
-      × LanesHold key (stepped s i (get_or s.words i 0) id me.1 v a) × told (v, carried_after me.1 a)
-  takes_next s r id i me d looks w told is idle inside at more few tell = let x : ℕ = get_or s.words i 0 in
+  -- the load of posted
+  pub loads_posted : (n id : ℕ) (me : SeatState) (d : StorageState) (w : ℕ) → me.0 ≡ Storage d → w < key.workers
+      → Allows (LanesHold key) n id me (16 * w + 8) (λ x. x) (posted_loaded (step n (16 * w + 8) 0 0 none) me)
+  loads_posted n id me d w is inside s r _ at _ = let i : ℕ = 16 * w + 8 in let x : ℕ = get_or s.words i 0 in
       let f = storage_state_of s r id me.0 d at is in let lane = lane_at s r d w f.1 inside in
-      let t : ℕ = settled_count d w in let c : WorkerState = r.states w in
+      let c : WorkerState = r.states w in let x_is : x ≡ length (messages c) = lane.posted_is in (
+        Storage (looked_at d w x),
+        keeps,
+        tt,
+        storage_moves key s r id d (looked_at d w x) w (set s.words i x) s.homes (at ∙ ap (λ (z : LaneView). some z) is)
+            refl refl (legal_of s r d f.1) (legal_told_of s r d f.1) (first_of s r d f.1) (starts_self d.told)
+            (length-set s.words i x) refl
+            (λ j _. (loaded key s.words i (16 * j + 8), loaded key s.words i (16 * j + 16), λ _. refl))
+            (λ _ _. (refl, refl, refl, refl))
+            (λ _. lane_same c _ _ _ _ _ _ _ _ _ _ _ _ (at_home s.homes w)
+            (at_home s.homes w) refl refl refl refl (loaded key s.words i (16 * w + 8))
+            (loaded key s.words i (16 * w + 16)) (λ _. refl) lane)
+            (one_more_look d w x r.states (λ _. let h : x ≤ length (messages c) = omega arith in h)),
+        λ d₂ w₂ is₂ word. let same : 16 * w + 8 ≡ 16 * w₂ + 8 = word in let e : w ≡ w₂ = omega arith in
+            λ j. (Storage (looked_at (storage_state_or d ((sym is ∙ is₂) j)) (e j) x), me.1),
+      )
+
+  -- storage takes a message that a look named
+  pub opens_seen : (n id : ℕ) (me : SeatState) (d : StorageState) (w k p : ℕ) → me.0 ≡ Storage d → d.holding ≡ None
+      → w < key.workers
+      → get_elem? d.looks k ≡ some (w, p) → settled_count d.history d.byes w < p
+      → Allows (LanesHold key) n id me (16 * w + 16) (λ x. x) (seen_opened (step n (16 * w + 16) 0 0 none) me)
+  opens_seen n id me d w k p is idle inside look more s r _ at _ = let i : ℕ = 16 * w + 16 in
+      let x : ℕ = get_or s.words i 0 in
+      let f = storage_state_of s r id me.0 d at is in let lane = lane_at s r d w f.1 inside in
+      let t : ℕ = settled_count d.history d.byes w in let c : WorkerState = r.states w in
+      let named : p ≤ length (messages c) =
+      r.looked k w p (subst (λ (z : StorageState). get_elem? z.looks k ≡ some (w, p)) (sym f.1) look) inside in
+      let more' : t < p = more in
       let none_open : open_at d.holding w ≡ none = ap (λ z. open_at z w) idle in
       let none_held : count_of (open_at d.holding w) ≡ 0 = ap count_of none_open in
-      let next = at_some (messages c) t more in let y : LaneMessage = next.0 in
-      let sent = sent_at c.sent c.said_bye t y next.1 in
-      let d' : StorageState = with_message_held (record d { looks = looks }) w y in
+      let next = at_some (messages c) t (let h : t < length (messages c) = omega arith in h) in
+      let y : LaneMessage = next.0 in let sent = sent_at c.sent c.said_bye t y next.1 in
+      let d' : StorageState = with_message_held d w y in
       let homes' : Homes = set s.homes (lane_slot w t) none in (
         Storage d',
         takes (lane_slot w t) (Some y),
@@ -161,75 +183,28 @@ module _ (key : LaneKey) where
             (at_home homes' w) refl refl refl (open_mine w y) (loaded key s.words i (16 * w + 8))
             (loaded key s.words i (16 * w + 16)) (λ _. refl)
             (opens c _ _ _ _ _ _ (at_home s.homes w) lane (at_home homes' w) y none_open next.1
-            (slot_else s.homes w t none))) few,
-        tell (Storage d', (lane_slot w t, Some y) ∷ me.1) (
-          y,
-          (
-            no_bye s.words s.homes c d w lane y sent,
-            ⊎_elim (λ (h : (p : Posted) × (y ≡ Ask p) × (get_elem? c.sent t ≡ some p)). inl
-                (h.0, h.1, next_number s.words s.homes c d w lane h.0 h.2))
-                (λ (h : (y ≡ Bye) × (c.said_bye ≡ true) × (t ≡ length c.sent)). inr h.0) sent,
-          ),
-          refl,
-        ),
+            (slot_else s.homes w t none))) (λ _ _ _ e. inl e),
+        λ d₂ w₂ k₂ p₂ is₂ word look₂ more₂. let same : 16 * w + 16 ≡ 16 * w₂ + 16 = word in let e : w ≡ w₂ = omega arith in
+            subst (λ (z : StorageState × ℕ). SeenTells z.0 z.1 me.1 (Storage d', (lane_slot w t, Some y) ∷ me.1))
+            (λ j. (storage_state_or d ((sym is ∙ is₂) j), e j)) (
+              y,
+              (
+                no_bye s.words s.homes c d w lane y sent,
+                ⊎_elim (λ (h : (p : Posted) × (y ≡ Ask p) × (get_elem? c.sent t ≡ some p)). inl
+                    (h.0, h.1, next_number s.words s.homes c d w lane h.0 h.2))
+                    (λ (h : (y ≡ Bye) × (c.said_bye ≡ true) × (t ≡ length c.sent)). inr h.0) sent,
+              ),
+              refl,
+            ),
       )
-
-  -- the load of posted
-  pub loads_posted : (n id : ℕ) (me : SeatState) (d : StorageState) (w : ℕ) → me.0 ≡ Storage d → d.holding ≡ None
-      → w < key.workers
-      → Allows (LanesHold key) n id me (16 * w + 8) (λ x. x) (posted_loaded (step n (16 * w + 8) 0 0 none) me)
-  loads_posted n id me d w is idle inside s r _ at _ = let i : ℕ = 16 * w + 8 in let x : ℕ = get_or s.words i 0 in
-      let f = storage_state_of s r id me.0 d at is in let lane = lane_at s r d w f.1 inside in
-      let t : ℕ = settled_count d w in let c : WorkerState = r.states w in
-      let x_is : x ≡ length (messages c) = lane.posted_is in
-      let few = one_more_look d w x r.states (λ _. let h : x ≤ length (messages c) = omega arith in h) in
-      let tell : (m' : SeatState) → PostedTells d w x me.1 m'
-      → posted_loaded (step n i 0 0 none) me x m' = λ m' h d₂ w₂ is₂ word. let same : 16 * w + 8 ≡ 16 * w₂ + 8 = word in
-      let e : w ≡ w₂ = omega arith in
-      subst (λ (z : StorageState × ℕ). PostedTells z.0 z.1 x me.1 m')
-      (λ j. (storage_state_or d ((sym is ∙ is₂) j), e j)) h in
-      dite (dec_le x t) (λ le. let d' : StorageState = looked_at d w x in (
-        Storage d',
-        keeps,
-        tt,
-        storage_moves key s r id d d' w (set s.words i x) s.homes (at ∙ ap (λ (z : LaneView). some z) is) refl refl
-            (legal_of s r d f.1) (legal_told_of s r d f.1) (first_of s r d f.1) (starts_self d.told)
-            (length-set s.words i x) refl
-            (λ j _. (loaded key s.words i (16 * j + 8), loaded key s.words i (16 * j + 16), λ _. refl))
-            (λ _ _. (refl, refl, refl, refl))
-            (λ _. lane_same c _ _ _ _ _ _ _ _ _ _ _ _ (at_home s.homes w)
-            (at_home s.homes w) refl refl refl refl (loaded key s.words i (16 * w + 8))
-            (loaded key s.words i (16 * w + 16)) (λ _. refl) lane) few,
-        tell (Storage d', me.1) ((λ _. refl), λ gt. let gt' : t < x = gt in absurd (omega arith)),
-      ))
-      (λ gt. takes_next s r id i me d (looked_at d w x).looks w (posted_loaded (step n i 0 0 none) me x) is idle inside
-      at (let h : t < length (messages c) = omega arith in h) few
-      (λ m' seen. tell m' ((λ le. absurd (gt le)), λ _. seen)))
-
-  -- storage takes a message that it saw at an earlier look
-  pub opens_seen : (n id : ℕ) (me : SeatState) (d : StorageState) (w k p : ℕ) → me.0 ≡ Storage d → d.holding ≡ None
-      → w < key.workers
-      → get_elem? d.looks k ≡ some (w, p) → settled_count d w < p
-      → Allows (LanesHold key) n id me (16 * w + 16) (λ x. x) (seen_opened (step n (16 * w + 16) 0 0 none) me)
-  opens_seen n id me d w k p is idle inside look more s r _ at _ = let i : ℕ = 16 * w + 16 in
-      let f = storage_state_of s r id me.0 d at is in let c : WorkerState = r.states w in
-      let named : p ≤ length (messages c) =
-      r.looked k w p (subst (λ (z : StorageState). get_elem? z.looks k ≡ some (w, p)) (sym f.1) look) inside in
-      let more' : settled_count d w < p = more in
-      takes_next s r id i me d d.looks w (seen_opened (step n i 0 0 none) me (get_or s.words i 0)) is idle inside at
-      (let h : settled_count d w < length (messages c) = omega arith in h) (λ _ _ _ e. inl e)
-      (λ m' seen d₂ w₂ k₂ p₂ is₂ word look₂ more₂. let same : 16 * w + 16 ≡ 16 * w₂ + 16 = word in
-      let e : w ≡ w₂ = omega arith in
-      subst (λ (z : StorageState × ℕ). SeenTells z.0 z.1 me.1 m')
-      (λ j. (storage_state_or d ((sym is ∙ is₂) j), e j)) seen)
 
   -- the store of done, with an answer
   pub answers_it : (n id : ℕ) (d : StorageState) (w : ℕ) (p : Posted) (a : Answered) (i : ℕ)
       → d.holding ≡ Some (w, Ask p) → a.worker ≡ w → posted_of a ≡ p
       → w < key.workers → LegalBy d.terms (d.history ++ a ∷ [])
-      → Allows (LanesHold key) n id (Storage d, (lane_slot w (settled_count d w), Some (Answer a)) ∷ []) i (λ x. x)
-      (tells_answer (step n i 0 0 none) (Storage d, (lane_slot w (settled_count d w), Some (Answer a)) ∷ []))
-  answers_it n id d w p a i held mine for inside legal s r _ at _ = let t : ℕ = settled_count d w in
+      → Allows (LanesHold key) n id (Storage d, (lane_slot w (settled_count d.history d.byes w), Some (Answer a)) ∷ []) i (λ x. x)
+      (tells_answer (step n i 0 0 none) (Storage d, (lane_slot w (settled_count d.history d.byes w), Some (Answer a)) ∷ []))
+  answers_it n id d w p a i held mine for inside legal s r _ at _ = let t : ℕ = settled_count d.history d.byes w in
       let x : ℕ = get_or s.words i 0 in
       let f = r.each_view id (Storage d) at in let lane = lane_at s r d w f.1 inside in let deep = r.deep in
       let c : WorkerState = r.states w in
@@ -275,9 +250,9 @@ module _ (key : LaneKey) where
   -- the store of done, for all answers of the lane
   pub tells_it : (n id : ℕ) (me : SeatState) (d : StorageState) (w : ℕ) → me.0 ≡ Storage d → w < key.workers
       → ((j : ℕ) → j ≢ w → worker_share d.history j ≡ worker_share d.told j)
-      → Allows (LanesHold key) n id me (16 * w + 16) (λ _. settled_count d w)
-      (λ _. told_done (step n (16 * w + 16) (settled_count d w) 0 none) me (settled_count d w))
-  tells_it n id me d w is inside others s r _ at _ = let t : ℕ = settled_count d w in let i : ℕ = 16 * w + 16 in
+      → Allows (LanesHold key) n id me (16 * w + 16) (λ _. settled_count d.history d.byes w)
+      (λ _. told_done (step n (16 * w + 16) (settled_count d.history d.byes w) 0 none) me (settled_count d.history d.byes w))
+  tells_it n id me d w is inside others s r _ at _ = let t : ℕ = settled_count d.history d.byes w in let i : ℕ = 16 * w + 16 in
       let at' : get_elem? s.views id ≡ some (Storage d) = at ∙ ap (λ (z : LaneView). some z) is in
       let f = r.each_view id (Storage d) at' in
       let lane = lane_at s r d w f.1 inside in let wide = r.wide in let c : WorkerState = r.states w in
@@ -304,11 +279,11 @@ module _ (key : LaneKey) where
 
   -- the store of done, after a Bye
   pub settles_bye_it : (n id : ℕ) (d : StorageState) (w : ℕ) → d.holding ≡ Some (w, Bye) → w < key.workers
-      → Allows (LanesHold key) n id (Storage d, (lane_slot w (settled_count d w), None) ∷ []) (16 * w + 16)
-      (λ _. suc (settled_count d w))
-      (λ _. settle_bye (step n (16 * w + 16) (suc (settled_count d w)) 0 none)
-      (Storage d, (lane_slot w (settled_count d w), None) ∷ []) (suc (settled_count d w)))
-  settles_bye_it n id d w held inside s r _ at _ = let t : ℕ = settled_count d w in let i : ℕ = 16 * w + 16 in
+      → Allows (LanesHold key) n id (Storage d, (lane_slot w (settled_count d.history d.byes w), None) ∷ []) (16 * w + 16)
+      (λ _. suc (settled_count d.history d.byes w))
+      (λ _. settle_bye (step n (16 * w + 16) (suc (settled_count d.history d.byes w)) 0 none)
+      (Storage d, (lane_slot w (settled_count d.history d.byes w), None) ∷ []) (suc (settled_count d.history d.byes w)))
+  settles_bye_it n id d w held inside s r _ at _ = let t : ℕ = settled_count d.history d.byes w in let i : ℕ = 16 * w + 16 in
       let f = r.each_view id (Storage d) at in
       let lane = lane_at s r d w f.1 inside in let wide = r.wide in let deep = r.deep in
       let c : WorkerState = r.states w in
@@ -519,7 +494,7 @@ module _ (key : LaneKey) where
       → LanesHold key (opening words (replicate slots None) (opening_view key))
   starts words slots wide deep blank = record {
     states = first_worker_state key.terms;
-    storage_state = first_storage_state key.terms;
+    storage_state = storage_state_with key.terms 0;
     legal = legal_none _;
     legal_told = legal_none _;
     told_first = ([], refl);
@@ -560,8 +535,8 @@ module _ (key : LaneKey) where
   }
     where
       first : (j : ℕ) (v : LaneView) → get_elem? (opening_view key ∷ []) j ≡ some v
-          → Fits key (first_worker_state key.terms) (first_storage_state key.terms) j v
+          → Fits key (first_worker_state key.terms) (storage_state_with key.terms 0) j v
       first zero v e = subst (λ (z : LaneView). Fits key (first_worker_state key.terms)
-          (first_storage_state key.terms) 0 z)
+          (storage_state_with key.terms 0) 0 z)
           (some-injective (opening_view key) v e) (refl, refl)
       first (suc j) v e = absurd (some-ne-none v (sym e))

@@ -1,6 +1,6 @@
 -- A history that a worker was told of: how its seat is made, and what it finds where it meets a worker or another one.
-use Rattle.std.proofs.Common.{◌≡◌, ◌≢◌, ◌⊎◌, ⊎_elim, ℕ, ◌<◌, List, [], ◌∷◌, ◌++◌, map, length, take, get_or, set, Option, refl, sym, ap, ◌∙◌, subst, arith}
-use mathlib.Core.Option.{none, some, some-injective, some-ne-none}
+use Rattle.std.proofs.Common.{◌≡◌, ⊎_elim, ℕ, ◌<◌, List, ◌++◌, length, take, set, refl, sym, ap, ◌∙◌, subst, arith}
+use mathlib.Core.Option.{none, some, some-ne-none}
 use lib.ListN.{get_elem?}
 use lib.Seq.{set-get_or}
 use Rattle.std.proofs.lemmas.List.{map-append}
@@ -10,13 +10,12 @@ use Rattle.atomic_table.proofs.Lists.{set_here, set_else}
 use Rattle.proto.specs.declared.history.Posted.{Posted}
 use Rattle.proto.specs.declared.history.Answered.{Answered}
 use Rattle.proto.specs.History.{worker_share, asked_posted}
-use Rattle.exchange.specs.declared.messages.LaneMessage.{LaneMessage}
 use Rattle.exchange.specs.declared.messages.LaneKey.{LaneKey}
 use Rattle.exchange.specs.declared.rule.WorkerState.{WorkerState}
 use Rattle.exchange.specs.declared.rule.LaneView.{LaneView}
 use Rattle.exchange.specs.declared.rule.LaneView.TheVariants.{Nobody, Worker, Storage, Comparing, Told, TwoTold, Checking}
 use Rattle.exchange.specs.Beginnings.{StartsWith, AreOfOne, posted_of, is_of_worker}
-use Rattle.exchange.specs.Lanes.{SeatState, LanesHold, worker_seated}
+use Rattle.exchange.specs.Lanes.{SeatState, LanesHold}
 use Rattle.exchange.specs.Steps.{unchanged, noting, meeting, IsOfOneWith, tells_check, tells_two}
 use Rattle.exchange.proofs.Lists.{at_below, starts_below, starts_take, starts_trans, of_one}
 use Rattle.exchange.proofs.Shares.{share_starts}

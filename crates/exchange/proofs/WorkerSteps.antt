@@ -22,7 +22,7 @@ use Rattle.exchange.specs.Beginnings.{StartsWith}
 use Rattle.proto.specs.History.{worker_share, LegalBy}
 use Rattle.exchange.specs.Lanes.{Homes, SeatState, messages, open_at, count_of, lane_slot, at_home, LaneIs, LanesHold}
 use Rattle.proto.specs.Counts.{times}
-use Rattle.exchange.specs.Steps.{holding_slot, placed_count, put_on, all_sent, with_bye, learnt_of, took_seen, took_out}
+use Rattle.exchange.specs.Steps.{holding_slot, placed_count, put_on, all_sent, with_bye, with_history, with_seen_slot_taken, with_slot_taken}
 use Rattle.exchange.specs.Steps.{tells_begin, request_put, tells_post, bye_posted}
 use Rattle.exchange.specs.Steps.{seen_taken, Learnt, DoneTells, done_loaded, slot_returned}
 use Rattle.exchange.proofs.Lists.{at_some, starts_at, starts_below, starts_whole, starts_self, take_whole}
@@ -244,20 +244,22 @@ module _ (key : LaneKey) where
       let known = subst (λ (z : WorkerState). StartsWith g z.seen × (z.terms ≡ key.terms) × (z.worker ≡ w)) f.1
       (r.each_seen w f.2) in
       let learnt : Learnt c x g = record {
-        legal = subst (λ z. LegalBy z g) (sym known.1) r.legal_told;
+        history = record {
+          legal = subst (λ z. LegalBy z g) (sym known.1) r.legal_told;
+          asked = asked_told c.sent all_mine mine lane.asked_is first ∙ dite (ℕ_discrete byes 0)
+              (λ e. ap (λ (z : ℕ). take z c.sent) (let h : length mine ≡ x = omega arith in h))
+              (λ e. let q : b ≡ length c.sent = lane.all_back (lane.leaves (omega arith)) in
+              take_whole c.sent (length mine) (omega arith)
+              ∙ sym (take_whole c.sent x (omega arith)));
+          back = lane.known;
+        };
         later = known.0;
-        asks = asked_told c.sent all_mine mine lane.asked_is first ∙ dite (ℕ_discrete byes 0)
-            (λ e. ap (λ (z : ℕ). take z c.sent) (let h : length mine ≡ x = omega arith in h))
-            (λ e. let q : b ≡ length c.sent = lane.all_back (lane.leaves (omega arith)) in
-            take_whole c.sent (length mine) (omega arith)
-            ∙ sym (take_whole c.sent x (omega arith)));
         counted = dite (ℕ_discrete byes 0) (λ e. inl (let h : x ≡ length mine = omega arith in h))
             (λ e. let bye = lane.leaves (omega arith) in let q : b ≡ length c.sent = lane.all_back bye in
             let few = at_most_one c.said_bye in
             let behind : length all_mine + byes + count_of (open_at r.storage_state.holding w) ≤ length (messages c) =
             lane.behind in let all = count c in
             inr (bye, let h : x ≡ length c.sent + 1 = omega arith in h));
-        back = lane.known;
       } in
       let tell : (m' : SeatState) → DoneTells c x me.1 m' g
       → done_loaded (step n i 0 0 none) me x m' = λ m' h c₂ is₂.
@@ -268,12 +270,12 @@ module _ (key : LaneKey) where
       × done_loaded (step n i 0 0 none) me x (v, Rattle.atomic_table.specs.Table.carried_after me.1 a)
       = λ less. let short : length mine ≤ b =
       ⊎_elim (λ (h : x ≤ b). omega arith) (λ (h : length c.sent ≤ b). omega arith) less in (
-        Worker (learnt_of c g x),
+        Worker (with_history c x g),
         keeps,
         tt,
-        worker_load s r i id c (learnt_of c g x) s.homes at' refl refl (le_refl (length (messages c))) refl
+        worker_load s r i id c (with_history c x g) s.homes at' refl refl (le_refl (length (messages c))) refl
             (λ _ _ _. refl) (is_told c _ _ _ _ _ _ _ lane g x) (starts_self g),
-        tell (Worker (learnt_of c g x), me.1) (
+        tell (Worker (with_history c x g), me.1) (
           learnt,
           (λ y z. absurd (⊎_elim (λ (h : x ≤ b). omega arith) (λ (h : length c.sent ≤ b). omega arith) less)),
           λ _.
@@ -285,14 +287,14 @@ module _ (key : LaneKey) where
       let none_gone : byes ≡ 0 = dite (ℕ_discrete byes 0) (λ z. z)
       (λ e. let q : b ≡ length c.sent = lane.all_back (lane.leaves (omega arith)) in absurd (omega arith)) in
       let next = at_some mine b (let h : b < length mine = omega arith in h) in let a : Answered = next.0 in
-      let c' : WorkerState = took_out c g x a in (
+      let c' : WorkerState = with_slot_taken c x g a in (
         Worker c',
         takes (lane_slot w b) (Some (Answer a)),
         lane.answers b a (le_refl b) (starts_at all_mine mine b a first next.1),
         worker_load s r i id c c' (set s.homes (lane_slot w b) none) at' refl refl (le_refl (length (messages c)))
             (length-set s.homes (lane_slot w b) none)
             (λ j q other. slot_other s.homes w b none j q other)
-            (is_told (took_seen c a) _ _ _ _ _ _ (at_home (set s.homes (lane_slot w b) none) w)
+            (is_told (with_seen_slot_taken c a) _ _ _ _ _ _ (at_home (set s.homes (lane_slot w b) none) w)
             (takes_back c _ _ _ _ _ _ (at_home s.homes w) lane _ a idle next.1 (slot_else s.homes w b none)) g x)
             (starts_self g),
         tell (Worker c', (lane_slot w b, Some (Answer a)) ∷ me.1) (
@@ -309,7 +311,7 @@ module _ (key : LaneKey) where
       → Allows (LanesHold key) n id me i (λ x. x) (seen_taken (step n i 0 0 none) me)
   takes_seen n id me c a i is idle next s r _ at _ = let w : ℕ = c.worker in let b : ℕ = length c.back in
       let f = worker_of key s r id me.0 c at is in
-      let lane = lane_of key s r c f.1 f.2 in let c' : WorkerState = took_seen c a in
+      let lane = lane_of key s r c f.1 f.2 in let c' : WorkerState = with_seen_slot_taken c a in
       let seen = seen_of s r c f.1 f.2 in
       let next' : get_elem? (worker_share r.storage_state.told w) b ≡ some a =
       starts_at _ _ b a (share_starts r.storage_state.told c.seen w seen) next in (
@@ -325,7 +327,7 @@ module _ (key : LaneKey) where
             (sym next ∙ (ap (λ (z : WorkerState). get_elem? (worker_share z.seen z.worker) (length z.back)) e
             ∙ next₂)) in
             λ j. (
-              Worker (took_seen (e j) (e' j)),
+              Worker (with_seen_slot_taken (e j) (e' j)),
               (lane_slot (e j).worker (length (e j).back), Some (Answer (e' j))) ∷ me.1,
             ),
       )

@@ -118,44 +118,48 @@ max_posts = 2 ^ 62
 abbrev pub CanPost : WorkerView → Type 0
 CanPost view = (length view.sent < length view.back + WINDOW) × (view.said_bye ≡ false) × (length view.sent < max_posts)
 
--- What a worker is told where it reads how many of its messages are done: a legal history that begins with the
--- one that it had seen, in which its requests are the first `done` of those that it sent, or all of them where
--- its bye is one of the messages that are done.
-pub record IsToldDone (view : WorkerView) (done : ℕ) (told : List Answered) : Type 0 where
-  pub legal : LegalBy view.terms told
-  pub later : StartsWith told view.seen
-  pub asked : asked_posted (worker_share told view.worker) ≡ take done view.sent
-  pub counted : (done ≡ length (worker_share told view.worker))
-      ⊎ ((view.said_bye ≡ true) × (done ≡ length view.sent + 1))
-  pub back : StartsWith (worker_share told view.worker) view.back
+-- A history that a worker was told of: it is legal, the worker's requests there are the first `count` of those that it
+-- sent, and the answers that it took back are the first of its entries there.
+pub record IsToldHistory (terms : Terms) (worker : ℕ) (sent : List Posted) (taken told : List Answered)
+    (count : ℕ) : Type 0 where
+  pub legal : LegalBy terms told
+  pub asked : asked_posted (worker_share told worker) ≡ take count sent
+  pub back : StartsWith (worker_share told worker) taken
 
--- told of a history, without an answer
-abbrev pub told_of : WorkerView → ℕ → List Answered → WorkerView
-told_of view done told = record view { seen = told; loads = view.loads ++ done ∷ [] }
+-- What a worker is told if it reads how many of its messages are done: a history that begins with the one that it had
+-- seen, in which its requests are the first `done` of those that it sent, or all of them if its bye is one of the
+-- messages that are done.
+pub record IsDoneHistory (terms : Terms) (worker : ℕ) (sent : List Posted) (said_bye : Bool)
+    (taken seen told : List Answered) (done : ℕ) : Type 0 where
+  pub history : IsToldHistory terms worker sent taken told done
+  pub later : StartsWith told seen
+  pub counted : (done ≡ length (worker_share told worker)) ⊎ ((said_bye ≡ true) × (done ≡ length sent + 1))
 
--- told of a history, with an answer of it
-abbrev pub given_answer : WorkerView → ℕ → List Answered → Answered → WorkerView
-given_answer view done told answered = record view {
-  seen = told;
-  loads = view.loads ++ done ∷ [];
-  back = view.back
-      ++ answered ∷ [];
-}
+-- the same of a worker's view
+abbrev pub IsToldDone : WorkerView → ℕ → List Answered → Type 0
+IsToldDone view done told =
+    IsDoneHistory view.terms view.worker view.sent view.said_bye view.back view.seen told done
+
+-- told of this history by the count of done messages
+abbrev pub with_history : WorkerView → ℕ → List Answered → WorkerView
+with_history view done told = record view { seen = told; loads = view.loads ++ done ∷ [] }
+
+-- the same, with an answer of it
+abbrev pub with_history_and_answer : WorkerView → ℕ → List Answered → Answered → WorkerView
+with_history_and_answer view done told answered = record (with_history view done told) { back = view.back ++ answered ∷ [] }
 
 -- A `take` tells the worker a history. An answer is the next one of its entries there; none comes exactly where it
 -- took all of them back before.
 abbrev pub TakesAnswer : WorkerView → Option Answered → WorkerView → Type 0
 TakesAnswer old result new = (done : ℕ) × (told : List Answered) × IsToldDone old done told × MatchOption result
-    ((old.back ≡ worker_share told old.worker) × (new ≡ told_of old done told))
+    ((old.back ≡ worker_share told old.worker) × (new ≡ with_history old done told))
     (λ answered. (get_elem? (worker_share told old.worker) (length old.back) ≡ some answered)
-    × (new ≡ given_answer old done told answered))
+    × (new ≡ with_history_and_answer old done told answered))
 
--- what is known of a history that a worker was told of
-pub record WasTold (view : WorkerView) : Type 0 where
-  pub legal : LegalBy view.terms view.seen
-  pub asked : asked_posted (worker_share view.seen view.worker)
-      ≡ take (length (worker_share view.seen view.worker)) view.sent
-  pub back : StartsWith (worker_share view.seen view.worker) view.back
+-- what is known of the history that a worker was told of last
+abbrev pub WasTold : WorkerView → Type 0
+WasTold view = IsToldHistory view.terms view.worker view.sent view.back view.seen
+    (length (worker_share view.seen view.worker))
 
 -- What a `take_seen` tells: an answer is the next one of the worker's entries in the history that it was told of
 -- last; none comes exactly where it took all of them back before.
@@ -176,9 +180,9 @@ with_put_sent view = record { end = record view.end { sent = view.end.sent ++ vi
 
 -- Storage's calls
 
--- how many messages of the lane are done
-abbrev pub done_in : StorageView → ℕ → ℕ
-done_in view lane = length (worker_share view.history lane) + times lane view.byes
+-- how many messages of this lane storage has settled
+abbrev pub settled_count : List Answered → List ℕ → ℕ → ℕ
+settled_count history byes lane = length (worker_share history lane) + times lane byes
 
 -- the lanes in turn: those after the one that was taken from last, then those from the first one up to it
 abbrev pub lanes_in_turn : ℕ → ℕ → List ℕ
@@ -194,11 +198,11 @@ looks_of_lane looks lane = map (λ (look : ℕ × ℕ). look.1) (filter (λ (loo
 
 -- no look found a message that isn't done
 abbrev pub FoundNone : StorageView → List (ℕ × ℕ) → Type 0
-FoundNone view looks = All (λ (look : ℕ × ℕ). look.1 ≤ done_in view look.0) looks
+FoundNone view looks = All (λ (look : ℕ × ℕ). look.1 ≤ settled_count view.history view.byes look.0) looks
 
 -- one more look at this lane, which found no message that isn't done
 abbrev pub LookedOnce : StorageView → StorageView → ℕ → Type 0
-LookedOnce old new lane = (count : ℕ) × (count ≤ done_in old lane)
+LookedOnce old new lane = (count : ℕ) × (count ≤ settled_count old.history old.byes lane)
     × (looks_of_lane new.looks lane ≡ looks_of_lane old.looks lane ++ count ∷ [])
 
 -- The next message of this lane: no bye of it came before, and a request has the number after that of the
@@ -220,8 +224,8 @@ with_taken view lane (Bye worker) = record view { byes = lane ∷ view.byes; las
 -- what one look at this lane tells: there is no message that isn't done, or the next one is taken
 abbrev pub LooksAt : StorageView → ℕ → Option Taken → StorageView → Type 0
 LooksAt old lane result new = (count : ℕ) × MatchOption result
-    ((count ≤ done_in old lane) × (new ≡ record old { looks = old.looks ++ (lane, count) ∷ [] }))
-    (λ message. (done_in old lane < count) × IsNextMessage old lane message
+    ((count ≤ settled_count old.history old.byes lane) × (new ≡ record old { looks = old.looks ++ (lane, count) ∷ [] }))
+    (λ message. (settled_count old.history old.byes lane < count) × IsNextMessage old lane message
     × (new ≡ record (with_taken old lane message) { looks = old.looks ++ (lane, count) ∷ [] }))
 
 -- Where `next` finds none, it looked at all lanes in turn and found none there.
@@ -237,7 +241,7 @@ pub record FindsOne (old new : StorageView) (message : Taken) : Type 0 where
   pub inside : lane < old.workers
   pub in_turn : StartsWith (lanes_in_turn old.workers old.last) (lanes_of (before ++ (lane, posted) ∷ []))
   pub none_before : FoundNone old before
-  pub found : done_in old lane < posted
+  pub found : settled_count old.history old.byes lane < posted
   pub is_next : IsNextMessage old lane message
   pub after : new ≡ record (with_taken old lane message) { looks = old.looks ++ (before ++ (lane, posted) ∷ []) }
 
@@ -249,9 +253,9 @@ LastLook looks lane count = (before : List (ℕ × ℕ)) × (looks ≡ before ++
 -- the count that was found there names no message that isn't done.
 abbrev pub SeesNext : StorageView → Option Taken → StorageView → Type 0
 SeesNext old result new = MatchOption result
-    (((lane count : ℕ) → LastLook old.looks lane count → count ≤ done_in old lane) × (new ≡ old))
+    (((lane count : ℕ) → LastLook old.looks lane count → count ≤ settled_count old.history old.byes lane) × (new ≡ old))
     (λ message. (lane : ℕ) × (count : ℕ) × LastLook old.looks lane count × (lane < old.workers)
-    × (done_in old lane < count) × IsNextMessage old lane message
+    × (settled_count old.history old.byes lane < count) × IsNextMessage old lane message
     × (new ≡ with_taken old lane message))
 
 -- what an answer to the open request changes

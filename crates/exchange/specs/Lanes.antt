@@ -173,11 +173,11 @@ first_worker_state terms worker = record {
   slot_held = 0;
 }
 
--- what storage knows at first
-abbrev pub first_storage_state : Terms → StorageState
-first_storage_state terms = record {
+-- what storage knows once it has made this many workers, and done nothing else
+abbrev pub storage_state_with : Terms → ℕ → StorageState
+storage_state_with terms made = record {
   terms = terms;
-  made = 0;
+  made = made;
   taken = [];
   history = [];
   told = [];
@@ -210,4 +210,4 @@ pub record LanesHold (key : LaneKey) (table : State (Option LaneMessage) LaneVie
 
 -- the view of the first seat
 abbrev pub opening_view : LaneKey → LaneView
-opening_view key = Storage (first_storage_state key.terms)
+opening_view key = Storage (storage_state_with key.terms 0)

@@ -1,6 +1,6 @@
 -- What the fields of the two ends have to do with their seats, and what each of them shows.
-use Rattle.std.specs.Prelude.{◌≡◌, ◌≢◌, ◌⊎◌, ℕ, ◌+◌, ◌*◌, ◌^◌, ◌<◌, ◌≤◌, List, [], ◌∷◌, ◌++◌}
-use Rattle.std.specs.Prelude.{length, take, Option, Some, None, MatchOption, is_some, Bool}
+use Rattle.std.specs.Prelude.{◌≡◌, ◌≢◌, ◌⊎◌, ℕ, ◌+◌, ◌*◌, ◌^◌, ◌<◌, ◌≤◌, List, [], ◌∷◌}
+use Rattle.std.specs.Prelude.{length, Option, Some, None, MatchOption, is_some, Bool}
 use Rattle.std.specs.Prelude.{true, false}
 use Rattle.std.specs.Prelude.{slice_index}
 use mathlib.Core.Option.{some}
@@ -12,17 +12,18 @@ use Rattle.proto.specs.declared.limits.TheConstants.{WINDOW}
 use Rattle.proto.specs.declared.terms.Terms.{Terms}
 use Rattle.proto.specs.declared.history.Posted.{Posted}
 use Rattle.proto.specs.declared.history.Answered.{Answered}
-use Rattle.proto.specs.History.{worker_share, asked_posted, LegalBy}
-use Rattle.exchange.specs.Beginnings.{StartsWith}
+use Rattle.proto.specs.History.{worker_share}
 use Rattle.exchange.specs.declared.messages.LaneMessage.{LaneMessage}
-use Rattle.exchange.specs.declared.messages.LaneMessage.TheVariants.{Ask, Bye, Answer}
+use Rattle.exchange.specs.declared.messages.LaneMessage.TheVariants.{Ask}
 use Rattle.exchange.specs.declared.rule.WorkerState.{WorkerState}
 use Rattle.exchange.specs.declared.rule.StorageState.{StorageState}
 use Rattle.exchange.specs.declared.rule.LaneView.{LaneView}
 use Rattle.exchange.specs.declared.rule.LaneView.TheVariants.{Nobody, Worker, Storage, Comparing, Told, TwoTold, Checking}
-use Rattle.exchange.specs.Lanes.{SeatState, known_by, slots_of, lane_slot, first_worker_state, first_storage_state}
-use Rattle.exchange.specs.Steps.{placed_count, learnt_of, settled_count, Learnt, looked_at, with_message_held, IsSent}
-use Rattle.exchange.specs.Ends.{WorkerView, WorkerBatchView, StorageView, StorageBatchView, ToldView, max_posts, LastLook}
+use Rattle.exchange.specs.Lanes.{SeatState, known_by, slots_of, lane_slot, first_worker_state, storage_state_with}
+use Rattle.exchange.specs.Steps.{placed_count, with_history, with_history_and_answer, Learnt}
+use Rattle.exchange.specs.Steps.{lane_request}
+use Rattle.exchange.specs.Ends.{WorkerView, WorkerBatchView, StorageView, StorageBatchView, ToldView}
+use Rattle.exchange.specs.Ends.{IsToldHistory, max_posts, settled_count, LastLook}
 
 -- The views
 
@@ -43,12 +44,6 @@ worker_view table worker =
 -- what a contract sees of a worker's end that sends in batches
 abbrev pub worker_batch_view : TableId → WorkerState → WorkerBatchView
 worker_batch_view table worker = record { end = worker_view table worker; put = worker.put }
-
--- the request that a message of this worker is
-abbrev pub lane_request : ℕ → LaneMessage → Option (ℕ × Posted)
-lane_request lane (Ask posted) = Some (lane, posted)
-lane_request lane Bye = None
-lane_request lane (Answer answer) = None
 
 -- the request that storage holds
 abbrev pub open_in : Option (ℕ × LaneMessage) → Option (ℕ × Posted)
@@ -94,12 +89,12 @@ worker_state_in (Checking worker told) = worker
 -- what the view of storage's seat says
 abbrev pub storage_state_in : LaneView → StorageState
 storage_state_in (Storage storage) = storage
-storage_state_in Nobody = first_storage_state any_terms
-storage_state_in (Worker worker) = first_storage_state any_terms
+storage_state_in Nobody = storage_state_with any_terms 0
+storage_state_in (Worker worker) = storage_state_with any_terms 0
 storage_state_in (Comparing storage worker) = storage
-storage_state_in (Told told) = first_storage_state any_terms
-storage_state_in (TwoTold told other) = first_storage_state any_terms
-storage_state_in (Checking worker told) = first_storage_state any_terms
+storage_state_in (Told told) = storage_state_with any_terms 0
+storage_state_in (TwoTold told other) = storage_state_with any_terms 0
+storage_state_in (Checking worker told) = storage_state_with any_terms 0
 
 -- what the view of a history's seat says
 abbrev pub told_in : LaneView → List Answered
@@ -160,13 +155,10 @@ exchanged_to me slot content = (known_by me, (slot, content) ∷ rest (slots_of 
 
 -- A worker's end
 
--- The history that a worker saw: it is legal, its requests there are the first `known` of those that it
--- sent, and the answers that it took back are the first of its entries there
-pub record HasToldOf (worker : WorkerState) (known : ℕ) : Type 0 where
-  pub legal : LegalBy worker.terms worker.seen
-  pub asked : asked_posted (worker_share worker.seen worker.worker) ≡ take known worker.sent
-  pub known_is : length (worker_share worker.seen worker.worker) ≡ known
-  pub back : StartsWith (worker_share worker.seen worker.worker) worker.back
+-- what is known of the history that a worker saw
+abbrev pub StateWasTold : WorkerState → Type 0
+StateWasTold worker = IsToldHistory worker.terms worker.worker worker.sent worker.back worker.seen
+    (length (worker_share worker.seen worker.worker))
 
 -- The fields of a worker's end agree with what its seat knows, and no slot is out with it
 pub record WorkerAgrees (me : SeatState) (worker sent put back known : ℕ) (said_bye : Bool) : Type 0 where
@@ -179,7 +171,8 @@ pub record WorkerAgrees (me : SeatState) (worker sent put back known : ℕ) (sai
   pub idle : (worker_at me).slot_held ≡ 0
   pub order : (back ≤ known) × (known ≤ sent) × (sent + put ≤ back + WINDOW) × (sent + put ≤ max_posts)
   pub all_back : said_bye ≡ true → (back ≡ sent) × (put ≡ 0)
-  pub told : HasToldOf (worker_at me) known
+  pub known_is : length (worker_share (worker_at me).seen (worker_at me).worker) ≡ known
+  pub told : StateWasTold (worker_at me)
 
 -- the seat is this worker's, has sent or put this many requests, and may put one more message
 abbrev pub MayPost : SeatState → ℕ → ℕ → Type 0
@@ -202,55 +195,34 @@ MayTake me worker sent back = (me ≡ (Worker (worker_at me), [])) × ((worker_a
     × (length (worker_at me).sent ≡ sent)
     × (length (worker_at me).back ≡ back) × ((worker_at me).slot_held ≡ 0)
 
--- told of this history by the done word, with the answer added to what it took back
-abbrev pub took_back : WorkerState → List Answered → ℕ → Answered → WorkerState
-took_back worker told done answer = record worker {
-  seen = told;
-  loads = worker.loads ++ done ∷ [];
-  back = worker.back
-      ++ answer ∷ [];
-}
-
 -- What a take tells: it read the done word and was told of a history. An answer is the next one of that history.
 -- There is none where all answers there were taken before
 abbrev pub StateTakes : WorkerState → ℕ → Option Answered → WorkerState → Type 0
 StateTakes worker done result after = (told : List Answered) × Learnt worker done told
-    × MatchOption result ((worker.back ≡ worker_share told worker.worker) × (after ≡ learnt_of worker told done))
+    × MatchOption result ((worker.back ≡ worker_share told worker.worker) × (after ≡ with_history worker done told))
     (λ answer. (get_elem? (worker_share told worker.worker) (length worker.back) ≡ some answer)
-    × (after ≡ took_back worker told done answer))
+    × (after ≡ with_history_and_answer worker done told answer))
 
 -- Storage's end
 
--- storage's seat holds no slot, and has settled `count` messages of the lane
-abbrev pub MayLook : SeatState → ℕ → ℕ → Type 0
-MayLook me lane count = (me ≡ (Storage (storage_at me), [])) × (settled_count (storage_at me) lane ≡ count)
-    × ((storage_at me).holding ≡ None)
-
--- the same, and an earlier look at the lane named a message that isn't settled
+-- storage's seat holds no slot, has settled `count` messages of the lane, and an earlier look at the lane named a
+-- message that isn't settled
 abbrev pub HasSeenMessage : SeatState → ℕ → ℕ → Type 0
-HasSeenMessage me lane count = MayLook me lane count × ((place posted : ℕ)
+HasSeenMessage me lane count = (me ≡ (Storage (storage_at me), []))
+    × (settled_count (storage_at me).history (storage_at me).byes lane ≡ count)
+    × ((storage_at me).holding ≡ None) × ((place posted : ℕ)
     × (get_elem? (storage_at me).looks place ≡ some (lane, posted))
-    × (settled_count (storage_at me) lane < posted))
+    × (settled_count (storage_at me).history (storage_at me).byes lane < posted))
 
 -- The look that came last is one at this lane which found this posted word, or there was none
 abbrev pub IsNamed : StorageState → ℕ → ℕ → ℕ → Type 0
 IsNamed storage lane named workers = (((storage.looks ≡ []) × (named ≡ 0)) ⊎ LastLook storage.looks lane named)
     × (lane < workers)
 
--- What a look at a lane tells: the posted word names no message beyond those settled, or the next message is out
-abbrev pub Looks : StorageState → ℕ → ℕ → Option LaneMessage → SeatState → Type 0
-Looks storage lane posted result me = (posted < 2 ^ 64) × MatchOption result ((posted ≤ settled_count storage lane)
-    × (me ≡ (Storage (looked_at storage lane posted), [])))
-    (λ message. (settled_count storage lane < posted) × IsSent storage lane message
-    × (me ≡ (
-      Storage (with_message_held (looked_at storage lane posted) lane message),
-      (lane_slot lane (settled_count storage lane), None) ∷ [],
-    )))
-
 -- storage's seat holds the slot of this message of the lane, of which `count` were settled before
 abbrev pub HoldsTaken : SeatState → ℕ → ℕ → LaneMessage → Type 0
 HoldsTaken me lane count message = (me ≡ (Storage (storage_at me), (lane_slot lane count, None) ∷ []))
-    × (settled_count (storage_at me) lane ≡ count)
+    × (settled_count (storage_at me).history (storage_at me).byes lane ≡ count)
     × ((storage_at me).holding ≡ Some (lane, message)) × (count + 1 < 2 ^ 64)
 
 -- The answers that weren't told of are all of this lane, and there are some exactly where one waits
@@ -264,7 +236,7 @@ pub record IsWaiting (storage : StorageState) (waiting : Bool) (lane workers : �
 -- the slot that storage holds
 abbrev pub carried_by : StorageState → Option (ℕ × LaneMessage) → List (ℕ × Option LaneMessage)
 carried_by storage None = []
-carried_by storage (Some held) = (lane_slot held.0 (settled_count storage held.0), None) ∷ []
+carried_by storage (Some held) = (lane_slot held.0 (settled_count storage.history storage.byes held.0), None) ∷ []
 
 -- The fields of storage's end agree with what its seat knows
 pub record StorageAgrees (me : SeatState) (workers last : ℕ) (counts : List ℕ) (open_now : Bool) : Type 0 where
@@ -274,21 +246,9 @@ pub record StorageAgrees (me : SeatState) (workers last : ℕ) (counts : List �
   )
   pub few : (0 < workers) × (workers ≤ 8) × (last < workers)
   pub room : length counts ≡ 8
-  pub counts_are : (lane : ℕ) → lane < workers → slice_index counts lane ≡ settled_count (storage_at me) lane
+  pub counts_are : (lane : ℕ) → lane < workers
+      → slice_index counts lane ≡ settled_count (storage_at me).history (storage_at me).byes lane
   pub open_is : open_now ≡ is_some (open_in (storage_at me).holding)
   pub holds : (lane : ℕ) (message : LaneMessage) → (storage_at me).holding ≡ Some (lane, message)
-      → (lane < workers) × (settled_count (storage_at me) lane + 1 < 2 ^ 64)
+      → (lane < workers) × (settled_count (storage_at me).history (storage_at me).byes lane + 1 < 2 ^ 64)
       × ((posted : Posted) × (message ≡ Ask posted))
-
--- what storage knows once it has made `made` workers
-abbrev pub made_storage_state : Terms → ℕ → StorageState
-made_storage_state terms made = record {
-  terms = terms;
-  made = made;
-  taken = [];
-  history = [];
-  told = [];
-  byes = [];
-  holding = None;
-  looks = [];
-}

@@ -1,5 +1,6 @@
 -- What each step tells, and what it makes of a view.
-use Rattle.std.specs.Prelude.{◌≡◌, ◌⊎◌, ℕ, suc, ◌+◌, ◌*◌, ◌<◌, ◌≤◌, List, [], ◌∷◌, ◌++◌, length, take, Option, Some, None, true}
+use Rattle.std.specs.Prelude.{◌≡◌, ◌⊎◌, ℕ, suc, ◌+◌, ◌*◌, ◌<◌, ◌≤◌, List, [], ◌∷◌, ◌++◌, length, Option, Some, None, true}
+use Rattle.std.specs.Option.{option_to_list}
 use mathlib.Core.Option.{some}
 use lib.ListN.{get_elem?}
 use Rattle.atomic_table.specs.Table.{Step, rest}
@@ -14,7 +15,8 @@ use Rattle.exchange.specs.declared.rule.LaneView.{LaneView}
 use Rattle.exchange.specs.declared.rule.LaneView.TheVariants.{Nobody, Worker, Storage, Comparing, Told, TwoTold, Checking}
 use Rattle.proto.specs.Counts.{times}
 use Rattle.exchange.specs.Beginnings.{StartsWith, AreOfOne}
-use Rattle.proto.specs.History.{worker_share, asked_posted, LegalBy}
+use Rattle.proto.specs.History.{worker_share, asked_posted}
+use Rattle.exchange.specs.Ends.{IsDoneHistory, settled_count}
 use Rattle.exchange.specs.Lanes.{SeatState, known_by, slots_of, lane_slot, first_worker_state, Agree}
 
 -- what a step tells: the step, the seat before, the word that was found, and the seat after
@@ -42,21 +44,24 @@ abbrev pub with_bye : WorkerState → WorkerState
 with_bye worker = record worker { said_bye = true; slot_held = 0 }
 
 -- told of this history by the done word
-abbrev pub learnt_of : WorkerState → List Answered → ℕ → WorkerState
-learnt_of worker told done = record worker { seen = told; loads = worker.loads ++ done ∷ [] }
+abbrev pub with_history : WorkerState → ℕ → List Answered → WorkerState
+with_history worker done told = record worker { seen = told; loads = worker.loads ++ done ∷ [] }
 
--- told of this history by the done word, and holding the slot of the answer, which is the next message's slot too
-abbrev pub took_out : WorkerState → List Answered → ℕ → Answered → WorkerState
-took_out worker told done answer = record worker {
-  seen = told;
-  loads = worker.loads ++ done ∷ [];
+-- the same, with an answer of it
+abbrev pub with_history_and_answer : WorkerState → ℕ → List Answered → Answered → WorkerState
+with_history_and_answer worker done told answer = record (with_history worker done told) {
   back = worker.back ++ answer ∷ [];
+}
+
+-- the same, and holding the slot of the answer, which is a later message's slot too
+abbrev pub with_slot_taken : WorkerState → ℕ → List Answered → Answered → WorkerState
+with_slot_taken worker done told answer = record (with_history_and_answer worker done told answer) {
   slot_held = suc (length worker.back + WINDOW);
 }
 
 -- holding the slot of the next answer of the history that it saw, which is a later message's slot too
-abbrev pub took_seen : WorkerState → Answered → WorkerState
-took_seen worker answer = record worker {
+abbrev pub with_seen_slot_taken : WorkerState → Answered → WorkerState
+with_seen_slot_taken worker answer = record worker {
   back = worker.back ++ answer ∷ [];
   slot_held = suc (length worker.back + WINDOW);
 }
@@ -85,7 +90,7 @@ abbrev pub seen_taken : StepTells
 seen_taken step before found after = (worker : WorkerState) (answer : Answered) → known_by before ≡ Worker worker
     → get_elem? (worker_share worker.seen worker.worker) (length worker.back) ≡ some answer
     → after ≡ (
-      Worker (took_seen worker answer),
+      Worker (with_seen_slot_taken worker answer),
       (lane_slot worker.worker (length worker.back), Some (Answer answer)) ∷ slots_of before,
     )
 
@@ -94,15 +99,10 @@ abbrev pub bye_posted : StepTells
 bye_posted step before found after = (worker : WorkerState) (slot : ℕ)
     → before ≡ (Worker worker, (slot, Some Bye) ∷ []) → after ≡ (Worker (with_bye worker), [])
 
--- what a worker learns at the load of done: a legal history that begins with what it had seen, in which its requests
--- are the first `done` of those sent
-pub record Learnt (worker : WorkerState) (done : ℕ) (told : List Answered) : Type 0 where
-  pub legal : LegalBy worker.terms told
-  pub later : StartsWith told worker.seen
-  pub asks : asked_posted (worker_share told worker.worker) ≡ take done worker.sent
-  pub counted : (done ≡ length (worker_share told worker.worker))
-      ⊎ ((worker.said_bye ≡ true) × (done ≡ length worker.sent + 1))
-  pub back : StartsWith (worker_share told worker.worker) worker.back
+-- what a worker learns at the load of done
+abbrev pub Learnt : WorkerState → ℕ → List Answered → Type 0
+Learnt worker done told =
+    IsDoneHistory worker.terms worker.worker worker.sent worker.said_bye worker.back worker.seen told done
 
 -- at the load of done: the next answer's slot is taken, or all answers of the history were taken before
 abbrev pub DoneTells : WorkerState → ℕ → List (ℕ × Option LaneMessage) → SeatState → List Answered → Type 0
@@ -110,11 +110,11 @@ DoneTells worker done slots after told = Learnt worker done told
     × (length worker.back < done → length worker.back < length worker.sent
     → (answer : Answered) × (get_elem? (worker_share told worker.worker) (length worker.back) ≡ some answer)
     × (after ≡ (
-      Worker (took_out worker told done answer),
+      Worker (with_slot_taken worker done told answer),
       (lane_slot worker.worker (length worker.back), Some (Answer answer)) ∷ slots,
     )))
     × ((done ≤ length worker.back) ⊎ (length worker.sent ≤ length worker.back)
-    → (worker.back ≡ worker_share told worker.worker) × (after ≡ (Worker (learnt_of worker told done), slots)))
+    → (worker.back ≡ worker_share told worker.worker) × (after ≡ (Worker (with_history worker done told), slots)))
 
 -- the load of done
 abbrev pub done_loaded : StepTells
@@ -126,26 +126,22 @@ abbrev pub slot_returned : StepTells
 slot_returned step before found after = (worker : WorkerState) → known_by before ≡ Worker worker
     → after ≡ (Worker (holding_slot worker 0), rest (slots_of before))
 
--- how many messages of this lane storage has settled
-abbrev pub settled_count : StorageState → ℕ → ℕ
-settled_count storage lane = length (worker_share storage.history lane) + times lane storage.byes
-
 -- with a look at this lane, whose posted word is the count
 abbrev pub looked_at : StorageState → ℕ → ℕ → StorageState
 looked_at storage lane count = record storage { looks = storage.looks ++ (lane, count) ∷ [] }
 
--- the request that a message of this worker has
-abbrev pub requests_in_message : ℕ → LaneMessage → List (ℕ × Posted)
-requests_in_message lane (Ask request) = (lane, request) ∷ []
-requests_in_message lane Bye = []
-requests_in_message lane (Answer answer) = []
+-- the request that a message of this worker is
+abbrev pub lane_request : ℕ → LaneMessage → Option (ℕ × Posted)
+lane_request lane (Ask request) = Some (lane, request)
+lane_request lane Bye = None
+lane_request lane (Answer answer) = None
 
 -- with the message taken from this lane
 abbrev pub with_message_held : StorageState → ℕ → LaneMessage → StorageState
 with_message_held storage lane message = record storage {
   holding = Some (lane, message);
   taken = storage.taken
-      ++ requests_in_message lane message;
+      ++ option_to_list (lane_request lane message);
 }
 
 -- with an answer to what is held
@@ -171,26 +167,20 @@ abbrev pub SeenTells : StorageState → ℕ → List (ℕ × Option LaneMessage)
 SeenTells storage lane slots after = (message : LaneMessage) × IsSent storage lane message
     × (after ≡ (
       Storage (with_message_held storage lane message),
-      (lane_slot lane (settled_count storage lane), Some message) ∷ slots,
+      (lane_slot lane (settled_count storage.history storage.byes lane), Some message) ∷ slots,
     ))
-
--- at the load of posted: no message beyond those settled, or the next message's slot is taken
-abbrev pub PostedTells : StorageState → ℕ → ℕ → List (ℕ × Option LaneMessage) → SeatState → Type 0
-PostedTells storage lane count slots after =
-    (count ≤ settled_count storage lane → after ≡ (Storage (looked_at storage lane count), slots))
-    × (settled_count storage lane < count → SeenTells (looked_at storage lane count) lane slots after)
 
 -- the load of the posted word of a lane
 abbrev pub posted_loaded : StepTells
 posted_loaded step before count after = (storage : StorageState) (lane : ℕ) → known_by before ≡ Storage storage
-    → step.word ≡ 16 * lane + 8 → PostedTells storage lane count (slots_of before) after
+    → step.word ≡ 16 * lane + 8 → after ≡ (Storage (looked_at storage lane count), slots_of before)
 
--- a load, where an earlier look at the lane named a message that isn't settled
+-- a load of done, if a look at the lane named a message that isn't settled: the next message's slot is taken
 abbrev pub seen_opened : StepTells
 seen_opened step before found after = (storage : StorageState) (lane place count : ℕ)
     → known_by before ≡ Storage storage → step.word ≡ 16 * lane + 16
     → get_elem? storage.looks place ≡ some (lane, count)
-    → settled_count storage lane < count → SeenTells storage lane (slots_of before) after
+    → settled_count storage.history storage.byes lane < count → SeenTells storage lane (slots_of before) after
 
 -- a load of done, with an answer
 abbrev pub tells_answer : StepTells

@@ -9,11 +9,12 @@ ghost use Rattle.exchange.specs.Beginnings.{posted_of};
 ghost use mathlib.Core.Option.{some};
 ghost use lib.ListN.{get_elem?};
 ghost use Rattle.proto.specs.History.{LegalBy, worker_share};
+ghost use Rattle.exchange.specs.Ends.{settled_count};
 ghost use Rattle.exchange.specs.Lanes.{lane_slot};
-ghost use Rattle.exchange.specs.Steps.{put_on, holding_slot, took_seen, with_bye, with_held_answered};
-ghost use Rattle.exchange.specs.Steps.{bye_settled, with_message_held, settled_count, IsSent};
+ghost use Rattle.exchange.specs.Steps.{put_on, holding_slot, with_seen_slot_taken, with_bye, with_held_answered};
+ghost use Rattle.exchange.specs.Steps.{bye_settled, looked_at, with_message_held, IsSent};
 ghost use Rattle.exchange.specs.Seats.{worker_at, storage_at, IsLane, SameSeat, MayPost, MayTake, HasSeen};
-ghost use Rattle.exchange.specs.Seats.{MayLook, HasSeenMessage, StateTakes, Looks, HoldsTaken, HoldsSlot, exchanged_to};
+ghost use Rattle.exchange.specs.Seats.{HasSeenMessage, StateTakes, HoldsTaken, HoldsSlot, exchanged_to};
 
 use crate::messages::LaneMessage;
 use crate::rule::{
@@ -116,7 +117,7 @@ pub(crate) fn take_seen_answer(
     ensures table { SameSeat seat.old seat.new }
     ensures next { get_elem? (worker_share (worker_at seat.old.me).seen (worker_at seat.old.me).worker)
         (length (worker_at seat.old.me).back) ≡ some result }
-    ensures taken { seat.new.me ≡ (Worker (holding_slot (took_seen (worker_at seat.old.me) result) 0), []) }
+    ensures taken { seat.new.me ≡ (Worker (holding_slot (with_seen_slot_taken (worker_at seat.old.me) result) 0), []) }
 {
     lane_table
         .shared
@@ -128,33 +129,21 @@ pub(crate) fn take_seen_answer(
     answered
 }
 
-/// Loads posted, and takes the next message out of its slot, if there is one. The number is the word.
-pub(crate) fn take_message(
-    lane_table: &LaneTable,
-    seat: &mut LaneSeat,
-    lane: usize,
-    count: u64,
-) -> (u64, Option<LaneMessage>)
+/// Loads posted, which names the messages of the lane.
+pub(crate) fn load_posted(lane_table: &LaneTable, seat: &mut LaneSeat, lane: usize) -> u64
     requires table { (seat.old.table_id ≡ lane_table.now.shared.table_id) × IsLane seat.old.table_id lane
         × (lane < lane_table.now.shared.key.workers) }
-    requires idle { MayLook seat.old.me lane count }
+    requires idle { seat.old.me ≡ (Storage (storage_at seat.old.me), []) }
     ensures table { SameSeat seat.old seat.new }
-    ensures looked { Looks (storage_at seat.old.me) lane result.0 result.1 seat.new.me }
+    ensures looked { seat.new.me ≡ (Storage (looked_at (storage_at seat.old.me) lane result), []) }
 {
-    let posted = lane_table
+    lane_table
         .shared
-        .load::<LoadsPosted>(seat, LANE * lane + POSTED);
-    if posted <= count {
-        return (posted, None);
-    }
-    let slot = slot_at(lane, count);
-    let message = lane_table.shared.exchange(seat, slot, None).unwrap();
-    (posted, Some(message))
+        .load::<LoadsPosted>(seat, LANE * lane + POSTED)
 }
 
-/// Takes the next message, which an earlier look named, out of its slot. It loads done, which no other thread
-/// writes.
-pub(crate) fn take_seen_message(
+/// Takes the next message, which a look named, out of its slot. It loads done, which no other thread writes.
+pub(crate) fn take_message(
     lane_table: &LaneTable,
     seat: &mut LaneSeat,
     lane: usize,
@@ -167,7 +156,7 @@ pub(crate) fn take_seen_message(
     ensures sent { IsSent (storage_at seat.old.me) lane result }
     ensures opened { seat.new.me ≡ (
       Storage (with_message_held (storage_at seat.old.me) lane result),
-      (lane_slot lane (settled_count (storage_at seat.old.me) lane), None) ∷ [],
+      (lane_slot lane (settled_count (storage_at seat.old.me).history (storage_at seat.old.me).byes lane), None) ∷ [],
     ) }
 {
     lane_table

@@ -2,7 +2,7 @@
 
 use crate::messages::{LaneMessage, Taken};
 use crate::rule::{Compares, JoinsWorker, LaneSeat, LaneTable, TellsDone};
-use crate::steps::{DONE, LANE, put_answer, settle_bye, take_message, take_seen_message};
+use crate::steps::{DONE, LANE, load_posted, put_answer, settle_bye, take_message};
 use crate::worker::WorkerEnd;
 use proto::{Answered, AskedClock, Clock, MAX_WORKERS};
 use std::alloc::Global;
@@ -61,7 +61,8 @@ impl StorageBatch {
     ghost use Rattle.exchange.specs.Beginnings.{posted_of};
     ghost use Rattle.exchange.specs.Ends.{IsCount, new_storage_view, LooksAt, FindsNone, FindsOne, LookedOnce};
     ghost use Rattle.exchange.specs.Ends.{SeesNext, with_answer, IsUntold, AreCompared};
-    ghost use Rattle.exchange.specs.Seats.{IsTableSized, made_storage_state};
+    ghost use Rattle.exchange.specs.Lanes.{storage_state_with};
+    ghost use Rattle.exchange.specs.Seats.{IsTableSized};
 
     pub(crate) fn over(
         lane_table: Arc<LaneTable, Global>,
@@ -71,8 +72,8 @@ impl StorageBatch {
         requires table { (seat.table_id ≡ (arc_value lane_table).shared.table_id)
             × IsTableSized seat.table_id workers × ((arc_value lane_table).shared.key.workers ≡ workers)
             × (0 < workers) × (workers ≤ 8) }
-        requires fresh { (terms : Terms) × (seat.me ≡ (Storage (made_storage_state terms workers), [])) }
-        ensures { (terms : Terms) → seat.me ≡ (Storage (made_storage_state terms workers), [])
+        requires fresh { (terms : Terms) × (seat.me ≡ (Storage (storage_state_with terms workers), [])) }
+        ensures { (terms : Terms) → seat.me ≡ (Storage (storage_state_with terms workers), [])
             → result ≡ record { end = new_storage_view seat.table_id terms workers; told = [] } }
     {
         StorageBatch {
@@ -166,15 +167,25 @@ impl StorageBatch {
         ensures looks { LooksAt self.old.end lane result self.new.end }
         ensures told { self.new.told ≡ self.old.told }
     {
-        // This read is for the proof: with it is known that there are 8 workers at most, and so that the lane is an index.
-        let _workers = self.workers;
-        let count = self.counts[lane];
-        let (posted, taken) = take_message(&self.lane_table, &mut self.seat, lane, count);
+        let posted = load_posted(&self.lane_table, &mut self.seat, lane);
         self.looked_lane = lane;
         self.named = posted;
-        match taken {
-            None => None,
-            Some(LaneMessage::Ask(posted)) => {
+        self.take_named()
+    }
+
+    /// Takes the next message of the lane that was looked at last, if the look named it.
+    fn take_named(&mut self) -> Option<Taken>
+        requires { self.old.end.open_request ≡ None }
+        ensures next { SeesNext self.old.end result self.new.end }
+        ensures told { self.new.told ≡ self.old.told }
+    {
+        let lane = self.looked_lane;
+        let count = self.counts[lane];
+        if self.named <= count {
+            return None;
+        }
+        match take_message(&self.lane_table, &mut self.seat, lane, count) {
+            LaneMessage::Ask(posted) => {
                 self.last = lane;
                 self.open_now = true;
                 Some(Taken::Asked {
@@ -182,13 +193,13 @@ impl StorageBatch {
                     posted,
                 })
             }
-            Some(LaneMessage::Bye) => {
+            LaneMessage::Bye => {
                 settle_bye(&self.lane_table, &mut self.seat, lane, count);
                 self.last = lane;
                 self.counts[lane] = count + 1;
                 Some(Taken::Bye { worker: lane })
             }
-            Some(LaneMessage::Answer(_)) => unreachable!(),
+            LaneMessage::Answer(_) => unreachable!(),
         }
     }
 
@@ -222,28 +233,7 @@ impl StorageBatch {
         ensures next { SeesNext self.old.end result self.new.end }
         ensures told { self.new.told ≡ self.old.told }
     {
-        let lane = self.looked_lane;
-        let count = self.counts[lane];
-        if self.named <= count {
-            return None;
-        }
-        match take_seen_message(&self.lane_table, &mut self.seat, lane, count) {
-            LaneMessage::Ask(posted) => {
-                self.last = lane;
-                self.open_now = true;
-                Some(Taken::Asked {
-                    worker: lane,
-                    posted,
-                })
-            }
-            LaneMessage::Bye => {
-                settle_bye(&self.lane_table, &mut self.seat, lane, count);
-                self.last = lane;
-                self.counts[lane] = count + 1;
-                Some(Taken::Bye { worker: lane })
-            }
-            LaneMessage::Answer(_) => unreachable!(),
-        }
+        self.take_named()
     }
 
     /// The lane that was looked at last, the number of its next message that isn't settled, counted from 0, and how many

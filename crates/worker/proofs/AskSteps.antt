@@ -9,9 +9,9 @@ use Rattle.proto.proofs.Options.{some_is}
 use Rattle.proto.specs.declared.no_memory.NoMemory.{NoMemory}
 use Rattle.proto.specs.declared.history.Posted.{Posted}
 use Rattle.proto.specs.declared.history.Answered.{Answered}
-use Rattle.proto.specs.History.{asked_posted, worker_share}
+use Rattle.proto.specs.History.{asked_posted}
 use Rattle.proto.specs.Reading.{asks}
-use Rattle.exchange.specs.Ends.{WorkerView, WorkerBatchView}
+use Rattle.exchange.specs.Ends.{WorkerView, WorkerBatchView, WasTold}
 use Rattle.session_book.specs.declared.causes.Unsettled.{Unsettled}
 use Rattle.session_book.specs.Session.{SessionState, ReadsMessages}
 use Rattle.session_book.specs.Book.{BookState, session_of, NextAsk, held_of, given_in, unsettled_of as unsettled_at}
@@ -21,8 +21,8 @@ use Rattle.worker.specs.Sessions.{RunView, facts, asked_by, AreFactsConsistent}
 use Rattle.worker_port.specs.PortFacts.{port_facts}
 use Rattle.worker.specs.EndCauses.{piece_of}
 use Rattle.worker.specs.Workers.{once_flushed, end_of, posted_by, unsettled_post, IsNumbered, IsSteady, IsTraceKnown}
-use Rattle.worker.specs.Workers.{run_view, IsWorkerServing, WasToldOfHistory}
-use Rattle.exchange.proofs.Lists.{starts_longer}
+use Rattle.worker.specs.Workers.{run_view, IsWorkerServing}
+use Rattle.exchange.proofs.Fields.{told_longer}
 use Rattle.worker.proofs.Facts.{asked_here, asked_elsewhere}
 use Rattle.worker.proofs.SessionSteps.{runs, runs_on, served_read}
 use Rattle.worker.proofs.RunViews.{facts_equal, change_at, at_other, at_same}
@@ -249,12 +249,7 @@ posted_goes_on told old batch request taken sent h =
         unsettled = h.steady.unsettled ∙ (λ i. map unsettled_post (drop (length (sym back i)) (sym all i)));
         back = ap asked_posted back ∙ h.steady.back ∙ sym (take-append-le (length w.back) w.sent (option_to_list old.request) le)
             ∙ (λ i. take (length (sym back i)) ((sym sent i).sent));
-        told = subst WasToldOfHistory (sym sent) (record {
-          legal = h.steady.told.legal;
-          asked = starts_longer w.sent (asked_posted (worker_share w.seen w.worker))
-              (option_to_list old.request) h.steady.told.asked;
-          back = h.steady.told.back;
-        });
+        told = subst WasTold (sym sent) (told_longer (option_to_list old.request) h.steady.told);
       };
       dialect = refl;
       strangers = h.strangers;

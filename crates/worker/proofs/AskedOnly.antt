@@ -1,15 +1,15 @@
 -- What a worker has sent for a session are the first of the requests that the bytes spell which came of it.
-use Rattle.std.proofs.Common.{◌≡◌, ℕ, true, false, Bool, List, [], ◌++◌, refl, sym, ap, subst, ◌∙◌, Option, Some, None}
+use Rattle.std.proofs.Common.{◌≡◌, ℕ, true, false, Bool, List, [], ◌++◌, sym, ap, subst, ◌∙◌, Option, Some, None}
 use Rattle.proto.specs.declared.message.Message.{Message}
 use Rattle.proto.specs.declared.history.Posted.{Posted}
 use Rattle.proto.specs.Reading.{Reads, asks}
 use Rattle.proto.proofs.AskLemmas.{asks-append}
 use Rattle.exchange.specs.Beginnings.{StartsWith}
-use Rattle.exchange.specs.Ends.{WorkerView, WorkerBatchView}
+use Rattle.exchange.specs.Ends.{WorkerView}
 use Rattle.exchange.proofs.Lists.{starts_trans, starts_longer, starts_self}
 use Rattle.session_book.specs.declared.causes.EndCause.{EndCause}
 use Rattle.session_book.specs.declared.causes.EndCause.TheVariants as causes
-use Rattle.worker_port.specs.Ports.{PortTrace, fed}
+use Rattle.worker_port.specs.Ports.{PortTrace}
 use Rattle.worker_port.specs.Giving.{HasAskedOnly, sent_for}
 use Rattle.worker.specs.declared.worker.WorkerState.{WorkerState}
 use Rattle.worker.specs.Sessions.{SessionFacts, facts, asked_by, AreFactsConsistent, IsKnownAs, BeginsWith}

@@ -1,5 +1,5 @@
 -- What a worker offers to a session begins the answers to its messages.
-use Rattle.std.proofs.Common.{◌≡◌, ◌==◌, ℕ, List, [], ◌∷◌, ◌++◌, map, refl, sym, ap, subst, ◌∙◌, Option, Some}
+use Rattle.std.proofs.Common.{◌≡◌, ◌==◌, ℕ, List, [], ◌∷◌, ◌++◌, map, refl, sym, ap, subst, ◌∙◌, Option, Some, length}
 use Rattle.std.specs.Option.{option_to_list}
 use Rattle.std.specs.List.{filter}
 use Rattle.std.proofs.lemmas.List.{map-append}
@@ -15,14 +15,14 @@ use Rattle.proto.proofs.AskLemmas.{asks-append}
 use Rattle.proto.proofs.HistoryLemmas.{all_read}
 use Rattle.proto.proofs.Options.{some_is}
 use Rattle.exchange.specs.Beginnings.{StartsWith}
-use Rattle.exchange.specs.Ends.{WorkerView}
-use Rattle.exchange.proofs.Lists.{starts_trans, starts_longer}
+use Rattle.exchange.specs.Ends.{WorkerView, WasTold}
+use Rattle.exchange.proofs.Lists.{starts_trans, starts_longer, starts_take}
 use Rattle.session_book.specs.Session.{SessionState}
 use Rattle.session_book.specs.Book.{session_of}
 use Rattle.worker_port.specs.Ports.{fed, given}
 use Rattle.worker_port.specs.Giving.{MayBeSent}
 use Rattle.worker.specs.Sessions.{RunView, facts, asked_by, had_by, AreFactsConsistent, IsSessionServed}
-use Rattle.worker.specs.Workers.{WasToldOfHistory, posted_by}
+use Rattle.worker.specs.Workers.{posted_by}
 use Rattle.worker.proofs.SessionSteps.{runs, begins}
 use Rattle.worker.proofs.Answering.{said_more, said_further, begins_on}
 use Rattle.worker.proofs.Readings.{first_of_reading}
@@ -52,7 +52,7 @@ had_first all first s h = (
 -- the output of an open session may be given
 pub may_be_given : (v : RunView) (end : WorkerView) (request : Option Posted) (t : ℕ) (s : SessionState)
     → AreFactsConsistent (facts v t) → session_of v.book t ≡ Some s → v.posted ≡ posted_by end request
-    → v.back ≡ end.back → WasToldOfHistory end
+    → v.back ≡ end.back → WasTold end
     → MayBeSent end.terms v.dialect end.worker end.seen t (fed t v.events) (given t v.events) s.out
 may_be_given v end request t s h open_is posted back told =
     let run = runs (facts v t) s h open_is in
@@ -71,7 +71,8 @@ may_be_given v end request t s h open_is posted back told =
     (subst (λ l. StartsWith (worker_share hist end.worker) l) (sym back) told.back) in
     let sent : StartsWith v.posted (asked_posted (worker_share hist end.worker)) =
     subst (λ l. StartsWith l (asked_posted (worker_share hist end.worker))) (sym posted)
-    (starts_longer end.sent (asked_posted (worker_share hist end.worker)) (option_to_list request) told.asked) in
+    (starts_longer end.sent (asked_posted (worker_share hist end.worker)) (option_to_list request)
+    (subst (λ l. StartsWith end.sent l) (sym told.asked) (starts_take end.sent (length (worker_share hist end.worker))))) in
     let now : StartsWith (said ms (had_by v.back t)) (given t v.events ++ s.out) =
     ([], sym served.has_said.whole ∙ sym_nil (given t v.events ++ s.out)) in
     record {

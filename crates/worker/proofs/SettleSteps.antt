@@ -12,7 +12,7 @@ use Rattle.proto.specs.declared.history.Answered.{Answered}
 use Rattle.proto.proofs.Options.{some_is}
 use Rattle.proto.specs.History.{asked_posted}
 use Rattle.proto.specs.Reading.{asks}
-use Rattle.exchange.specs.Ends.{WorkerView, WorkerBatchView}
+use Rattle.exchange.specs.Ends.{WorkerView, WorkerBatchView, WasTold}
 use Rattle.exchange.specs.Beginnings.{posted_of}
 use Rattle.exchange.proofs.Lists.{take_more}
 use Rattle.session_book.specs.declared.causes.EndCause.{EndCause}
@@ -29,7 +29,7 @@ use Rattle.worker_port.specs.Ports.{PortTrace, then_told, is_in}
 use Rattle.worker.specs.EndCauses.{CausesRiseFrom, piece_of}
 use Rattle.worker.specs.Workers.{once_flushed, end_of, posted_by, unsettled_post, IsNumbered}
 use Rattle.worker.specs.Workers.{IsSteady, IsTraceKnown, run_view, IsWorkerServing}
-use Rattle.worker.specs.Workers.{TakesNone, TakesBack, Shuts, WasToldOfHistory}
+use Rattle.worker.specs.Workers.{TakesNone, TakesBack, Shuts}
 use Rattle.worker.proofs.Facts.{had_here, had_elsewhere}
 use Rattle.worker.proofs.SessionSteps.{runs, runs_on, Stays, served_settled, closed_starved, dropped}
 use Rattle.worker.proofs.EndCauseLemmas.{rises_with, length-with}
@@ -303,7 +303,7 @@ flushed_goes_on told old batch same h = none_taken_goes_on told old batch (recor
     exchange = ap (λ (w : WorkerView). w.exchange) same;
     worker = ap (λ (w : WorkerView). w.worker) same;
   };
-  told = λ t. subst WasToldOfHistory (sym same) t;
+  told = λ t. subst WasTold (sym same) t;
   later = later_is (end_of old) (once_flushed batch) same;
 }) h
 

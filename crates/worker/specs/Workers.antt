@@ -7,8 +7,8 @@ use mathlib.Core.Option.{some}
 use lib.ListN.{get_elem?}
 use Rattle.proto.specs.declared.history.Posted.{Posted}
 use Rattle.proto.specs.declared.history.Answered.{Answered}
-use Rattle.proto.specs.History.{LegalBy, worker_share, asked_posted}
-use Rattle.exchange.specs.Ends.{WorkerView, WorkerBatchView, with_put_sent}
+use Rattle.proto.specs.History.{asked_posted}
+use Rattle.exchange.specs.Ends.{WorkerView, WorkerBatchView, WasTold, with_put_sent}
 use Rattle.exchange.specs.Beginnings.{StartsWith, posted_of}
 use Rattle.session_book.specs.declared.causes.EndCause.{EndCause}
 use Rattle.session_book.specs.declared.causes.Unsettled.{Unsettled}
@@ -42,13 +42,6 @@ IsNumbered end (Some p) = p.number ≡ length end.sent + 1
 abbrev pub unsettled_post : Posted → Unsettled
 unsettled_post p = record { number = p.number; session = p.session }
 
--- The history that the end was told of last is legal, its requests are the first of those that it sent, and what came back are
--- the first of its entries there.
-pub record WasToldOfHistory (end : WorkerView) : Type 0 where
-  pub legal : LegalBy end.terms end.seen
-  pub asked : StartsWith end.sent (asked_posted (worker_share end.seen end.worker))
-  pub back : StartsWith (worker_share end.seen end.worker) end.back
-
 -- The end and the book agree: the book's unsettled requests are those posted that didn't come back.
 pub record IsSteady (end : WorkerView) (request : Option Posted) (book : BookState) : Type 0 where
   pub running : end.said_bye ≡ false
@@ -56,7 +49,7 @@ pub record IsSteady (end : WorkerView) (request : Option Posted) (book : BookSta
   pub numbered : IsNumbered end request
   pub unsettled : book.unsettled ≡ map unsettled_post (drop (length end.back) (posted_by end request))
   pub back : asked_posted end.back ≡ take (length end.back) end.sent
-  pub told : WasToldOfHistory end
+  pub told : WasTold end
 
 -- All that is known where the port tells its list.
 pub record IsTraceKnown (v : RunView) (unopened : ℕ) (ended : Bool) : Type 0 where
@@ -114,7 +107,7 @@ pub record TakesNone (old new : WorkerView) : Type 0 where
   pub back : new.back ≡ old.back
   pub running : new.said_bye ≡ old.said_bye
   pub same : IsSameEnd old new
-  pub told : WasToldOfHistory old → WasToldOfHistory new
+  pub told : WasTold old → WasTold new
   pub later : IsLaterEnd old new
 
 -- the end took back the next answer, that of the first request that hadn't come back
@@ -124,7 +117,7 @@ pub record TakesBack (old new : WorkerView) (a : Answered) : Type 0 where
   pub running : new.said_bye ≡ old.said_bye
   pub back : new.back ≡ old.back ++ a ∷ []
   pub same : IsSameEnd old new
-  pub told : WasToldOfHistory old → WasToldOfHistory new
+  pub told : WasTold old → WasTold new
   pub later : IsLaterEnd old new
 
 -- the worker goes on: over the same port, later, at the same end, and in the same dialect

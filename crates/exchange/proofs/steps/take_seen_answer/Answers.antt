@@ -9,7 +9,7 @@ use Rattle.exchange.specs.declared.rule.WorkerState.{WorkerState}
 use Rattle.exchange.specs.declared.rule.LaneView.TheVariants.{Worker}
 use Rattle.exchange.specs.Lanes.{SeatState, lane_slot}
 use Rattle.exchange.specs.Seats.{worker_state_in}
-use Rattle.exchange.specs.Steps.{holding_slot, took_seen}
+use Rattle.exchange.specs.Steps.{holding_slot, with_seen_slot_taken}
 use Rattle.exchange.proofs.Lists.{at_some}
 use Rattle.exchange.proofs.WorkerSteps.{takes_seen}
 use Rattle.exchange.proofs.Known.{exchanged, returns_as, in_front, alone, next_round, same_answer}
@@ -35,7 +35,7 @@ load-requires-2 c = let h = c.requires.seen in let d : WorkerState = worker_stat
     let told = c.load.ensures.2 d next.0 (ap (λ (m : SeatState). m.0) h.0) next.1 in
     let slot : lane_slot c.args.worker c.args.back ≡ lane_slot d.worker (length d.back) =
     λ j. lane_slot (sym h.1 j) (sym h.2 j) in
-    let d' : WorkerState = took_seen d next.0 in
+    let d' : WorkerState = with_seen_slot_taken d next.0 in
     let me = exchanged _ _ (Worker d') _ _ (Some (Answer next.0)) None c.take_out_answer-answered.ensures.empty
     (alone _ _ _ _ _ told (ap (λ (m : SeatState). m.1) h.0)) slot in (
       search rules,
@@ -58,9 +58,9 @@ returns-clause-taken c = let h = c.requires.seen in let d : WorkerState = worker
     let told = c.load.ensures.2 d next.0 (ap (λ (m : SeatState). m.0) h.0) next.1 in
     let slot : lane_slot c.args.worker c.args.back ≡ lane_slot d.worker (length d.back) =
     λ j. lane_slot (sym h.1 j) (sym h.2 j) in
-    let d' : WorkerState = took_seen d next.0 in
+    let d' : WorkerState = with_seen_slot_taken d next.0 in
     let me = exchanged _ _ (Worker d') _ _ (Some (Answer next.0)) None c.take_out_answer-answered.ensures.empty
     (alone _ _ _ _ _ told (ap (λ (m : SeatState). m.1) h.0)) slot in
     let same = same_answer _ _ _ _ _ (in_front _ _ _ _ _ _ told slot) c.take_out_answer-answered.ensures.taken in
     c.load-2.ensures.2 d' (ap (λ (m : SeatState). m.0) me)
-    ∙ (λ j. (Worker (holding_slot (took_seen d (same j)) 0), rest (me j).1))
+    ∙ (λ j. (Worker (holding_slot (with_seen_slot_taken d (same j)) 0), rest (me j).1))

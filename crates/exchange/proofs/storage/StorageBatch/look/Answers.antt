@@ -1,28 +1,25 @@
-use Rattle.std.proofs.Common.{rules, ◌<◌, sym, ap, ◌∙◌, subst}
+use Rattle.std.proofs.Common.{ap, ◌∙◌, subst}
+use Rattle.atomic_table.specs.Seated.{TableId}
 use Rattle.exchange.specs.declared.rule.StorageState.{StorageState}
 use Rattle.exchange.specs.declared.rule.LaneView.TheVariants.{Storage}
-use Rattle.exchange.specs.Ends.{StorageBatchView}
+use Rattle.exchange.specs.Ends.{StorageBatchView, LooksAt, SeesNext}
 use Rattle.exchange.specs.Lanes.{SeatState}
-use Rattle.exchange.specs.Seats.{storage_state_in, carried_by}
-use Rattle.exchange.proofs.Fields.{idle_is}
+use Rattle.exchange.specs.Seats.{storage_state_in, storage_view, carried_by}
+use Rattle.exchange.proofs.Fields.{idle_is, by_look}
 use Rattle.exchange.proofs.storage.StorageBatch.look.Goals as goal
 
-pub take_message-posted-requires-clause-idle : goal.take_message-posted-requires-clause-idle
-take_message-posted-requires-clause-idle c = let d : StorageState = storage_state_in c.self.inside.seat.me.0 in
+pub load_posted-posted-requires-clause-idle : goal.load_posted-posted-requires-clause-idle
+load_posted-posted-requires-clause-idle c = let d : StorageState = storage_state_in c.self.inside.seat.me.0 in
     let inv = c.self.invariant.3 in
     let idle = idle_is d.holding (λ w x e. (inv.holds w x e).2)
-    (ap (λ (z : StorageBatchView). z.end.open_request) c.self.view_is ∙ c.requires.0) in (
-      inv.seated ∙ (λ j. let z : SeatState = (Storage d, carried_by d (idle j)) in z),
-      sym (inv.counts_are c.args.lane (subst (λ (z : StorageBatchView). c.args.lane < z.end.workers)
-          (sym c.self.view_is) c.requires.1)),
-      idle,
-    )
+    (ap (λ (z : StorageBatchView). z.end.open_request) c.self.view_is ∙ c.requires.0) in
+    inv.seated ∙ (λ j. let z : SeatState = (Storage d, carried_by d (idle j)) in z)
 
-pub returns-in-None-clause-looks : goal.returns-in-None-clause-looks
-returns-in-None-clause-looks c = (c.take_message-posted.result.0, (search rules, search rules))
-
-pub returns-in-Some-Ask-clause-looks : goal.returns-in-Some-Ask-clause-looks
-returns-in-Some-Ask-clause-looks c = (c.take_message-posted.result.0, (search rules, search rules, search rules))
-
-pub returns-in-Some-Bye-clause-looks : goal.returns-in-Some-Bye-clause-looks
-returns-in-Some-Bye-clause-looks c = (c.take_message-posted.result.0, (search rules, search rules, search rules))
+pub returns-clause-looks : goal.returns-clause-looks
+returns-clause-looks c = let a = c.self.inside in let did = c.load_posted-posted.ensures in
+    let new = c.take_named.new.self.end in
+    subst (λ (z : StorageBatchView). LooksAt z.end c.args.lane c.take_named.result new) c.self.view_is
+    (by_look (storage_view a.seat.table_id a.workers a.last (storage_state_in a.seat.me.0)) new c.args.lane
+    c.load_posted-posted.result c.take_named.result
+    (subst (λ (z : TableId × SeatState). SeesNext (storage_view z.0 a.workers a.last (storage_state_in z.1.0))
+    c.take_named.result new) (λ j. (did.table.0 j, did.looked j)) c.take_named.ensures.next))

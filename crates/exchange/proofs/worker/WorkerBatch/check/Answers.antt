@@ -1,4 +1,4 @@
-use Rattle.std.proofs.Common.{rules, ◌≡◌, List, sym, ap, ◌∙◌, subst}
+use Rattle.std.proofs.Common.{rules, List, sym, ap, ◌∙◌, subst}
 use Rattle.proto.specs.declared.history.Answered.{Answered}
 use Rattle.proto.specs.History.{worker_share, asked_posted}
 use Rattle.exchange.specs.declared.rule.WorkerState.{WorkerState}

@@ -1,4 +1,4 @@
-use Rattle.std.proofs.Common.{rules, ◌≡◌, List, [], ◌∷◌, sym, ap, ◌∙◌, subst}
+use Rattle.std.proofs.Common.{rules, ◌≡◌, List, [], sym, ap, ◌∙◌, subst}
 use Rattle.proto.specs.declared.history.Answered.{Answered}
 use Rattle.exchange.specs.declared.rule.LaneView.TheVariants.{Told}
 use Rattle.exchange.specs.Lanes.{SeatState}

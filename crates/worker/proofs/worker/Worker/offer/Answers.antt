@@ -3,7 +3,6 @@ use Rattle.std.specs.Option.{option_map}
 use Rattle.session_book.specs.Session.{SessionState, gave}
 use Rattle.session_book.specs.Book.{BookState, session_of}
 use Rattle.worker_port.specs.Ports.{then_gave, fed, given}
-use Rattle.proto.specs.declared.history.Answered.{Answered}
 use Rattle.exchange.specs.Ends.{WorkerBatchView, ToldView}
 use Rattle.session_book.specs.declared.causes.EndCause.TheVariants as causes
 use Rattle.proto.specs.declared.terms.Terms.{Terms}

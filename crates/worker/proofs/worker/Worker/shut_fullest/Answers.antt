@@ -1,5 +1,3 @@
-use Rattle.std.proofs.Common.{Some}
-use Rattle.session_book.specs.Book.{IsFullest}
 use Rattle.worker.proofs.WorkerSteps.{continues, no_memory_goes_on, open_at}
 use Rattle.worker.proofs.worker.Worker.shut_fullest.Goals as goal
 

@@ -1,14 +1,15 @@
 -- What an engine makes of requests, over any map of live entries.
-use Rattle.std.specs.Prelude.{◌≡◌, ℕ, ◌⊎◌, Bool, true, false, IsTrue, List, Option, Some, None}
+use Rattle.std.specs.Prelude.{◌≡◌, ℕ, ◌⊎◌, Bool, true, false, IsTrue, List, [], Option, Some, None}
 use Rattle.std.specs.FinMap as map
+use Rattle.proto.specs.declared.dialect.Dialect.{Dialect}
 use Rattle.proto.specs.declared.message.Request.{Request}
 use Rattle.proto.specs.declared.message.Request.TheVariants.{Append, Prepend, Incr, Decr, Touch}
 use Rattle.proto.specs.declared.message.Reply.{Reply}
 use Rattle.proto.specs.declared.message.Reply.TheVariants.{NoMemory}
-use Rattle.proto.specs.Cache.{Entry, Entries, Cache, has_arrived, found_at}
+use Rattle.proto.specs.Cache.{Entry, Entries, Cache, empty_cache, has_arrived, found_at}
 use Rattle.proto.specs.Commands.{Outcome, act}
 use Rattle.proto.specs.Steps.{MayBeDated}
-use Rattle.proto.specs.Sizes.{item_limit}
+use Rattle.proto.specs.Sizes.{Sizes, item_limit}
 use Rattle.engine.specs.declared.commands.Engine.{Engine}
 use Rattle.engine.specs.Members.{MapOf}
 use Rattle.engine.specs.Written.{IsWritten}
@@ -19,6 +20,15 @@ use Rattle.engine.specs.Outcomes.{outcome_at, needs_memory}
 -- the cache of an engine, where these are its map's entries
 abbrev pub cache_in : {M : Type 0} → (M → Entries) → Engine M → Cache
 cache_in entries engine = record { entries = entries engine.map; last_cas = engine.last_cas; pending = engine.pending }
+
+-- an engine of these sizes at the moment 0, which has no entry and gave out this cas number last
+pub record IsNewEngine {M P : Type 0} (m : MapOf M P) (geometry : Sizes) (last_cas : ℕ) (dialect : Dialect)
+    (engine : Engine M) : Type 0 where
+  pub sizes : m.sizes engine.map ≡ geometry
+  pub cache : cache_in m.entries engine ≡ empty_cache last_cas
+  pub moment : m.moment engine.map ≡ 0
+  pub keeps : m.keeps engine.map []
+  pub dialect_is : engine.dialect ≡ dialect
 
 -- how an entry is stored: written anew, changed where it stands, or left there if only its deadline is to change
 pub data Way : Type 0 where

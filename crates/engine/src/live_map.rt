@@ -1,6 +1,6 @@
 //! What an engine asks of the map that has its entries.
 
-ghost use Rattle.std.specs.Prelude.{◌≡◌, ℕ, ◌≤◌, Bool, List, Option, IfOk, OnOk, OnErr, IfSome, IsSome, IsTrue, Some};
+ghost use Rattle.std.specs.Prelude.{◌≡◌, ℕ, ◌≤◌, Bool, List, Option, IfSome, IsSome, IsTrue, Some};
 ghost use Rattle.std.specs.Prelude.{false, length};
 ghost use Rattle.std.specs.Option.{option_map};
 ghost use Rattle.std.specs.FinMap as map;
@@ -11,7 +11,7 @@ ghost use Rattle.proto.specs.Steps.{MayBeDated};
 ghost use Rattle.proto.specs.declared.message.Reply.TheVariants.{Touched};
 ghost use Rattle.proto.specs.Stored.{StoredItem};
 ghost use Rattle.engine.specs.Shown.{entry_of};
-ghost use Rattle.engine.specs.Written.{MayBeWritten, IsWritten, IsChanged};
+ghost use Rattle.engine.specs.Written.{MayBeWritten, IsChanged, WritesOrRefuses};
 ghost use Rattle.engine.specs.Keeping.{StaysKept, KeepsEntry};
 ghost use Rattle.engine.specs.Counting.{StaysAlike};
 
@@ -145,18 +145,8 @@ pub trait LiveMap {
     fn write(&mut self, key: &[u8], entry: EntryRef) -> Result<(), NoMemory>
         requires waits { has_arrived entry.deadline (moment self.old) ≡ false }
         requires fits { MayBeWritten (sizes self.old) (entries self.old) key.now entry.value.now }
-        ensures written { OnOk result
-            (IsWritten (sizes self.old) (moment self.old) (entries self.old) key.now (entry_of entry.entry)
-            (entries self.new)) }
-        ensures exactly { OnOk result (writes self.old key.now (entry_of entry.entry) self.new) }
-        ensures kept { OnOk result
-            (KeepsEntry sizes entries moment keeps self.old key.now (entry_of entry.entry) self.new) }
-        ensures refused { OnErr result (IsTrue may_refuse) }
-        ensures err { OnErr result (entries self.new ≡ entries self.old) }
-        ensures err_alike { OnErr result (StaysAlike alike self.old self.new) }
-        ensures err_kept { OnErr result (StaysKept keeps self.old self.new) }
-        ensures sizes { sizes self.new ≡ sizes self.old }
-        ensures moment { moment self.new ≡ moment self.old };
+        ensures { WritesOrRefuses sizes entries moment alike keeps may_refuse writes self.old key.now
+            (entry_of entry.entry) result self.new };
 
     /// Writes an entry that differs from the one of the key, which stands at the place, only by its value and its cas
     /// number. A map may change it there. NoMemory as for `write`.
@@ -165,18 +155,8 @@ pub trait LiveMap {
         requires changed { IsChanged (map.get (entries self.old) key.now) (entry_of entry) }
         requires waits { has_arrived entry.deadline (moment self.old) ≡ false }
         requires fits { MayBeWritten (sizes self.old) (entries self.old) key.now entry.value.now }
-        ensures written { OnOk result
-            (IsWritten (sizes self.old) (moment self.old) (entries self.old) key.now (entry_of entry.entry)
-            (entries self.new)) }
-        ensures exactly { OnOk result (changes self.old key.now (entry_of entry.entry) self.new) }
-        ensures kept { OnOk result
-            (KeepsEntry sizes entries moment keeps self.old key.now (entry_of entry.entry) self.new) }
-        ensures refused { OnErr result (IsTrue may_refuse) }
-        ensures err { OnErr result (entries self.new ≡ entries self.old) }
-        ensures err_alike { OnErr result (StaysAlike alike self.old self.new) }
-        ensures err_kept { OnErr result (StaysKept keeps self.old self.new) }
-        ensures sizes { sizes self.new ≡ sizes self.old }
-        ensures moment { moment self.new ≡ moment self.old };
+        ensures { WritesOrRefuses sizes entries moment alike keeps may_refuse changes self.old key.now
+            (entry_of entry.entry) result self.new };
 
     /// Whether the entry of the key, which stands at the place, may be left as it is if it is asked to have this deadline.
     fn may_stay(&self, key: &[u8], place: Self::Place, deadline: Option<u64>) -> bool

@@ -7,12 +7,12 @@ ghost use Rattle.proto.specs.declared.eviction.Eviction.TheVariants.{Oldest};
 ghost use Rattle.proto.specs.declared.message.Request.{Request};
 ghost use Rattle.proto.specs.declared.message.Reply.{Reply};
 ghost use Rattle.proto.specs.Sizes.{Sizes};
-ghost use Rattle.proto.specs.Cache.{empty_cache, found_at, no_entries};
+ghost use Rattle.proto.specs.Cache.{found_at, no_entries};
 ghost use Rattle.proto.specs.Steps.{Step};
 ghost use Rattle.proto.specs.History.{max_moment};
 ghost use Rattle.engine.specs.declared.commands.Engine.{Engine};
 ghost use Rattle.engine.specs.declared.store.TheConstants.{SEED};
-ghost use Rattle.engine.specs.Engines.{IsHandled};
+ghost use Rattle.engine.specs.Engines.{IsNewEngine, IsHandled};
 ghost use Rattle.engine.specs.Keeping.{KeepsAll};
 ghost use Rattle.engine.specs.AnswerSizes.{answer_size, is_too_long};
 ghost use Rattle.engine.specs.Outcomes.{outcome_at, needs_memory};
@@ -56,15 +56,9 @@ pub trait StoreMap: LiveMap {
 }
 
 impl<M: StoreMap> Engine<M> {
-    ghost use Rattle.engine.specs.Engines.{cache_in};
-
     /// An empty cache for the strict dialect, at the moment 0. NoMemory if out of memory.
     pub fn new(alloc: Global, geometry: Geometry) -> Result<Self, NoMemory>
-        ensures sizes { IfOk result (λ s. M.sizes s.map ≡ geometry) }
-        ensures cache { IfOk result (λ s. cache_in M.entries s ≡ empty_cache 0) }
-        ensures moment { IfOk result (λ s. M.moment s.map ≡ 0) }
-        ensures keeps { IfOk result (λ s. M.keeps s.map []) }
-        ensures dialect { IfOk result (λ s. s.dialect ≡ Strict) }
+        ensures new { IfOk result (IsNewEngine M.LiveMap geometry 0 Strict) }
         ensures made { IfOk result (λ s. M.made geometry SEED Oldest s.map) }
     {
         Engine::starting(alloc, geometry, 0)
@@ -79,12 +73,8 @@ impl<M: StoreMap> Engine<M> {
         dialect: Dialect,
         eviction: Eviction,
     ) -> Result<Self, NoMemory>
-        ensures sizes { IfOk result (λ s. M.sizes s.map ≡ geometry) }
-        ensures cache { IfOk result (λ s. cache_in M.entries s ≡ empty_cache 0) }
-        ensures moment { IfOk result (λ s. M.moment s.map ≡ 0) }
-        ensures keeps { IfOk result (λ s. M.keeps s.map []) }
+        ensures new { IfOk result (IsNewEngine M.LiveMap geometry 0 dialect) }
         ensures in_place { IfOk result (λ s. s.in_place ≡ in_place) }
-        ensures dialect { IfOk result (λ s. s.dialect ≡ dialect) }
         ensures made { IfOk result (λ s. M.made geometry SEED eviction s.map) }
     {
         Engine::seeded(alloc, geometry, 0, SEED, in_place, dialect, eviction)
@@ -92,11 +82,7 @@ impl<M: StoreMap> Engine<M> {
 
     /// An empty cache for the strict dialect that has given out this cas number last. NoMemory if out of memory.
     pub fn starting(alloc: Global, geometry: Geometry, last_cas: u64) -> Result<Self, NoMemory>
-        ensures sizes { IfOk result (λ s. M.sizes s.map ≡ geometry) }
-        ensures cache { IfOk result (λ s. cache_in M.entries s ≡ empty_cache last_cas) }
-        ensures moment { IfOk result (λ s. M.moment s.map ≡ 0) }
-        ensures keeps { IfOk result (λ s. M.keeps s.map []) }
-        ensures dialect { IfOk result (λ s. s.dialect ≡ Strict) }
+        ensures new { IfOk result (IsNewEngine M.LiveMap geometry last_cas Strict) }
         ensures made { IfOk result (λ s. M.made geometry SEED Oldest s.map) }
     {
         let dialect = Dialect::Strict;
@@ -116,12 +102,8 @@ impl<M: StoreMap> Engine<M> {
         dialect: Dialect,
         eviction: Eviction,
     ) -> Result<Self, NoMemory>
-        ensures sizes { IfOk result (λ s. M.sizes s.map ≡ geometry) }
-        ensures cache { IfOk result (λ s. cache_in M.entries s ≡ empty_cache last_cas) }
-        ensures moment { IfOk result (λ s. M.moment s.map ≡ 0) }
-        ensures keeps { IfOk result (λ s. M.keeps s.map []) }
+        ensures new { IfOk result (IsNewEngine M.LiveMap geometry last_cas dialect) }
         ensures in_place { IfOk result (λ s. s.in_place ≡ in_place) }
-        ensures dialect { IfOk result (λ s. s.dialect ≡ dialect) }
         ensures made { IfOk result (λ s. M.made geometry seed eviction s.map) }
     {
         let scratch = Scratch::new(alloc)?;

@@ -3,8 +3,9 @@ use Rattle.std.specs.Prelude.{◌≡◌, ◌⊎◌, ℕ, ◌<◌, ◌≤◌, tru
 use Rattle.index.specs.declared.slots.Slot.{Slot}
 use Rattle.index.specs.declared.growing.Stretch.{Stretch}
 use Rattle.index.specs.Keys.{KeysOf}
-use Rattle.index.specs.Slots.{is_used, place_of, slot_at, distance, AreUsedUpTo}
-use Rattle.index.specs.Table.{Hashing}
+use Rattle.index.specs.Layouts.{SlotArray}
+use Rattle.index.specs.Slots.{is_used, place_of, slot_at, used_in, distance, AreUsedUpTo}
+use Rattle.index.specs.Table.{Hashing, places_in}
 
 -- The slot has a place of the key, with the key's tag; and it is found from the key's home or from a certain slot.
 pub record IsNear (h : Hashing) (keys : KeysOf) (slots : List Slot) (from i : ℕ) (key : List ℕ) : Type 0 where
@@ -32,3 +33,10 @@ pub record IsStretch (slots : List Slot) (s : Stretch) : Type 0 where
   pub first : s.first < length slots
   pub end : s.end < length slots
   pub used : AreUsedUpTo slots s.first s.end
+
+-- the keys have the places that they had, in as many slots, and the layout and the room stay
+pub record HasSamePlaces (keys : KeysOf) (old new : SlotArray) : Type 0 where
+  pub places : places_in keys new.slots ≡ places_in keys old.slots
+  pub used : used_in new.slots ≡ used_in old.slots
+  pub layout : new.layout ≡ old.layout
+  pub room : new.room ≡ old.room

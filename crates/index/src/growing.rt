@@ -6,8 +6,8 @@ ghost use Rattle.std.specs.Int.{IsNextPowerOfTwo};
 ghost use Rattle.segments.specs.Pools.{key_at};
 ghost use Rattle.index.specs.Sizing.{most_items};
 ghost use Rattle.index.specs.Slots.{used_in};
-ghost use Rattle.index.specs.Reinserting.{AreNear, IsFirstStop, IsStretch};
-ghost use Rattle.index.specs.Table.{hashing, AreIndexed, places_in};
+ghost use Rattle.index.specs.Reinserting.{AreNear, IsFirstStop, IsStretch, HasSamePlaces};
+ghost use Rattle.index.specs.Table.{hashing, AreIndexed, IsIndex, table_of};
 
 use crate::backward_shift::home_at;
 use crate::hash::split_home;
@@ -72,10 +72,7 @@ fn reinsert(slots: &mut Slots, from: usize, count: usize, hasher: FoldHasher, po
     requires gap { used_in slots.old.slots < length slots.old.slots }
     requires near { AreNear (hashing count slots.old.layout hasher) (key_at pool.now) slots.old.slots from }
     ensures indexed { AreIndexed (hashing count slots.old.layout hasher) (key_at pool.now) slots.new.slots }
-    ensures places { places_in (key_at pool.now) slots.new.slots ≡ places_in (key_at pool.now) slots.old.slots }
-    ensures used { used_in slots.new.slots ≡ used_in slots.old.slots }
-    ensures layout { slots.new.layout ≡ slots.old.layout }
-    ensures room { slots.new.room ≡ slots.old.room }
+    ensures same { HasSamePlaces (key_at pool.now) slots.old slots.new }
     ensures count { length slots.new.slots ≡ length slots.old.slots }
 {
     let mut at = from;
@@ -100,14 +97,9 @@ fn reinsert(slots: &mut Slots, from: usize, count: usize, hasher: FoldHasher, po
 fn grow(slots: &mut Slots, hasher: FoldHasher, pool: &Pool)
     requires room { length slots.old.slots < slots.old.room }
     requires gap { used_in slots.old.slots < length slots.old.slots }
-    requires indexed { AreIndexed (hashing (length slots.old.slots) slots.old.layout hasher)
-        (key_at pool.now) slots.old.slots }
-    ensures indexed { AreIndexed (hashing (length slots.new.slots) slots.old.layout hasher)
-        (key_at pool.now) slots.new.slots }
-    ensures places { places_in (key_at pool.now) slots.new.slots ≡ places_in (key_at pool.now) slots.old.slots }
-    ensures used { used_in slots.new.slots ≡ used_in slots.old.slots }
-    ensures layout { slots.new.layout ≡ slots.old.layout }
-    ensures room { slots.new.room ≡ slots.old.room }
+    requires indexed { IsIndex (key_at pool.now) (table_of slots.old hasher) }
+    ensures indexed { IsIndex (key_at pool.now) (table_of slots.new hasher) }
+    ensures same { HasSamePlaces (key_at pool.now) slots.old slots.new }
     ensures count { length slots.new.slots ≡ length slots.old.slots + 1 }
 {
     let count = slots.len();
@@ -128,18 +120,13 @@ pub fn grow_for(slots: &mut Slots, keys: usize, hasher: FoldHasher, pool: &Pool)
     requires half { 2 * keys ≤ length slots.old.slots + 2 }
     requires within { length slots.old.slots ≤ slots.old.room }
     requires keys { used_in slots.old.slots + 1 ≡ keys }
-    requires indexed { AreIndexed (hashing (length slots.old.slots) slots.old.layout hasher)
-        (key_at pool.now) slots.old.slots }
+    requires indexed { IsIndex (key_at pool.now) (table_of slots.old hasher) }
     requires gap { used_in slots.old.slots < length slots.old.slots }
     ensures half { 2 * keys ≤ length slots.new.slots }
     ensures within { length slots.new.slots ≤ slots.new.room }
     ensures few { (length slots.new.slots ≡ length slots.old.slots) ⊎ (length slots.new.slots ≤ 3 * keys) }
-    ensures indexed { AreIndexed (hashing (length slots.new.slots) slots.old.layout hasher)
-        (key_at pool.now) slots.new.slots }
-    ensures places { places_in (key_at pool.now) slots.new.slots ≡ places_in (key_at pool.now) slots.old.slots }
-    ensures used { used_in slots.new.slots ≡ used_in slots.old.slots }
-    ensures layout { slots.new.layout ≡ slots.old.layout }
-    ensures room { slots.new.room ≡ slots.old.room }
+    ensures indexed { IsIndex (key_at pool.now) (table_of slots.new hasher) }
+    ensures same { HasSamePlaces (key_at pool.now) slots.old slots.new }
 {
     let mut left = MOST_AT_ONCE;
     while left > 0 && slots.len() < slots.room() && slots.len() / SLOTS_FOR_EACH < keys {

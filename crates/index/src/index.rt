@@ -1,12 +1,12 @@
 //! The index.
 
-ghost use Rattle.std.specs.Prelude.{◌≡◌, ◌≢◌, ◌+◌, ◌*◌, ◌≤◌, length, IfOk, Some, ◌⊎◌, ◌∷◌, [], IfSome, IsSome};
+ghost use Rattle.std.specs.Prelude.{◌≡◌, ◌≢◌, ◌+◌, ◌*◌, ◌^◌, ◌<◌, ◌≤◌, length, IfOk, ◌⊎◌, ◌∷◌, [], IfSome, IsSome};
 ghost use Rattle.std.specs.FinMap as map;
 ghost use Rattle.segments.specs.declared.place.Place.{Place as Spot};
 ghost use Rattle.segments.specs.Pools.{item_in, key_at};
-ghost use Rattle.index.specs.Keys.{KeysOf, seeded_hasher};
-ghost use Rattle.index.specs.Slots.{used_in, empty_slot};
-ghost use Rattle.index.specs.Layouts.{IsLayout, IsInLayout};
+ghost use Rattle.index.specs.Keys.{KeysOf, seeded_hasher, hash_of, home_of};
+ghost use Rattle.index.specs.Slots.{used_in, empty_slot, slot_with};
+ghost use Rattle.index.specs.Layouts.{IsLayout, IsInLayout, CanHold, tag_of};
 ghost use Rattle.index.specs.Relocating.{IsRelocated, forget_place};
 ghost use Rattle.index.specs.Table.{IsIndex, IsMap, IsSameSize, IsTable, places, place_at, HasPlace};
 
@@ -43,6 +43,35 @@ impl Model for Index {
     ghost view = { λ a. table_of a.slots a.hasher };
 
     ghost invariant = { λ a. AreSlotsCounted (table_of a.slots a.hasher) a.used };
+}
+
+/// A key's hash, its home, where searches for it begin, and its tag.
+#[derive(Clone, Copy)]
+struct Start {
+    hash: u64,
+    home: usize,
+    tag: u64,
+}
+
+/// Where the searches for a key begin.
+#[inline(always)]
+fn start_of(slots: &Slots, hasher: FoldHasher, key: &[u8]) -> Start
+    requires { 1 ≤ length slots.now.slots }
+    ensures hash { result.hash ≡ hash_of hasher key.now }
+    ensures home { result.home ≡ home_of (length slots.now.slots) (hash_of hasher key.now) }
+    ensures tag { result.tag ≡ tag_of slots.now.layout (hash_of hasher key.now) }
+    ensures in_range { result.home < length slots.now.slots }
+    // for callers that count keys
+    ensures small { length slots.now.slots < 2 ^ 64 }
+    ensures fits { (place : Spot) → IsInLayout slots.now.layout place
+        → CanHold slots.now.layout (slot_with result.tag place) }
+{
+    let hash = hash_of(hasher, key);
+    Start {
+        hash,
+        home: home_of(slots.len(), hash),
+        tag: slots.layout().tag_of(hash),
+    }
 }
 
 impl Index {
@@ -111,9 +140,7 @@ impl Index {
         ensures key { IfSome result (λ place. key_at pool.now place ≡ Some key.now) }
         ensures item { IfSome result (λ place. IsSome (item_in pool.now place)) }
     {
-        let hash = hash_of(self.hasher, key);
-        let home = home_of(self.slots.len(), hash);
-        let tag = self.slots.layout().tag_of(hash);
+        let Start { home, tag, .. } = start_of(&self.slots, self.hasher, key);
         match find_key(&self.slots, pool, home, tag, key) {
             Ok((_, place)) => Some(place),
             Err(_) => None,
@@ -134,9 +161,7 @@ impl Index {
             ⊎ (length self.new.slots ≤ 3 * used_in self.new.slots) }
         ensures half { IsTable self.new }
     {
-        let hash = hash_of(self.hasher, key);
-        let home = home_of(self.slots.len(), hash);
-        let tag = self.slots.layout().tag_of(hash);
+        let Start { hash, home, tag } = start_of(&self.slots, self.hasher, key);
         match find_key(&self.slots, pool, home, tag, key) {
             Ok((at, source)) => {
                 self.slots.set(at, Slot { tag, place });
@@ -165,10 +190,8 @@ impl Index {
         ensures size { IsSameSize self.old self.new }
         ensures count { used_in self.new.slots ≡ used_in self.old.slots }
     {
-        let hash = hash_of(self.hasher, key);
-        let home = home_of(self.slots.len(), hash);
+        let Start { home, tag, .. } = start_of(&self.slots, self.hasher, key);
         let at = find_place(&self.slots, home, source).unwrap();
-        let tag = self.slots.layout().tag_of(hash);
         self.slots.set(at, Slot { tag, place: target });
     }
 
@@ -180,8 +203,7 @@ impl Index {
         ensures size { IsSameSize self.old self.new }
         ensures count { used_in self.new.slots + 1 ≡ used_in self.old.slots }
     {
-        let hash = hash_of(self.hasher, key);
-        let home = home_of(self.slots.len(), hash);
+        let home = start_of(&self.slots, self.hasher, key).home;
         let at = find_place(&self.slots, home, place).unwrap();
         delete(&mut self.slots, at, self.hasher, pool);
         self.used -= 1;
@@ -194,7 +216,7 @@ impl Index {
         ensures relocated { IsRelocated (key_at pool.now) (key_at pool.now) (forget_place place) self.old self.new }
         ensures size { IsSameSize self.old self.new }
     {
-        let home = home_of(self.slots.len(), hash_of(self.hasher, key));
+        let home = start_of(&self.slots, self.hasher, key).home;
         if let Some(at) = find_place(&self.slots, home, place) {
             delete(&mut self.slots, at, self.hasher, pool);
             self.used -= 1;

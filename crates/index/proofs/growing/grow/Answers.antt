@@ -50,12 +50,19 @@ reinsert-requires-2-clause-near c =
     let more : c.len-more.result ≡ c.len-count.result + 1 =
     c.len-more.ensures ∙ c.reinsert.ensures.count ∙ ap length slots_are ∙ longer_length c.args.slots.now.slots
     ∙ ap (λ m. m + 1) (sym n) in
-    rw (more, c.reinsert.ensures.layout, c.split_home.ensures.value)
+    rw (more, c.reinsert.ensures.same.layout, c.split_home.ensures.value)
     (near_split c.len-count.result c.push.new.self.layout c.args.hasher (key_at c.args.pool.now) c.reinsert.new.slots.slots
     (omega (arith, n, gap)) c.reinsert.ensures.indexed)
 
-pub returns-clause-places : goal.returns-clause-places
-returns-clause-places c =
+pub returns-clause-same : goal.returns-clause-same
+returns-clause-same c =
     let keys : KeysOf = key_at c.args.pool.now in
-    c.reinsert-2.ensures.places ∙ c.reinsert.ensures.places
-    ∙ ap (λ (r : SlotArray). places_in keys r.slots) c.push.ensures ∙ longer_places keys c.args.slots.now.slots
+    let slots : List Slot = c.args.slots.now.slots in
+    let one = c.reinsert.ensures.same in
+    let two = c.reinsert-2.ensures.same in record {
+      places = two.places ∙ one.places ∙ ap (λ (r : SlotArray). places_in keys r.slots) c.push.ensures
+          ∙ longer_places keys slots;
+      used = two.used ∙ one.used ∙ ap (λ (r : SlotArray). used_in r.slots) c.push.ensures ∙ longer_used slots;
+      layout = two.layout ∙ one.layout ∙ ap (λ (r : SlotArray). r.layout) c.push.ensures;
+      room = two.room ∙ one.room ∙ ap (λ (r : SlotArray). r.room) c.push.ensures;
+    }

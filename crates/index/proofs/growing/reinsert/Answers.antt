@@ -28,7 +28,7 @@ step c =
     let len = inv.len in
     let range = inv.at_range in
     let r : at < length slots = omega (arith, range, len) in
-    let same = inv.used in
+    let same = inv.same.used in
     let gap_left = c.requires.gap in
     let less : used_in slots < length slots = omega (arith, same, len, gap_left) in
     let used : is_used (slot_at slots at) ≡ true =
@@ -64,13 +64,13 @@ kept c =
     elim c.if-gap-at.branch [
       | then-gap-at w ↦ (
         ap (λ (r : SlotArray). r.layout) (w.slots-is ∙ w.empty.ensures) ∙ ap (λ (r : SlotArray). r.layout) w.copy.ensures
-            ∙ c.cluster.invariant.layout,
+            ∙ c.cluster.invariant.same.layout,
         ap (λ (r : SlotArray). r.room) (w.slots-is ∙ w.empty.ensures) ∙ ap (λ (r : SlotArray). r.room) w.copy.ensures
-            ∙ c.cluster.invariant.room,
+            ∙ c.cluster.invariant.same.room,
       )
       | else-gap-at w ↦ (
-        ap (λ (r : SlotArray). r.layout) w.slots-is ∙ c.cluster.invariant.layout,
-        ap (λ (r : SlotArray). r.room) w.slots-is ∙ c.cluster.invariant.room,
+        ap (λ (r : SlotArray). r.layout) w.slots-is ∙ c.cluster.invariant.same.layout,
+        ap (λ (r : SlotArray). r.room) w.slots-is ∙ c.cluster.invariant.same.room,
       )
     ]
 
@@ -79,10 +79,7 @@ cluster-init c = record {
   at_range = c.requires.from;
   near = c.requires.near;
   known = stretch_begins c.args.slots.now.slots c.args.from c.requires.from;
-  places = refl;
-  used = refl;
-  layout = refl;
-  room = refl;
+  same = record { places = refl; used = refl; layout = refl; room = refl };
   len = refl;
 }
 
@@ -118,10 +115,12 @@ cluster-preserved c =
         used = stretch_stays c.cluster.slots.slots c.if-gap-at.slots.slots c.cluster.at c.search-known.result.first c.search-known.result.end
             s.len s.keeps c.search-known.ensures.used.up_to c.search-known.ensures.used.near;
       };
-      places = s.places ∙ inv.places;
-      used = s.used ∙ inv.used;
-      layout = (kept c).0;
-      room = (kept c).1;
+      same = record {
+        places = s.places ∙ inv.same.places;
+        used = s.used ∙ inv.same.used;
+        layout = (kept c).0;
+        room = (kept c).1;
+      };
       len = s.len ∙ inv.len;
     }
 

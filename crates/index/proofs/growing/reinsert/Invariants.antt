@@ -1,8 +1,8 @@
 use Rattle.std.proofs.Common.{◌≡◌, ◌+◌, ◌*◌, ◌<◌, length}
 use Rattle.segments.specs.Pools.{key_at}
-use Rattle.index.specs.Slots.{used_in, distance}
-use Rattle.index.specs.Reinserting.{AreNear, IsStretch}
-use Rattle.index.specs.Table.{hashing, places_in}
+use Rattle.index.specs.Slots.{distance}
+use Rattle.index.specs.Reinserting.{AreNear, IsStretch, HasSamePlaces}
+use Rattle.index.specs.Table.{hashing}
 use Rattle.index.proofs.ReinsertedKeys.{spread, gap_index}
 use Rattle.index.proofs.growing.reinsert.Given as goal
 
@@ -11,10 +11,7 @@ invariant-cluster l = record {
   at_range : l.at < length l.initial.slots.slots;
   near : AreNear (hashing l.count l.initial.slots.layout l.hasher) (key_at l.pool) l.slots.slots l.at;
   known : IsStretch l.slots.slots l.known;
-  places : places_in (key_at l.pool) l.slots.slots ≡ places_in (key_at l.pool) l.initial.slots.slots;
-  used : used_in l.slots.slots ≡ used_in l.initial.slots.slots;
-  layout : l.slots.layout ≡ l.initial.slots.layout;
-  room : l.slots.room ≡ l.initial.slots.room;
+  same : HasSamePlaces (key_at l.pool) l.initial.slots l.slots;
   len : length l.slots.slots ≡ length l.initial.slots.slots;
 }
 

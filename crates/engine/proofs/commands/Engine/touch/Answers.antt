@@ -58,5 +58,5 @@ returns-in-Ok g c =
     subst (λ (k : List ℕ). Leaves m as_touched old new
     (touch (map.get (m.entries old.map) k) (cache_in m.entries old) (m.moment old.map) k exptime) Touched) c.as_slice-key.ensures
     (leaves_anew m old new key exptime e w asked
-    c.may_stay.result there is waits c.if-may_stay.false (c.may_stay.ensures.decides e there) c.in-Ok.ensures.sizes
-    c.in-Ok.ensures.moment refl refl refl refl same c.in-Ok.ensures.written c.in-Ok.ensures.exactly c.in-Ok.ensures.kept)
+    c.may_stay.result there is waits c.if-may_stay.false (c.may_stay.ensures.decides e there) c.in-Ok.ensures.sizes_same
+    c.in-Ok.ensures.moment_same refl refl refl refl same c.in-Ok.ensures.written c.in-Ok.ensures.exactly c.in-Ok.ensures.kept)

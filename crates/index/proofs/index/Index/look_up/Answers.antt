@@ -1,7 +1,6 @@
 use Rattle.std.proofs.Common.{◌≡◌, sym, ap, ◌∙◌, length, Some, refl, ◌<◌}
-use Rattle.index.specs.Keys.{KeysOf, home_of, hash_of}
+use Rattle.index.specs.Keys.{KeysOf}
 use Rattle.segments.specs.Pools.{key_at}
-use Rattle.index.specs.Layouts.{tag_of}
 use Rattle.index.specs.Slots.{place_of, slot_at}
 use Rattle.index.specs.Table.{AreIndexed, hashing, Hashing}
 use Rattle.index.specs.Searches.{NoneUpTo, IsOfKey}
@@ -16,16 +15,9 @@ returns-in-Err-clause-place c =
     let key = c.args.key.now in
     let keys : KeysOf = key_at c.args.pool.now in
     let h : Hashing = hashing (length slots) c.self.inside.slots.layout c.self.inside.hasher in
-    let len : c.len.result ≡ length slots = c.len.ensures in
-    let home_is : c.home_of-home.result ≡ h.home key =
-    c.home_of-home.ensures.value ∙ ap (λ n. home_of n c.hash_of-hash.result) len
-    ∙ ap (home_of (length slots)) c.hash_of-hash.ensures in
-    let tag_is : c.tag_of-tag.result ≡ h.tag key =
-    c.tag_of-tag.ensures.value ∙ ap (tag_of c.layout.result) c.hash_of-hash.ensures
-    ∙ ap (λ y. tag_of y (hash_of c.self.inside.hasher key)) c.layout.ensures.value in
     let none : NoneUpTo keys slots (h.home key) (h.tag key) key c.in-Err.field-0 =
-    rw tag_is at (rw home_is at c.in-Err.ensures) in
-    let below : h.home key < length slots = rw len at (rw home_is at c.home_of-home.ensures.in_range) in
+    rw (c.start_of-home.ensures.home, c.start_of-home.ensures.tag) at c.in-Err.ensures in
+    let below : h.home key < length slots = rw c.start_of-home.ensures.home at c.start_of-home.ensures.in_range in
     let index : AreIndexed h keys slots = rw (← c.self.view_is) at c.requires in
     rw (← c.self.view_is) (sym (get_none keys slots key
     (none_found h keys slots key index below c.in-Err.field-0 none)))
@@ -37,7 +29,7 @@ returns-in-Ok-clause-place c =
     let keys : KeysOf = key_at c.args.pool.now in
     let h : Hashing = hashing (length slots) c.self.inside.slots.layout c.self.inside.hasher in
     let at = c.in-Ok.field-0-0 in
-    let found : IsOfKey keys slots c.tag_of-tag.result key at = c.in-Ok.ensures.0 in
+    let found : IsOfKey keys slots c.start_of-home.result.tag key at = c.in-Ok.ensures.0 in
     let index : AreIndexed h keys slots = rw (← c.self.view_is) at c.requires in
     let st : Stands keys slots key (place_of (slot_at slots at)) =
     record { at = at; in_range = found.in_range; used = found.used; place_is = refl; key_is = found.key_is } in

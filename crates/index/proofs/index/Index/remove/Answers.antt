@@ -1,7 +1,7 @@
 use Rattle.std.proofs.Common.{◌≡◌, ap, ◌∙◌, length, Some, ◌<◌}
 use Rattle.std.specs.Prelude.{MatchOption, IfSome}
 use Rattle.std.specs.FinMap as map
-use Rattle.index.specs.Keys.{home_of, KeysOf}
+use Rattle.index.specs.Keys.{KeysOf}
 use Rattle.segments.specs.Pools.{key_at}
 use Rattle.index.specs.Slots.{slot_at, place_of}
 use Rattle.index.specs.Table.{AreIndexed, hashing, Hashing, places_in}
@@ -18,13 +18,9 @@ unwrap-at-requires c =
     let place = c.args.place in
     let keys : KeysOf = key_at c.args.pool.now in
     let h : Hashing = hashing (length slots) c.self.inside.slots.layout c.self.inside.hasher in
-    let len : c.len.result ≡ length slots = c.len.ensures in
-    let home_is : c.home_of-home.result ≡ h.home key =
-    c.home_of-home.ensures.value ∙ ap (λ n. home_of n c.hash_of-hash.result) len
-    ∙ ap (home_of (length slots)) c.hash_of-hash.ensures in
     let found : MatchOption c.find_place.result (NoneOfPlace slots (h.home key) place) (IsOfPlace slots place) =
-    rw home_is at c.find_place.ensures in
-    let below : h.home key < length slots = rw len at (rw home_is at c.home_of-home.ensures.in_range) in
+    rw c.start_of-home.ensures.home at c.find_place.ensures in
+    let below : h.home key < length slots = rw c.start_of-home.ensures.home at c.start_of-home.ensures.in_range in
     let index : AreIndexed h keys slots = rw (← c.self.view_is) at c.requires.index in
     let is : map.get (places_in keys slots) key ≡ Some place = rw (← c.self.view_is) at c.requires.there in
     some_found c.find_place.result (NoneOfPlace slots (h.home key) place) (IsOfPlace slots place) found
@@ -40,7 +36,7 @@ returns-clause-map c =
     let at = c.unwrap-at.result in
     let after = c.delete.new.slots.slots in
     let of : IsOfPlace slots place at =
-    found_is c.find_place.result at (NoneOfPlace slots c.home_of-home.result place)
+    found_is c.find_place.result at (NoneOfPlace slots c.start_of-home.result.home place)
     (IsOfPlace slots place) c.find_place.ensures c.unwrap-at.ensures in
     let is : map.get (places_in keys slots) key ≡ Some place = rw (← c.self.view_is) at c.requires.there in
     let has : keys (place_of (slot_at slots at)) ≡ Some key =

@@ -1,17 +1,16 @@
-use Rattle.std.proofs.Common.{◌≡◌, ap, ◌∙◌, List, length, Some, refl, ◌<◌}
+use Rattle.std.proofs.Common.{◌≡◌, ap, List, length, Some, refl, ◌<◌}
 use Rattle.std.specs.Prelude.{slice_set, MatchOption}
 use Rattle.std.specs.FinMap as map
 use Rattle.std.proofs.lemmas.List.{length-set}
 use Rattle.index.specs.declared.slots.Slot.{Slot}
-use Rattle.index.specs.Keys.{home_of, hash_of, KeysOf}
+use Rattle.index.specs.Keys.{hash_of, KeysOf}
 use Rattle.index.specs.Slots.{slot_with, slot_at, place_of}
 use Rattle.index.specs.Table.{AreIndexed, hashing, Hashing, places_in}
 use Rattle.index.specs.Searches.{NoneOfPlace, IsOfPlace}
 use Rattle.index.proofs.SlotsAsMap.{stands_from_get}
 use Rattle.std.proofs.Common.{sym}
 use Rattle.index.specs.Table.{Table}
-use Rattle.index.specs.Layouts.{tag_of, IsInLayout}
-use Rattle.index.proofs.PackedSlots.{some_tag, can_hold}
+use Rattle.index.proofs.PackedSlots.{some_tag}
 use Rattle.index.proofs.KeySlots.{can_replace, put_indexed, put_places, set_at, no_place_found, slot_of_key, some_found, found_is}
 use Rattle.index.proofs.index.Index.replace.Goals as goal
 
@@ -21,13 +20,9 @@ unwrap-at-requires c =
     let key = c.args.key.now in
     let source = c.args.source in
     let h : Hashing = hashing (length slots) c.self.inside.slots.layout c.self.inside.hasher in
-    let len : c.len.result ≡ length slots = c.len.ensures in
-    let home_is : c.home_of-home.result ≡ h.home key =
-    c.home_of-home.ensures.value ∙ ap (λ n. home_of n c.hash_of-hash.result) len
-    ∙ ap (home_of (length slots)) c.hash_of-hash.ensures in
     let found : MatchOption c.find_place.result (NoneOfPlace slots (h.home key) source) (IsOfPlace slots source) =
-    rw home_is at c.find_place.ensures in
-    let below : h.home key < length slots = rw len at (rw home_is at c.home_of-home.ensures.in_range) in
+    rw c.start_of-home.ensures.home at c.find_place.ensures in
+    let below : h.home key < length slots = rw c.start_of-home.ensures.home at c.start_of-home.ensures.in_range in
     let keys : KeysOf = c.requires.there.0 in
     let index : AreIndexed h keys slots = rw (← c.self.view_is) at c.requires.there.1 in
     let is : map.get (places_in keys slots) key ≡ Some source = rw (← c.self.view_is) at c.requires.there.2 in
@@ -44,14 +39,11 @@ returns-clause-map c =
     let h : Hashing = hashing (length slots) c.self.inside.slots.layout hasher in
     let at = c.unwrap-at.result in
     let of : IsOfPlace slots source at =
-    found_is c.find_place.result at (NoneOfPlace slots c.home_of-home.result source)
+    found_is c.find_place.result at (NoneOfPlace slots c.start_of-home.result.home source)
     (IsOfPlace slots source) c.find_place.ensures c.unwrap-at.ensures in
     rw (← c.self.view_is) (λ before after index is key_is agree.
     let slot = slot_of_key h before slots at key source is of in
-    let tag_is : c.tag_of-tag.result ≡ h.tag key =
-    c.tag_of-tag.ensures.value ∙ ap (tag_of c.layout.result) c.hash_of-hash.ensures
-    ∙ ap (λ y. tag_of y (hash_of hasher key)) c.layout.ensures.value in
-    let slot_is : slot_with c.tag_of-tag.result target ≡ slot_with (h.tag key) target = ap (λ t. slot_with t target) tag_is in
+    let slot_is : slot_with c.start_of-home.result.tag target ≡ slot_with (h.tag key) target = ap (λ t. slot_with t target) c.start_of-home.ensures.tag in
     let can = can_replace h before after slots at key source target index slot
     (some_tag c.self.inside.slots.layout (hash_of hasher key)) key_is
     (λ i r u other. agree (place_of (slot_at slots i)) record { at = i; in_range = r; used = u; place_is = refl }
@@ -66,13 +58,5 @@ returns-clause-map c =
 
 pub set-requires-clause-slot : goal.set-requires-clause-slot
 set-requires-clause-slot c =
-    let hash = hash_of c.self.inside.hasher c.args.key.now in
-    let l = c.self.inside.slots.layout in
-    let view : c.args.self.now.layout ≡ l = sym (ap (λ (t : Table). t.layout) c.self.view_is) in
-    let tag_is : c.tag_of-tag.result ≡ tag_of l hash =
-    c.tag_of-tag.ensures.value ∙ ap (tag_of c.layout.result) c.hash_of-hash.ensures
-    ∙ ap (λ y. tag_of y hash) c.layout.ensures.value in
-    let small = c.hash_of-hash.type_inv in
-    let kept = rw c.layout.ensures.value at c.layout.ensures.layout in
-    let inside : IsInLayout l c.args.target = rw view at c.requires.target in
-    rw (tag_is) (can_hold l hash c.args.target kept (rw c.hash_of-hash.ensures at small) inside)
+    let view : c.args.self.now.layout ≡ c.self.inside.slots.layout = sym (ap (λ (t : Table). t.layout) c.self.view_is) in
+    c.start_of-home.ensures.fits c.args.target (rw view at c.requires.target)

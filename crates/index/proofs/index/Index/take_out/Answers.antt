@@ -1,7 +1,7 @@
 use Rattle.std.proofs.Common.{◌≡◌, ap, ◌∙◌, length, Some, ◌<◌}
 use Rattle.std.specs.Prelude.{IfSome}
 use Rattle.std.specs.FinMap as map
-use Rattle.index.specs.Keys.{home_of, KeysOf}
+use Rattle.index.specs.Keys.{KeysOf}
 use Rattle.segments.specs.Pools.{key_at}
 use Rattle.index.specs.Slots.{slot_at, place_of}
 use Rattle.index.specs.Table.{AreIndexed, hashing, Hashing, places_in}
@@ -44,12 +44,8 @@ returns-in_default-clause-relocated c =
     let place = c.args.place in
     let keys : KeysOf = key_at c.args.pool.now in
     let h : Hashing = hashing (length slots) c.self.inside.slots.layout c.self.inside.hasher in
-    let len : c.len.result ≡ length slots = c.len.ensures in
-    let home_is : c.home_of-home.result ≡ h.home key =
-    c.home_of-home.ensures.value ∙ ap (λ n. home_of n c.hash_of.result) len
-    ∙ ap (home_of (length slots)) c.hash_of.ensures in
-    let none : NoneOfPlace slots (h.home key) place = rw home_is at c.in_default.ensures in
-    let below : h.home key < length slots = rw len at (rw home_is at c.home_of-home.ensures.in_range) in
+    let none : NoneOfPlace slots (h.home key) place = rw c.start_of-home.ensures.home at c.in_default.ensures in
+    let below : h.home key < length slots = rw c.start_of-home.ensures.home at c.start_of-home.ensures.in_range in
     let index : AreIndexed h keys slots = rw (← c.self.view_is) at c.requires.index in
     rw (← c.self.view_is) record {
       index = index;

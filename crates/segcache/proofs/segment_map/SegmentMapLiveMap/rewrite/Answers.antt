@@ -51,8 +51,8 @@ invariant_of-self c =
     (rewritten m key (entry_of c.args.entry) c.args.place (item_of c.item.result) c.overwrite.new.self asks
     c.self.invariant c.item.ensures.item (search rules) c.overwrite.ensures.overwritten c.overwrite.ensures.pool).kept
 
-pub returns-clause-written : goal.returns-clause-written
-returns-clause-written c =
+pub returns : goal.returns
+returns c =
     let a = c.self.inside in
     let key : List ℕ = c.args.key.now in
     let e : Entry = entry_of c.args.entry in
@@ -61,32 +61,17 @@ returns-clause-written c =
     subst (λ (s : MapState). AsksRewrite s key e c.args.place) (sym c.self.view_is) (search rules) in
     let r = rewritten m key e c.args.place (item_of c.item.result) c.overwrite.new.self asks
     c.self.invariant c.item.ensures.item (search rules) c.overwrite.ensures.overwritten c.overwrite.ensures.pool in
-    subst (λ (s : MapState). IsWritten s.pool.sizes s.moment (shown_entries s.pool s.index s.moment) key e
-    (shown_entries c.overwrite.new.self a.index a.moment)) c.self.view_is r.written
-
-pub returns-clause-exactly : goal.returns-clause-exactly
-returns-clause-exactly c =
-    let a = c.self.inside in
-    let key : List ℕ = c.args.key.now in
-    let e : Entry = entry_of c.args.entry in
-    let m : MapState = record { pool = a.pool; index = a.index; marks = a.marks; moment = a.moment } in
-    let asks : AsksRewrite m key e c.args.place =
-    subst (λ (s : MapState). AsksRewrite s key e c.args.place) (sym c.self.view_is) (search rules) in
-    let r = rewritten m key e c.args.place (item_of c.item.result) c.overwrite.new.self asks
-    c.self.invariant c.item.ensures.item (search rules) c.overwrite.ensures.overwritten c.overwrite.ensures.pool in
-    subst (λ (s : MapState). ChangesSegments s key e (record m { pool = c.overwrite.new.self })) c.self.view_is
-    (inl r.changed)
-
-pub returns-clause-kept : goal.returns-clause-kept
-returns-clause-kept c =
-    let a = c.self.inside in
-    let key : List ℕ = c.args.key.now in
-    let e : Entry = entry_of c.args.entry in
-    let m : MapState = record { pool = a.pool; index = a.index; marks = a.marks; moment = a.moment } in
-    let asks : AsksRewrite m key e c.args.place =
-    subst (λ (s : MapState). AsksRewrite s key e c.args.place) (sym c.self.view_is) (search rules) in
-    let r = rewritten m key e c.args.place (item_of c.item.result) c.overwrite.new.self asks
-    c.self.invariant c.item.ensures.item (search rules) c.overwrite.ensures.overwritten c.overwrite.ensures.pool in
-    subst (λ (s : MapState). KeepsEntry (λ (n : MapState). n.pool.sizes)
-    (λ (n : MapState). shown_entries n.pool n.index n.moment) (λ (n : MapState). n.moment) KeepsStored s key e
-    (record m { pool = c.overwrite.new.self })) c.self.view_is r.keeps
+    let new : MapState = record m { pool = c.overwrite.new.self } in record {
+      written = subst (λ (s : MapState). IsWritten s.pool.sizes s.moment (shown_entries s.pool s.index s.moment) key e
+          (shown_entries new.pool new.index new.moment)) c.self.view_is r.written;
+      exactly = subst (λ (s : MapState). ChangesSegments s key e new) c.self.view_is (inl r.changed);
+      kept = subst (λ (s : MapState). KeepsEntry (λ (n : MapState). n.pool.sizes)
+          (λ (n : MapState). shown_entries n.pool n.index n.moment) (λ (n : MapState). n.moment) KeepsStored s key e new)
+          c.self.view_is r.keeps;
+      refused = search rules;
+      err = search rules;
+      err_alike = search rules;
+      err_kept = search rules;
+      sizes_same = search rules;
+      moment_same = search rules;
+    }

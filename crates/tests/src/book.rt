@@ -184,9 +184,13 @@ fn asks_64_at_a_time(rt: HostRuntime) -> Result<(), Fail> {
 
 /// Requests for 1, 8, 9, 17 and 18 keys.
 const FOR_1: &str = "get b\r\n";
+
 const FOR_8: &str = "get b b b b b b b b\r\n";
+
 const FOR_9: &str = "get b b b b b b b b b\r\n";
+
 const FOR_17: &str = "get b b b b b b b b b b b b b b b b b\r\n";
+
 const FOR_18: &str = "gets b b b b b b b b b b b b b b b b b b\r\n";
 
 /// Session 1 is given the answers to requests, each of this length. Then it has 17 requests for 8 keys on their way and one more

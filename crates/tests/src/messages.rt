@@ -257,7 +257,11 @@ enum Given {
 /// The one hit that a `get` of `a` shows.
 fn hit(alloc: Global, with_cas: bool) -> Result<Hits, NoMemory> {
     let mut hits = HitWriter::in_buffer(SpareBuffer::new(alloc));
-    push_hit(&mut hits, b"x", if with_cas { Some(u64::MAX) } else { None })?;
+    push_hit(
+        &mut hits,
+        b"x",
+        if with_cas { Some(u64::MAX) } else { None },
+    )?;
     Ok(hits.finish())
 }
 

@@ -63,8 +63,8 @@ pub trait LiveMap {
     /// for, and the one that it has.
     ghost stays: { ℕ → Option ℕ → Option ℕ → Bool };
 
-    /// The other map has what this one has where this one has it, whatever of it is still live: what time that goes
-    /// on and entries that are taken out leave.
+    /// The other map may differ from this one only by entries that expired or were removed: everything else is where it
+    /// was.
     ghost alike: { Self → Self → Type 0 };
 
     /// These items were stored so far, none with a deadline, and no item was forgotten to make room.

@@ -23,7 +23,7 @@ pub struct GroupWorker<P> {
     pub sent: SentList,
     /// The sessions that were opened, by rising numbers, and why each ended.
     pub sessions: SessionList,
-    /// Sessions that were shut at once, as they found no room. It stays at the greatest number.
+    /// How many sessions were shut at once because memory ran out. The count saturates.
     pub unopened: u64,
     /// Answers that no session waited for.
     pub strangers: u64,

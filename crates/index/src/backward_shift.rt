@@ -33,9 +33,9 @@ fn back_to_low(at: usize, low: usize, bits: u32) -> usize
     ((at & mask) + mask + 1 - low) & mask
 }
 
-/// The slot that is looked at first for the key of a slot's place, which is found. If there are slots enough, the
-/// number of a home has the lowest bits of the key's hash, and the slot has these bits: so the nearest slot before it
-/// with them is the home, if one of the slots from the next such slot on is empty.
+/// The home of the key whose place is in this slot. If there are slots enough, a home's number ends in the lowest bits of
+/// the key's hash, and the slot stores these bits. So the home is the nearest slot at or before this one whose number ends
+/// in them, provided that a slot between it and the one before it is empty.
 fn home_in(slots: &Slots, at: usize, hasher: FoldHasher, pool: &Pool) -> usize
     requires at { at < length slots.now.slots }
     requires found { (key : List ℕ)

@@ -92,8 +92,8 @@ fn reinsert(slots: &mut Slots, from: usize, count: usize, hasher: FoldHasher, po
     }
 }
 
-/// Adds a slot. The keys move that had gone over the end, because the last slot was used, and those of the home that is
-/// split whose home is the new slot.
+/// Adds a slot. Two kinds of keys move: those that had wrapped around the end, and those of the split home whose new home is
+/// the added slot.
 fn grow(slots: &mut Slots, hasher: FoldHasher, pool: &Pool)
     requires room { length slots.old.slots < slots.old.room }
     requires gap { used_in slots.old.slots < length slots.old.slots }

@@ -29,7 +29,7 @@ pub(crate) enum Input {
     Waiting,
     /// Something may be there: the stream stands in the list of those to read.
     Listed,
-    /// The same, and the stream is read until nothing is there, as no further event may tell of what is.
+    /// Like `Listed`, but the stream is read until it is empty, because no further event may announce what is there.
     Draining,
     /// The worker wants no input. The stream may stand in the list still.
     Paused { is_listed: bool },
@@ -53,7 +53,7 @@ pub(crate) struct Heard {
     is_readable: bool,
     /// No more comes than what is there.
     has_closed: bool,
-    /// It takes output. One that failed does, so that a write says so.
+    /// The stream is writable. A failed stream counts as writable, so that the next write reports the failure.
     has_room: bool,
 }
 

@@ -44,8 +44,7 @@ pub struct MioPort<R: Drop> {
     polls: Polls,
     // When idle sessions are looked for, if they are ended at all.
     idle_looks: Option<Interval>,
-    // Some streams may wait in the hand: since it was found empty it has woken a poll; or, as a wake may get lost, a poll
-    // brought nothing.
+    // The hand may have streams: it woke a poll since it was last empty, or a poll returned nothing (a wake can get lost).
     has_streams: bool,
     // Some sessions may have been idle for long enough at the last look.
     has_idle: bool,
@@ -155,8 +154,8 @@ impl<R: Wait + Clock + Drop> MioPort<R> {
         PortEvent::Idle
     }
 
-    // Polls the sockets, unless it is too early, or an event is known already, or the end is to be told; now and then all the
-    // same. False if there is no event.
+    // Polls the sockets if no event is known yet and the end isn't to be told, unless it is too early; and now and then even
+    // so. Returns false if there is no event.
     fn look(&mut self, may_wait: bool) -> bool
         ensures { TellsNothing self.old.served self.new.served }
     {

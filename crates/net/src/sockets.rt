@@ -90,7 +90,7 @@ impl NewStream {
     }
 }
 
-/// A stream whose sending half is ended. It can be read to no purpose, or closed.
+/// A stream whose sending half is ended. Its input can only be discarded.
 #[derive(Drop)]
 pub(crate) struct EndedStream {
     stream: TcpStream,

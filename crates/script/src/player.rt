@@ -195,7 +195,7 @@ impl Player {
         PortEvent::Ended
     }
 
-    /// The first event left whose session isn't paused, of a send its next piece. `Idle` if there is none, once
+    /// The first remaining event whose session isn't paused; for a send, its next piece. `Idle` if there is none, once
     /// `Ended` was given, and if out of memory.
     pub(crate) fn next(&mut self) -> PortEvent
         ensures { PlaysNext self.old result self.new }

@@ -188,8 +188,8 @@ const MAX_BUFFER: usize = 1_048_576;
 
 /// The spare buffers of a worker, with one bound on all their bytes. A session's buffer borrows the memory of one while there
 /// are bytes in it, and a `get` one for its hits: so a session that is idle keeps no memory, and one that has much to give
-/// needn't take new memory for it. Each use has a stack of its own; what came back last, which the caches still hold, is lent
-/// first. Contracts see how many bytes all of them have.
+/// needn't take new memory for it. Each use has a stack of its own: the buffer returned last, which is still in the
+/// processor's cache, is lent first. Contracts see how many bytes all of them have.
 #[derive(Drop)]
 pub(crate) struct SpareBuffers {
     stacks: [Vec<Vec<u8>>; USES],

@@ -15,7 +15,7 @@ pub enum OpenFault {
 /// What became of a piece of input that came.
 #[derive(Clone, Copy, Debug, PartialEq, Eq)]
 pub enum Received {
-    /// It stands after the unread bytes, or was dropped if the session has ended itself.
+    /// It was appended to the unread bytes, or dropped because the session has ended.
     Fed,
     /// It doesn't fit, and is held until it does.
     Held,

@@ -29,9 +29,9 @@ pub const MAX_WAITING: usize = 1_048_576;
 /// The bytes of output that are given though more will stand after them.
 const WORTH_GIVING: usize = 16_384;
 
-/// The room at which a held piece is fed, so that its port gives as many bytes before it is paused again.
-/// What may then be left to read, 196,608 bytes, is above the longest message that is kept: a session that is read no further,
-/// since no whole message has come, has the room.
+/// A held piece is fed once this much of the input is free, so that the port reads at least as much before the next pause.
+/// The 196,608 bytes that may still be unread are more than the longest message that is kept, so a session that waits for the
+/// rest of a message always has this room.
 const WORTH_FEEDING: usize = 65_536;
 
 /// What is to be done with a session's output now.
@@ -176,8 +176,8 @@ impl Session {
         }
     }
 
-    /// Reads messages up to the next request, for which there is room among the unsettled ones then, and counts the calls
-    /// of the parser.
+    /// Reads messages up to and including the next request, and counts the calls of the parser. On Ok, `unsettled` has room
+    /// for the request. NoMemory if out of memory: then that message stays unread.
     pub fn next_ask(
         &mut self,
         unsettled: &mut VecDeque<Unsettled>,
@@ -204,8 +204,7 @@ impl Session {
         Ok(None)
     }
 
-    /// Joins the queues of what there may be to do once it was asked: there may be room for the held piece, and it may have
-    /// output, or have finished.
+    /// After a read, queues the session for what it may need: feeding its held piece, sending output, or ending.
     pub fn join_queues(&mut self, session: u64, upkeep: &mut Upkeep)
         ensures { self.new ≡ self.old }
     {

@@ -32,9 +32,9 @@ const FEW_KEYS: usize = 8;
 /// How many tasks there are.
 const TASKS: usize = 5;
 
-/// A queue of sessions by their numbers, with the places where they stood in the table. A session that joins it draws a
-/// ticket, which counts those that ever joined, and is in the queue while its ticket is above the number of those that have
-/// left: who leaves isn't looked up. The number of a closed session is passed over.
+/// A queue of sessions by their numbers, with the places where they stood in the table. A session that joins gets a ticket:
+/// the number of sessions that have joined so far. It is in the queue as long as its ticket is greater than the number that
+/// have left, so leaving needs no lookup. The number of a closed session is passed over.
 #[derive(Drop)]
 pub(crate) struct ReadyQueue {
     pub(crate) sessions: VecDeque<(u64, usize)>,
@@ -63,8 +63,8 @@ impl Ticket {
     }
 }
 
-/// The tickets of a session. To be asked it stands in one of two queues, and has one ticket for both. So it is with being given
-/// output, since the queue of the clients that accepted nothing is gone through slowly.
+/// The tickets of a session. A session with input is in one of two queues, so one ticket does for both. So it is with output:
+/// the second queue is for clients that accepted nothing, and is served slowly.
 #[derive(Clone, Copy)]
 pub(crate) struct Tickets {
     pub(crate) feed: Ticket,

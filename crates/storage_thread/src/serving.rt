@@ -39,8 +39,8 @@ pub struct StorageReport<C: Clock> {
     pub executed: u64,
 }
 
-// Reads ahead for a message that was taken and for those seen after it, unless that was done when one before it was taken. It
-// is handed, and says, for how many of the next messages that is done.
+// Prefetches for the message just taken and for those seen after it. `done` is how many messages an earlier call has already
+// covered, and the result is how many this one has.
 fn read_ahead<S: StorageEngine>(
     done: u64,
     store: &S,

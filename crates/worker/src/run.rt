@@ -39,7 +39,7 @@ pub struct WorkerReport<P> {
     pub worker_end: WorkerEnd,
     /// The sessions that were opened, by rising numbers, and why each ended.
     pub sessions: SessionList,
-    /// Sessions that were shut at once, as they found no room. It stays at the greatest number.
+    /// How many sessions were shut at once because memory ran out. The count saturates.
     pub unopened: u64,
     /// Answers that no session waited for. It stays at the greatest number.
     pub strangers: u64,
@@ -59,8 +59,9 @@ fn take_event<P: Port, R: Clock>(rt: &R, worker: &mut Worker<P>, pauses: &mut Pa
     came
 }
 
-/// Takes what has come, in a few events, and asks at once what they bring: what a session has sent is asked before it is
-/// taken that its peer has gone. If a session can't be asked further, few are taken, and storage doesn't wait for them.
+/// Takes a few events. After each it reads the requests that the event brought, so a session's requests are read before the
+/// event that its client has gone. If a session has requests that can't be read now, few events are taken, and storage
+/// doesn't wait for them.
 fn take_events<P: Port, G: Gate, R: Clock>(
     rt: &R,
     worker: &mut Worker<P>,
@@ -236,7 +237,7 @@ fn has_drained<P: Port>(worker: &mut Worker<P>) -> bool
 /// Serves a port until it has ended and all was answered and given, and then says bye.
 ///
 /// The end has sent nothing yet, and the list of a port that tells it is empty. It may wait: for events, for answers and for a
-/// port that accepts no bytes. If it has posted, it unparks the storage thread, which parks on a word of the signals.
+/// port that accepts no bytes. After it has posted, it wakes the storage thread if that is parked.
 pub fn run_worker<P: Port, G: Gate, R: Wait + Clock>(
     rt: &R,
     alloc: Global,

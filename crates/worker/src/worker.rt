@@ -104,8 +104,7 @@ impl<P: Port> WorkerState<P> {
     }
 }
 
-/// A worker. Contracts see it as its state, of which all parts agree between its steps, with the port's trace too if the
-/// port tells it.
+/// A worker. Between steps all parts of its state agree with each other, and with the port's trace if the port tells one.
 #[derive(Drop)]
 pub(crate) struct Worker<P: Port> {
     pub(crate) state: WorkerState<P>,
@@ -376,8 +375,8 @@ impl<P: Port> Worker<P> {
     }
 }
 
-/// The next answer: one that was seen before, or else one that is found by a look. The contract speaks of the end as it is
-/// once all that was put is flushed, so what was put counts as sent.
+/// The next answer: one that was seen before, or else one that is found by a look. In this contract requests that were put
+/// count as sent.
 fn take_answer(batch: &mut WorkerBatch) -> Option<Answered>
     ensures { MatchOption result (TakesNone (once_flushed batch.old) (once_flushed batch.new))
         (λ a. TakesBack (once_flushed batch.old) (once_flushed batch.new) a) }

@@ -17,12 +17,15 @@ use engine::{Clock, MAX_MOMENT, StorageEngine};
 use exchange::{
     Answered, IdleTurns, Posted, StorageBatch, StorageEnd, StorageSignals, Taken, Waits,
 };
-use proto::{AskedClock, Counts};
+use proto::{AskedClock, Counts, Request};
 use std::sync::Wait;
 use std::time;
 
 /// The workers are told of their answers at least at each so many.
 const ANSWERS_A_FLUSH: u64 = 8;
+
+/// The keys above which a `get` may take long. The workers are told of all answers before it.
+const MANY_KEYS: usize = 64;
 
 /// The idle turns in a row in which it spins before it parks, if the signals say no time: two microseconds.
 const IDLE_TURNS: u32 = 10;
@@ -141,8 +144,22 @@ fn tell(end: &mut StorageBatch, signals: &StorageSignals)
     }
 }
 
-// The next message among those that the last look at the lanes named; the workers are told of each eighth answer. Where none
-// is left, they are told of all answers, and then the lanes are looked at.
+// Whether the workers are told of all answers before this message: at each eighth answer, and before a `get` for many keys.
+fn tells_before(taken: &Taken, executed: u64) -> bool {
+    if executed % ANSWERS_A_FLUSH == 0 {
+        return true;
+    }
+    let Taken::Asked { posted, .. } = taken else {
+        return false;
+    };
+    match &posted.request {
+        Request::Get { keys, .. } => keys.len() > MANY_KEYS,
+        _ => false,
+    }
+}
+
+// The next message among those that the last look at the lanes named; the workers are told of each eighth answer, and of all
+// before a `get` for many keys. If none is left, they are told of all answers, and then the lanes are looked at.
 fn take_next<C: Clock>(
     end: &mut StorageBatch,
     clock: &AskedClock<C>,
@@ -158,7 +175,7 @@ fn take_next<C: Clock>(
         tell(end, signals);
         return end.next(clock);
     };
-    if executed % ANSWERS_A_FLUSH == 0 {
+    if tells_before(&taken, executed) {
         tell(end, signals);
     }
     Some(taken)
@@ -182,8 +199,8 @@ fn pass_turn<R: Wait + time::Clock>(
 
 /// Executes requests until each worker has said bye. The store is empty, for the geometry that the exchange was
 /// made for, and nothing was taken from the end. The clock is asked once for each request. The messages that a look named
-/// are served before it looks again; the workers are told of each eighth answer, and of all before it looks. While
-/// nothing comes, the thread spins, as long as the signals say, and then parks on a word of the signals: who has posted or
+/// are served before it looks again; the workers are told of each eighth answer, and of all before it looks and before a
+/// `get` for more than 64 keys. While nothing comes, the thread spins, as long as the signals say, and then parks on a word of the signals: who has posted or
 /// said bye unparks it. By the hints there it reads ahead.
 pub fn run_storage<R: Wait + time::Clock, S: StorageEngine + Drop, C: Clock>(
     rt: &R,

@@ -122,13 +122,19 @@ inline tell() {                                    /* storage_thread/serving.rt:
 #endif
 }
 
-inline flush_eighth() {                            /* storage_thread/serving.rt: take_next */
+inline tell_before() {                             /* storage_thread/serving.rt: tells_before */
 #ifdef NO_EIGHTH
   skip
 #else
   if
   :: executed == 0 -> tell()
-  :: else
+  :: else ->
+     if
+#ifndef TELLS_EIGHTHS_ALONE
+     :: tell()                                     /* before a `get` for many keys */
+#endif
+     :: skip
+     fi
   fi
 #endif
 }
@@ -144,7 +150,7 @@ inline take_next() {                               /* storage_thread/serving.rt:
   if
   :: named > counts[looked_lane] ->                /* exchange/storage.rt: next_seen */
      d_step { lane = looked_lane; found = true; is_bye = (counts[lane] + 1 == bye[lane]) };
-     flush_eighth()
+     tell_before()
   :: else ->
 #ifndef TELLS_EIGHTHS_ALONE
      tell();

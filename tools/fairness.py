@@ -21,7 +21,7 @@ QUIET = 0.007, 0.015
 ROOM = 3
 TIMES_MEMCACHED = 8
 # A load in which they waited too long is tried so often.
-TRIES = 6
+TRIES = 12
 # How long a load is measured, if its clients ask for the longest answers so many times as long, and how long it runs before.
 SECONDS = 0.7
 TIMES_LONGEST = 3

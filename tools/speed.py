@@ -18,8 +18,11 @@ from served import OnPort, Server, Trouble, free_port
 MIB = 1 << 20
 # The workers of segcached, and the threads of memcached beside them: a storage thread comes on top of the workers.
 THREADS = {1: 1, 2: 2, 3: 4}
-# Both servers may ask for huge pages, as the package does and docs/OPERATIONS.md says.
-TUNABLES = "glibc.malloc.hugetlb=1:glibc.malloc.mmap_threshold=33554432:glibc.malloc.trim_threshold=67108864"
+# Both servers get what the package sets, and docs/OPERATIONS.md explains.
+TUNABLES = (
+    "glibc.malloc.hugetlb=1:glibc.malloc.mmap_threshold=33554432:glibc.malloc.trim_threshold=67108864"
+    ":glibc.cpu.x86_rep_movsb_threshold=1048576"
+)
 # By the bytes of a value, how many segments of 1 MiB segcached has: room for what the load stores, and more.
 SEGMENTS = {100: 128, 1000: 512, 10_000: 512, 100_000: 512}
 KEYS = {100: 100_000, 1000: 100_000, 10_000: 10_000, 100_000: 1000}

@@ -153,7 +153,7 @@ fn lenient<'a>(alloc: Global) -> Arg<'a> {
     flag(
         alloc,
         LENIENT,
-        "Take what many clients send: spaces before a line's end, lines of up to 32768 bytes in place of 2048, delete with a time of 0, and the commands touch, append, prepend, version and verbosity",
+        "Take what many clients send: spaces before a line's end, lines of up to 32768 bytes in place of 2048, delete with a time of 0, and the commands touch, append, prepend, stats, version and verbosity",
     )
 }
 
@@ -173,7 +173,7 @@ fn evict<'a>(alloc: Global) -> Arg<'a> {
         .long(EVICT)
         .value_name("RULE")
         .help(
-            "Which segments are merged or evicted: the oldest, or in turn those whose items were read least",
+            "Which segments are merged or evicted: the oldest, or of the first quarter those whose items were read least",
         )
         .value_parser(ValueParser::Names(&[OLDEST, LEAST_READ]))
         .default_values(&[OLDEST])

@@ -107,8 +107,8 @@ impl Hits {
         Ok(())
     }
 
-    /// The same. An empty output takes the memory of the text, which has its own then, if that isn't more: more answers
-    /// may follow a small one.
+    /// The same. If the output is empty and has no more capacity than the text, the two buffers are swapped instead of copied.
+    /// A larger output buffer is kept, since more answers may follow.
     pub(crate) fn give(&mut self, out: &mut Vec<u8>) -> Result<(), NoMemory>
         ensures ok { OnOk result
             (out.new.items ≡ out.old.items ++ flat_map hit_bytes self.old ++ codes "END" ++ line_end) }

@@ -4,8 +4,8 @@
 /// The longest key in bytes, after memcached's protocol.txt.
 pub const MAX_KEY: usize = 250;
 
-/// The longest line in bytes, with its end. memcached closes a connection if no end has come within 2,048, but not for `get` and
-/// `gets`.
+/// The longest line in bytes, with its end. memcached closes a connection that sends 2,048 bytes without a line end, except in a
+/// `get` or `gets`.
 pub const MAX_LINE: usize = 2048;
 
 /// The longest line of the lenient dialect in bytes, with its end. The longest message that begins with such a line is below

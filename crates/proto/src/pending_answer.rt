@@ -80,8 +80,8 @@ fn show_copied(out: &mut Vec<u8>, reply: &Reply) -> Result<(), NoMemory>
     }
 }
 
-/// Appends the answer that shows a reply. An empty output takes the memory of hits, which have its own then, if that isn't
-/// more: more answers may follow a small one. NoMemory if out of memory: then the output is unchanged.
+/// Appends the answer that shows a reply. The buffer of hits may be swapped with that of an empty output (`Hits::give`).
+/// NoMemory if out of memory: then the output is unchanged.
 pub fn show_reply(reply: &mut Reply, out: &mut Vec<u8>) -> Result<(), NoMemory>
     ensures ok { OnOk result (out.new.items ≡ out.old.items ++ reply_bytes reply.old) }
     ensures err { OnErr result (out.new.items ≡ out.old.items) }
@@ -143,8 +143,8 @@ impl PendingAnswer {
         matches!(self.kind, AnswerKind::Ask | AnswerKind::QuietAsk)
     }
 
-    /// Appends the answer. An empty output takes the memory of hits, which have its own then. NoMemory if out of memory:
-    /// then the output is unchanged. A message without an answer needs no memory.
+    /// Appends the answer. The buffer of hits may be swapped with that of an empty output. NoMemory if out of memory: then the
+    /// output is unchanged. A message without an answer needs no memory.
     pub fn show(&self, reply: Option<&mut Reply>, out: &mut Vec<u8>) -> Result<(), NoMemory>
         requires { is_some reply ≡ is_ask self.now }
         ensures ok { OnOk result (out.new.items ≡ out.old.items ++ answer self.now (option_copied_mut reply.entry)) }

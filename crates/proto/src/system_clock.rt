@@ -10,7 +10,7 @@ use crate::trace::Trace;
 use std::marker::Model;
 use std::time::{self, Instant, SystemTime, UNIX_EPOCH};
 
-/// One answer of a clock. By whom it was given it says for clauses alone: only `SystemClock` makes one with a reading.
+/// One answer of a clock. For contracts only, it knows which reading it came from: only `SystemClock` makes one with a reading.
 #[derive(Drop)]
 pub struct ClockAnswer {
     pub(crate) seconds: u64,

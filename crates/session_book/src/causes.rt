@@ -6,7 +6,7 @@ use thiserror::Error;
 #[derive(Clone, Copy, Debug, PartialEq, Eq, Error)]
 pub enum OpenFault {
     /// The number is 0 or not above every number opened before, or the limit of sessions was reached.
-    #[error("the session's number isn't new")]
+    #[error("the session's number isn't new, or the limit of sessions is reached")]
     Known,
     #[error("out of memory")]
     NoMemory,

@@ -1,7 +1,7 @@
 -- From a group's run over the ports of a script to what the script's bytes make it print.
 use Rattle.std.proofs.Common.{◌≡◌, ℕ, zero, suc, ◌+◌, ◌<◌, nat_lt, inl, inr, ⊎_elim, ◌==◌, Bool, true, false, ◌||◌}
 use Rattle.std.proofs.Common.{cond, List, [], ◌∷◌, ◌++◌, length, map}
-use Rattle.std.proofs.Common.{true≢false, Option, Some, None, All, Contains, refl, sym, ap, subst, ◌∙◌, arith}
+use Rattle.std.proofs.Common.{true≢false, Some, None, All, Contains, refl, sym, ap, subst, ◌∙◌, arith}
 use Rattle.std.specs.Prelude.{⊤, flat_map, IsSome}
 use Rattle.std.specs.List.{list_any}
 use Rattle.std.proofs.lemmas.List.{length-map, get_or-map}
@@ -29,11 +29,10 @@ use Rattle.script.specs.Scripts.{Workers, AreEventsOf}
 use Rattle.script.specs.SequentialSessions.{AreTimed}
 use Rattle.worker_port.specs.declared.events.PortRecord.{PortRecord}
 use Rattle.worker_port.specs.declared.events.PortRecord.TheVariants as was
-use Rattle.worker_port.specs.Ports.{PortTrace, fed, given, is_in}
+use Rattle.worker_port.specs.Ports.{fed, given, is_in}
 use Rattle.worker.specs.Sessions.{cause_of}
 use Rattle.worker.specs.Reports.{IsCauseOf, AreListed, IsSessionAnswered}
 use Rattle.script.specs.declared.clock.RecordingClock.{RecordingClock}
-use Rattle.script.specs.Readings.{readings_in_order}
 use Rattle.script.specs.ClockLeading.{GivesAnswers}
 use Rattle.script.specs.PortEvents.{is_playable}
 use Rattle.script.specs.Records.{opened_sessions}
@@ -185,9 +184,9 @@ answers_after told t (e ∷ history) m = let r = answers_after e.clock e.moment 
 
 -- if a new clock was asked once for each request of a history, its first answers gave the requests their moments
 timed_by : (clock : ClockState) (told after : RecordingClock) (history : List Answered) → told.clock ≡ clock
-    → readings_in_order told.answers ≡ [] → MomentsFrom [] 0 history
-    → GivesAnswers told after → IsTimed (Some (readings_in_order told.answers))
-    (Some (readings_in_order after.answers)) history
+    → told.answers.items ≡ [] → MomentsFrom [] 0 history
+    → GivesAnswers told after → IsTimed (Some told.answers.items)
+    (Some after.answers.items) history
     → AreTimed clock history
 timed_by clock told after history clock_is none legal gives is =
     let seconds : List GivenAnswer → List ℕ = map (λ (a : GivenAnswer). a.seconds) in
@@ -195,9 +194,9 @@ timed_by clock told after history clock_is none legal gives is =
     let answered : List ℕ = seconds (answers_by [] history) in
     let moments_are : moments history ≡ moments_after 0 answered =
     by.2 ∙ ap (λ (l : List GivenAnswer). moments_after 0 (seconds l)) (sym by.1) in
-    let told_are : Some (readings_in_order after.answers) ≡ Some (readings_in_order told.answers ++ answered) = is in
-    let listed_are : readings_in_order after.answers ≡ readings_in_order told.answers ++ answered = cc in
-    let answers_are : readings_in_order after.answers ≡ answered = listed_are ∙ ap (λ (l : List ℕ). l ++ answered) none in
+    let told_are : Some after.answers.items ≡ Some (told.answers.items ++ answered) = is in
+    let listed_are : after.answers.items ≡ told.answers.items ++ answered = cc in
+    let answers_are : after.answers.items ≡ answered = listed_are ∙ ap (λ (l : List ℕ). l ++ answered) none in
     let first_are : answered ≡ first_answers clock gives.count =
     sym answers_are ∙ gives.told ∙ (λ i. none i ++ first_answers (clock_is i) gives.count) in
     let count_is : gives.count ≡ length history =
@@ -213,9 +212,9 @@ timed_by clock told after history clock_is none legal gives is =
 pub replayed : (sizes : Sizes) (d : Dialect) (clock : ClockState) (workers accept fail_give : ℕ) (text : List ℕ) (scripts : Workers)
     → AreEventsOf workers text scripts
     → (exchange : ExchangeId) (ports : List PortState) → ArePorts sizes d exchange accept fail_give scripts ports → (told : RecordingClock)
-    → told.clock ≡ clock → readings_in_order told.answers ≡ []
+    → told.clock ≡ clock → told.answers.items ≡ []
     → (report : GroupReport PortState RecordingClock) → IsRun trace_told PlaysOn
-    (λ (c : RecordingClock). Some (readings_in_order c.answers)) GivesAnswers ⊤ false sizes ports told report
+    (λ (c : RecordingClock). Some c.answers.items) GivesAnswers ⊤ false sizes ports told report
     → ArePlayed report.workers.items
     → IsReplayOf sizes d clock workers fail_give text (lines_from 0 (map events_of report.workers.items))
 replayed sizes d clock workers accept fail_give text scripts read exchange ports ports_are told clock_is none report run played =

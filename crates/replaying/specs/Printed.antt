@@ -14,7 +14,6 @@ use Rattle.exchange.specs.Ends.{ExchangeId}
 use Rattle.worker_port.specs.declared.events.PortRecord.{PortRecord}
 use Rattle.worker_port.specs.Ports.{given}
 use Rattle.script.specs.declared.clock.RecordingClock.{RecordingClock}
-use Rattle.script.specs.Readings.{readings_in_order}
 use Rattle.script.specs.ClockLeading.{GivesAnswers}
 use Rattle.script.specs.PortEvents.{is_playable}
 use Rattle.script.specs.Records.{opened_sessions}
@@ -96,7 +95,7 @@ pub record IsPrinted (sizes : Sizes) (in_place : Bool) (d : Dialect) (eviction :
   pub store : Store
   pub store_is : IsReplayStore sizes in_place d eviction store
   pub told : RecordingClock
-  pub told_is : (told.clock ≡ clock) × (readings_in_order told.answers ≡ [])
+  pub told_is : (told.clock ≡ clock) × (told.answers.items ≡ [])
   pub report : GroupReport PortState RecordingClock
-  pub run : IsRun trace_told PlaysOn (λ c. Some (readings_in_order c.answers)) GivesAnswers ⊤ false sizes ports told report
+  pub run : IsRun trace_told PlaysOn (λ c. Some c.answers.items) GivesAnswers ⊤ false sizes ports told report
   pub printed_is : printed ≡ lines_from 0 (map events_of report.workers.items)

@@ -4,9 +4,9 @@ use Rattle.std.proofs.Crossing.{crosses}
 use Rattle.bytes.proofs.shared.Bytes.TheSendSync as bytes
 use Rattle.std.proofs.alloc.Global.TheSendSync as heap
 use Rattle.atomic_table.proofs.badge.Badge.TheSendSync as badge
+use Rattle.proto.proofs.trace.Trace.TheSendSync as trace
 use Rattle.script.specs.contracts.remaining.Remaining as remaining
 use Rattle.script.specs.contracts.sessions.Sessions as sessions
-use Rattle.script.specs.contracts.records.Records as records
 use Rattle.script.specs.contracts.player.Player as player
 use Rattle.script.specs.contracts.port.ScriptPort as port
 use Rattle.exchange.specs.contracts.told.ToldHistory as told
@@ -18,11 +18,8 @@ remaining_sends = search (crosses, bytes.the_send, heap.the_send, heap.the_sync,
 sessions_sends : IsSend sessions.the_row
 sessions_sends = search (crosses, sendable) depth 60
 
-records_sends : IsSend records.the_row
-records_sends = search (crosses, bytes.the_send, heap.the_send, heap.the_sync, sendable) depth 60
-
 player_sends : IsSend player.the_row
-player_sends = search (crosses, remaining_sends, sessions_sends, records_sends, sendable) depth 60
+player_sends = search (crosses, remaining_sends, sessions_sends, trace.the_send, sendable) depth 60
 
 told_sends : IsSend told.the_row
 told_sends = search (crosses, badge.the_send, sendable) depth 60

@@ -8,11 +8,11 @@ pub mod PortEvents
 pub mod Remaining
 pub mod PortSessions
 pub mod Records
+pub mod Notes
 pub mod Following
 pub mod States
 pub mod Players
 pub mod Execution
 pub mod SequentialSessions
 pub mod SequentialReplays
-pub mod Readings
 pub mod ClockLeading

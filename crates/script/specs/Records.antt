@@ -1,16 +1,9 @@
 -- The list of a port's events.
-use Rattle.std.specs.Prelude.{ℕ, ◌==◌, if◌then◌else◌, List, [], ◌∷◌, ◌++◌, take, filter_map, Option, Some, None}
+use Rattle.std.specs.Prelude.{ℕ, ◌==◌, if◌then◌else◌, List, [], ◌∷◌, take, filter_map, Option, Some, None}
 use Rattle.std.specs.Prelude.{Result, Ok, Err}
 use Rattle.worker_port.specs.declared.events.PortRecord.{PortRecord}
 use Rattle.worker_port.specs.declared.events.PortRecord.TheVariants as was
 use Rattle.worker_port.specs.declared.events.Gone.{Gone}
-use Rattle.script.specs.declared.records.Entries.{Entries}
-use Rattle.script.specs.declared.records.Entries.TheBlock as entries
-
--- the entries, the first one first
-abbrev pub records_of_entries : Entries → List PortRecord
-records_of_entries entries.None = []
-records_of_entries (entries.After' place before entry) = records_of_entries before ++ entry ∷ []
 
 -- a `give` adds the bytes that it accepted, if any, or that the session has gone
 abbrev pub give_records : ℕ → List ℕ → Result ℕ Gone → List PortRecord

@@ -3,12 +3,10 @@
 ghost use Rattle.std.specs.Prelude.{◌≡◌, ℕ, ◌+◌, ◌++◌, [], ◌∷◌, Option, None, ⊤};
 ghost use Rattle.proto.specs.declared.logged_clock.ClockStart.{ClockStart};
 ghost use Rattle.script.specs.Clocks.{clock_at, answer_of};
-ghost use Rattle.script.specs.Readings.{readings_in_order};
 
 use engine::Clock;
-use proto::ClockAnswer;
+use proto::{ClockAnswer, Trace};
 use std::marker::Model;
-use std::snapshot::Snapshot;
 
 /// A clock that goes on by the same number of seconds with each answer.
 #[derive(Clone, Copy)]
@@ -46,39 +44,31 @@ impl ScriptClock {
     }
 }
 
-/// The readings that were given. Only the last one has bytes; those before it are for clauses alone.
-#[derive(Drop)]
-enum Readings {
-    None,
-    After(Snapshot<Readings>, u64),
-}
-
 /// A script's clock that tells the list of its readings. The list takes no memory.
 #[derive(Drop)]
 pub struct RecordingClock {
     clock: ScriptClock,
-    answers: Readings,
+    answers: Trace<u64>,
 }
 
 impl RecordingClock {
     /// It gave no answer yet.
     pub fn new(clock: ScriptClock) -> RecordingClock
         ensures clock { result.clock ≡ clock }
-        ensures answers { readings_in_order result.answers ≡ [] }
+        ensures answers { result.answers.items ≡ [] }
     {
         RecordingClock {
             clock,
-            answers: Readings::None,
+            answers: Trace::new(),
         }
     }
 }
 
 impl Clock for RecordingClock {
     ghost use Rattle.std.specs.Prelude.{Some, None};
-    ghost use Rattle.script.specs.Readings.{readings_in_order};
     ghost use Rattle.script.specs.ClockLeading.{GivesAnswers, gives_none, gives_more};
 
-    ghost told = { λ clock. Some (readings_in_order clock.answers) };
+    ghost told = { λ clock. Some clock.answers.items };
 
     ghost leads_to = { GivesAnswers };
 
@@ -90,8 +80,7 @@ impl Clock for RecordingClock {
 
     /// The next answer of the script's clock.
     fn now(&mut self) -> ClockAnswer
-        ensures told { Some (readings_in_order self.new.answers)
-            ≡ Some (readings_in_order self.old.answers ++ result.seconds ∷ []) }
+        ensures told { Some self.new.answers.items ≡ Some (self.old.answers.items ++ result.seconds ∷ []) }
         ensures start { ◌≡◌ {A = Option ClockStart} None None }
         ensures read { ⊤ }
         ensures leads { GivesAnswers self.old self.new }
@@ -99,7 +88,7 @@ impl Clock for RecordingClock {
         ensures later { (n : ℕ) → answer_of self.new.clock n ≡ answer_of self.old.clock (n + 1) }
     {
         let answer = self.clock.now();
-        self.answers = Readings::After(Snapshot::of(&self.answers), answer);
+        self.answers.note(&[answer]);
         ClockAnswer::given(answer)
     }
 }

@@ -11,14 +11,16 @@ ghost use Rattle.script.specs.PortSessions.{is_closed, is_paused};
 ghost use Rattle.script.specs.Players.{is_left, is_ready, events_left, NoneReady, player_state};
 ghost use Rattle.script.specs.Players.{PlayerGoesOn, IsFirst, IsCausedAt, PlaysNext};
 ghost use Rattle.script.specs.Players.{RecordsClose, EndsSession, Keeps, CountsOffer, GivesAs};
+ghost use Rattle.script.specs.Notes.{entry_of};
 ghost use Rattle.script.specs.States.{CountsGive, SetsPaused, new_player, with_faults};
 ghost use Rattle.worker_port.specs.Ports.{is_open};
 
 use crate::ScriptEvent;
-use crate::records::Records;
+use crate::notes::PortNote;
 use crate::remaining::{Remaining, event_session};
 use crate::sessions::{Sessions, Stage};
 use bytes::Bytes;
+use proto::Trace;
 use std::alloc::{AllocError, Global};
 use std::marker::Model;
 use std::snapshot::Snapshot;
@@ -27,13 +29,12 @@ use worker_port::{Gone, MAX_PIECE, PortEvent, PortRecord};
 /// A script that is played. Contracts see it as `PlayerParts`.
 #[derive(Drop)]
 pub(crate) struct Player {
-    pub(crate) alloc: Global,
     /// The script that was handed in.
     pub(crate) script: Snapshot<Vec<ScriptEvent>>,
     /// The events that weren't played yet, those of closed sessions included.
     pub(crate) events: Remaining,
     pub(crate) sessions: Sessions,
-    pub(crate) records: Records,
+    pub(crate) records: Trace<PortRecord>,
     /// The most bytes that a `give` accepts, or 0.
     pub(crate) accept: usize,
     /// The number of the `give` from now that fails, or 0.
@@ -55,7 +56,7 @@ impl Model for Player {
     ghost invariant = { λ p. IsPlayerConsistent (parts_of p) };
 }
 
-// Whether the event's session is neither gone nor shut.
+/// Whether the event's session is neither gone nor shut.
 fn is_left(sessions: &Sessions, event: &ScriptEvent) -> bool
     ensures { result ≡ is_left sessions.now event.now }
 {
@@ -64,7 +65,7 @@ fn is_left(sessions: &Sessions, event: &ScriptEvent) -> bool
         .is_none_or(|session| !session.stage().is_closed())
 }
 
-// Whether it may be played now.
+/// Whether it may be played now.
 fn is_ready(sessions: &Sessions, event: &ScriptEvent) -> bool
     ensures { result ≡ is_ready sessions.now event.now }
 {
@@ -74,7 +75,7 @@ fn is_ready(sessions: &Sessions, event: &ScriptEvent) -> bool
     }
 }
 
-// Drops the events of closed sessions that stand in front.
+/// Drops the events of closed sessions that stand in front.
 fn drop_closed(sessions: &Sessions, events: &mut Remaining)
     ensures left { events_left sessions.now (in_order events.new) ≡ events_left sessions.now (in_order events.old) }
     ensures aside { NoneReady sessions.now events.old.aside → NoneReady sessions.now events.new.aside }
@@ -88,7 +89,7 @@ fn drop_closed(sessions: &Sessions, events: &mut Remaining)
     }
 }
 
-// Puts aside what stands before the first event that may be played now.
+/// Puts aside what stands before the first event that may be played now.
 fn settle(sessions: &Sessions, events: &mut Remaining)
     requires { NoneReady sessions.now events.old.aside }
     ensures order { in_order events.new ≡ in_order events.old }
@@ -104,13 +105,11 @@ fn settle(sessions: &Sessions, events: &mut Remaining)
     }
 }
 
-// The next piece of a send, and a copy of it for the list of events.
-fn next_piece(bytes: &Bytes) -> Result<(Bytes, Bytes), AllocError>
-    ensures { IfOk result (λ r. (r.0 ≡ take 16384 bytes.now) × (r.1 ≡ take 16384 bytes.now)) }
+/// The next piece of a send.
+fn next_piece(bytes: &Bytes) -> Result<Bytes, AllocError>
+    ensures { IfOk result (λ piece. piece ≡ take 16384 bytes.now) }
 {
-    let piece = bytes.slice(0..bytes.len().min(MAX_PIECE))?;
-    let copy = piece.clone()?;
-    Ok((piece, copy))
+    bytes.slice(0..bytes.len().min(MAX_PIECE))
 }
 
 impl Player {
@@ -119,11 +118,10 @@ impl Player {
     {
         let script = Snapshot::of(&events);
         Player {
-            alloc,
             script,
             events: Remaining::new(events),
             sessions: Sessions::new(alloc),
-            records: Records::new(),
+            records: Trace::new(),
             accept: 0,
             fail_give: 0,
             can_fail: false,
@@ -140,7 +138,7 @@ impl Player {
         self.can_fail |= fail_give > 0;
     }
 
-    // Begins a session.
+    /// Begins a session.
     fn open(&mut self, session: u64) -> PortEvent
         requires { IsFirst self.old (script.Open session) }
         ensures { PlaysNext self.old result self.new }
@@ -152,12 +150,12 @@ impl Player {
         if self.sessions.open(session).is_err() {
             return PortEvent::Idle;
         }
-        self.records.write(PortRecord::Opened(session));
+        self.records.note_as(&PortNote::Opened(session));
         self.events.drop_first();
         PortEvent::Opened(session)
     }
 
-    // Plays the first of the rest, if there is one.
+    /// Plays the first of the rest, if there is one.
     fn play(&mut self) -> PortEvent
         requires running { self.old.ended ≡ false }
         requires first { (e : ScriptEvent) (after : List ScriptEvent) → self.old.events.rest ≡ e ∷ after
@@ -168,15 +166,16 @@ impl Player {
             Some(&ScriptEvent::Open(session)) => self.open(session),
             Some(ScriptEvent::Send(session, bytes)) => {
                 let session = *session;
-                let Ok((piece, copy)) = next_piece(bytes) else {
+                let Ok(piece) = next_piece(bytes) else {
                     return PortEvent::Idle;
                 };
-                self.records.write(PortRecord::Data(session, copy));
+                self.records
+                    .note_as(&PortNote::Data(session, piece.as_slice()));
                 self.events.take_piece();
                 PortEvent::Data(session, piece)
             }
             Some(&ScriptEvent::Gone(session)) => {
-                self.close(session, PortRecord::Gone(session));
+                self.close(session, PortNote::Gone(session));
                 self.events.drop_first();
                 PortEvent::Gone(session)
             }
@@ -184,13 +183,13 @@ impl Player {
         }
     }
 
-    // Ends the port, as no event is left.
+    /// Ends the port, as no event is left.
     fn end(&mut self) -> PortEvent
         requires running { self.old.ended ≡ false }
         requires none { in_order self.old.events ≡ [] }
         ensures { PlaysNext self.old result self.new }
     {
-        self.records.write(PortRecord::Ended);
+        self.records.note_as(&PortNote::Ended);
         self.ended = true;
         PortEvent::Ended
     }
@@ -213,17 +212,17 @@ impl Player {
         }
     }
 
-    /// Ends an open session with this entry. Its events are left no more.
-    pub(crate) fn close(&mut self, session: u64, entry: PortRecord)
-        requires ends { EndsSession session entry }
-        requires caused { IsCausedAt self.old session entry }
+    /// Ends an open session with the note's entry. Its events are left no more.
+    pub(crate) fn close(&mut self, session: u64, note: PortNote<'_>)
+        requires ends { EndsSession session (entry_of note) }
+        requires caused { IsCausedAt self.old session (entry_of note) }
         ensures goes_on { PlayerGoesOn self.old self.new }
         ensures closes { is_open session self.old.records ≡ true
-            → RecordsClose self.old session entry self.new }
+            → RecordsClose self.old session (entry_of note.entry) self.new }
         ensures same { is_open session self.old.records ≡ false → self.new ≡ self.old }
     {
         if self.sessions.change(session, Stage::Closed) {
-            self.records.write(entry);
+            self.records.note_as(&note);
         }
     }
 
@@ -245,22 +244,19 @@ impl Player {
         self.events.bring_back(stay);
     }
 
-    // Keeps bytes that a session is given. False if out of memory, and then nothing changes.
+    /// Keeps bytes that a session is given. False if out of memory, and then nothing changes.
     fn keep(&mut self, session: u64, bytes: &[u8]) -> bool
         ensures kept { result ≡ true → Keeps self.old session bytes.now self.new }
         ensures same { result ≡ false → player_state self.new ≡ player_state self.old }
     {
-        let Ok(copy) = Bytes::copy_from_slice(self.alloc, bytes) else {
-            return false;
-        };
         if self.sessions.accept(session, bytes).is_err() {
             return false;
         }
-        self.records.write(PortRecord::Accepted(session, copy));
+        self.records.note_as(&PortNote::Accepted(session, bytes));
         true
     }
 
-    // Whether this offer is the one that fails.
+    /// Whether this offer is the one that fails.
     fn fails(&mut self, bytes: &[u8]) -> bool
         ensures counts { CountsOffer self.old bytes.now self.new result }
         ensures can_fail { result ≡ true → self.old.can_fail ≡ true }
@@ -281,7 +277,7 @@ impl Player {
             → GivesAs self.old session bytes.now result self.new }
     {
         if self.fails(bytes) {
-            self.close(session, PortRecord::Gone(session));
+            self.close(session, PortNote::Gone(session));
             return Err(Gone);
         }
         let most = if self.accept == 0 {

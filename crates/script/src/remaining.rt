@@ -156,7 +156,7 @@ impl Remaining {
     }
 }
 
-// What is left of a send after its next piece, if anything is.
+/// What is left of a send after its next piece, if anything is.
 fn after_piece(event: ScriptEvent) -> Option<(u64, Bytes)>
     ensures none { result ≡ None → (s : ℕ) (bytes : List ℕ) → event ≡ script.Send s bytes
         → send_after s bytes ≡ [] }

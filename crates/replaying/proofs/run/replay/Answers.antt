@@ -3,7 +3,6 @@ use Rattle.std.specs.Prelude.{map}
 use denote.Exit.{no}
 use denote.Param.Send.{param_send, arg_send}
 use Rattle.script.specs.declared.clock.RecordingClock.{RecordingClock}
-use Rattle.script.specs.Readings.{readings_in_order}
 use Rattle.script.specs.ClockLeading.{GivesAnswers}
 use Rattle.script.specs.States.{trace_told, PlaysOn}
 use Rattle.replaying.specs.Printed.{lines_from, events_of}
@@ -39,8 +38,7 @@ returns-clause-ran g c =
         told_is = (c.new-clock.ensures.clock ∙ c.new-2.ensures, c.new-clock.ensures.answers);
         report = c.in_ok-report.report;
         run = keeping_run trace_told PlaysOn
-            (λ (k : RecordingClock). Some
-            (readings_in_order k.answers)) GivesAnswers _ _ _ c.args.geometry c.in_ok-ports.ports.items c.new-clock.result
+            (λ (k : RecordingClock). Some k.answers.items) GivesAnswers _ _ _ c.args.geometry c.in_ok-ports.ports.items c.new-clock.result
             c.in_ok-report.report
             c.in_ok-report.ensures.run c.in_ok-store.ensures.new.sizes_are c.in_ok-store.ensures.new.keeps;
         printed_is = refl;
@@ -57,8 +55,7 @@ returns-clause-printed g c =
           c.in_ok-exchange.exchange.id c.in_ok-ports.ports.items c.in_ok-ports.ensures c.new-clock.result
           (c.new-clock.ensures.clock ∙ c.new-2.ensures) c.new-clock.ensures.answers c.in_ok-report.report
           (keeping_run trace_told PlaysOn
-          (λ (k : RecordingClock). Some
-          (readings_in_order k.answers)) GivesAnswers _ _ _ c.args.geometry c.in_ok-ports.ports.items c.new-clock.result
+          (λ (k : RecordingClock). Some k.answers.items) GivesAnswers _ _ _ c.args.geometry c.in_ok-ports.ports.items c.new-clock.result
           c.in_ok-report.report
           c.in_ok-report.ensures.run c.in_ok-store.ensures.new.sizes_are c.in_ok-store.ensures.new.keeps)
           all.1,

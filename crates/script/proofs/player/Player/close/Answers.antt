@@ -13,6 +13,7 @@ use Rattle.script.specs.PortSessions.{with_stage}
 use Rattle.script.specs.PortEvents.{plays_from}
 use Rattle.script.specs.Remaining.{in_order}
 use Rattle.script.specs.Records.{opened_by}
+use Rattle.script.specs.Notes.{entry_of}
 use Rattle.script.specs.declared.player.Player.{Player}
 use Rattle.script.specs.Players.{Agrees, events_left, parts_of, IsCausedAt}
 use Rattle.script.specs.Following.{MayGo}
@@ -26,12 +27,12 @@ use Rattle.proto.proofs.CountLemmas.{either_way}
 
 pub invariant_of-self : goal.invariant_of-self
 invariant_of-self c =
-    let p = parts_of c.self.inside in let k = c.self.invariant in let s = c.args.session in let e = c.args.entry in
+    let p = parts_of c.self.inside in let k = c.self.invariant in let s = c.args.session in let e = entry_of c.args.note in
     let caused = subst (λ (q : Player). IsCausedAt q s e) (sym c.self.view_is) c.requires.caused in
-    let ss = p.sessions in let ss' = c.change.new.self in let l = p.records in let l' = c.write.new.self in
+    let ss = p.sessions in let ss' = c.change.new.self in let l = p.records in let l' = c.note_as.new.self.items in
     let a = c.change.ensures.changes c.if-change.true in
     let x = open_entry ss s (sym c.change.ensures.open ∙ c.if-change.true) in
-    let l_is : l' ≡ l ++ e ∷ [] = c.write.ensures in
+    let l_is : l' ≡ l ++ e ∷ [] = c.note_as.ensures in
     let apart : (t : ℕ) → t ≢ s
     → about t e ≡ false = λ t ne. ⊎_elim (λ (q : e ≡ was.Gone s). ap (about t) q ∙ ne_eqb s t (λ r. ne (sym r)))
     (λ (q : e ≡ was.Shut s). ap (about t) q ∙ ne_eqb s t (λ r. ne (sym r))) c.requires.ends in
@@ -99,7 +100,7 @@ returns-then-change-clause-closes c _ =
     let a = c.change.ensures.changes c.if-change.true in
     let x = open_entry ss s (sym c.change.ensures.open ∙ c.if-change.true) in
     rw (← c.self.view_is) (record {
-      records_are = c.write.ensures;
+      records_are = c.note_as.ensures;
       shuts = record {
         left = left_without ss ss' s (in_order p.events)
             (test_here (λ (y : ScriptSessionState). is_closed y.stage) ss ss' s (with_stage Closed) x.0 a x.1)

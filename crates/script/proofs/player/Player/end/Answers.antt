@@ -15,8 +15,8 @@ use Rattle.script.proofs.player.Player.end.Goals as goal
 
 pub invariant_of-self : goal.invariant_of-self
 invariant_of-self c =
-    let p = parts_of c.self.inside in let k = c.self.invariant in let l = p.records in let l' = c.write.new.self in
-    let l_is : l' ≡ l ++ was.Ended ∷ [] = c.write.ensures in
+    let p = parts_of c.self.inside in let k = c.self.invariant in let l = p.records in let l' = c.note_as.new.self.items in
+    let l_is : l' ≡ l ++ was.Ended ∷ [] = c.note_as.ensures in
     record {
       each = λ t. subst (λ (m : List PortRecord). Agrees (session_entry p.sessions t) (port_facts m t)) (sym l_is)
           (subst (Agrees (session_entry p.sessions t)) (sym (elsewhere l was.Ended t refl)) (k.each t));

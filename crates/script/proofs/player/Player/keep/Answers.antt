@@ -1,5 +1,4 @@
-use Rattle.std.proofs.Common.{◌≡◌, ℕ, List, [], ◌∷◌, ◌++◌, refl, sym, ◌∙◌, ap, not, ne_eqb}
-use Rattle.worker_port.specs.declared.events.PortRecord.{PortRecord}
+use Rattle.std.proofs.Common.{◌≡◌, [], ◌∷◌, ◌++◌, refl, sym, ◌∙◌, ap, not, ne_eqb}
 use Rattle.worker_port.specs.declared.events.PortRecord.TheVariants as was
 use Rattle.worker_port.specs.Ports.{is_in}
 use Rattle.worker_port.proofs.Lists.{ended_same}
@@ -16,13 +15,11 @@ use Rattle.script.proofs.player.Player.keep.Goals as goal
 pub invariant_of-self-2 : goal.invariant_of-self-2
 invariant_of-self-2 c =
     let p = parts_of c.self.inside in let k = c.self.invariant in let s = c.args.session in let b = c.args.bytes.now in
-    let ss = p.sessions in let ss' = c.accept.new.self in let l = p.records in let l' = c.write.new.self in
+    let ss = p.sessions in let ss' = c.accept.new.self in let l = p.records in let l' = c.note_as.new.self.items in
     let a = ok_of (AcceptsAt ss s b ss') c.accept.result
     (sym c.is_err.ensures.value ∙ c.if-is_err.false) c.accept.ensures.ok in
     let x = open_entry ss s a.was_open in
-    let entry_is : was.Accepted s c.in-Ok.copy ≡ was.Accepted s b =
-    ap (λ (g : List ℕ). was.Accepted s g) c.in-Ok.ensures in
-    let l_is : l' ≡ l ++ was.Accepted s b ∷ [] = c.write.ensures ∙ ap (λ (e : PortRecord). l ++ e ∷ []) entry_is in
+    let l_is : l' ≡ l ++ was.Accepted s b ∷ [] = c.note_as.ensures in
     record {
       each = each_step ss ss' l l' (was.Accepted s b) s k.each l_is (λ t ne. ne_eqb s t (λ e. ne (sym e))) a.at.others
           (agrees_accepted ss ss' l s b x.0 a.at x.1 (k.each s));

@@ -17,7 +17,7 @@ opens : (c : goal.After-drop_first-2)
     (record (parts_of c.self.inside) {
       events = c.drop_first-2.new.self;
       sessions = c.open.new.self;
-      records = c.write.new.self;
+      records = c.note_as.new.self.items;
     })
     c.args.session (first c).after
 opens c =
@@ -27,7 +27,7 @@ opens c =
     record {
       newer = omega (arith, c.newest.ensures, c.if-session-newest.false);
       sessions_are = added;
-      records_are = c.write.ensures;
+      records_are = c.note_as.ensures;
       ended_is = refl;
       script_is = refl;
       accept_is = refl;

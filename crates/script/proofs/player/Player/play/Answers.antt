@@ -32,13 +32,14 @@ sent c =
 
 sends : (c : After-take_piece)
     → SendsTo (parts_of c.self.inside)
-    (record (parts_of c.self.inside) { events = c.take_piece.new.self; records = c.write.new.self })
+    (record (parts_of c.self.inside) { events = c.take_piece.new.self; records = c.note_as.new.self.items })
     c.in-Some-Send.session
     c.in-Some-Send.bytes (sent c).after
 sends c =
     let s = c.in-Some-Send.session in let bytes = c.in-Some-Send.bytes in let f = sent c in record {
       sessions_are = refl;
-      records_are = c.write.ensures ∙ (λ i. c.self.inside.records ++ was.Data s (c.in-Ok.ensures.1 i) ∷ []);
+      records_are = c.note_as.ensures
+          ∙ ap (λ (b : List ℕ). c.self.inside.records.items ++ was.Data s b ∷ []) (c.as_slice.ensures ∙ c.in-Ok.ensures);
       ended_is = refl;
       script_is = refl;
       accept_is = refl;
@@ -57,8 +58,8 @@ returns-in-Ok c =
     rw (← c.self.view_is) (record {
       goes_on = (refl, refl, refl);
       played = λ tells. subst (λ (b : List ℕ). TellsNext (player_state p) (event.Data s b)
-          (player_state (record p { events = c.take_piece.new.self; records = c.write.new.self })))
-          (sym c.in-Ok.ensures.0)
+          (player_state (record p { events = c.take_piece.new.self; records = c.note_as.new.self.items })))
+          (sym c.in-Ok.ensures)
           (send_told p _ s bytes c.self.invariant (sent c) (sends c) (sent c).running tells);
     })
 
@@ -78,7 +79,7 @@ gone c =
     (subst (λ (x : ScriptEvent). p.events.rest ≡ x ∷ drop 1 p.events.rest) c.in-Some-Gone.field-0-is
     c.in-Some-Gone.ensures) c.requires.first c.requires.running
 
-closed : (c : After-drop_first) → is_open c.in-Some-Gone.session c.self.inside.records ≡ true
+closed : (c : After-drop_first) → is_open c.in-Some-Gone.session c.self.inside.records.items ≡ true
     → RecordsClose (parts_of c.self.inside) c.in-Some-Gone.session (was.Gone c.in-Some-Gone.session)
     (parts_of c.self-in-Some-Gone.inside)
 closed c active = rw (c.self.view_is, c.self-in-Some-Gone.view_is)

@@ -15,7 +15,7 @@ use Rattle.proto.specs.declared.eviction.Eviction.{Eviction}
 use Rattle.segments.specs.Filling.{IsInTime, IsOpenedBy, bucket_in}
 use Rattle.segments.proofs.OpeningLemmas.{opening_later}
 use Rattle.segments.proofs.Places.{changed_segment, cleared_segment}
-use Rattle.segments.proofs.GroupLemmas.{AreUsed, order_used}
+use Rattle.segments.proofs.SeriesLemmas.{AreUsed, order_used}
 use Rattle.segments.proofs.InTimeLemmas.{order_changed, order_same, order_part, part_given, part_cleared}
 use Rattle.segments.specs.Pools.{item_in}
 use Rattle.segcache.specs.Kept.{IsPast}

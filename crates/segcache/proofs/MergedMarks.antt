@@ -28,8 +28,8 @@ use Rattle.index.proofs.RelocatablePlans.{StandsLive, starts_live, plan_relocate
 use Rattle.index.proofs.MoveOrder.{plan_in_turn}
 use Rattle.index.proofs.SlotsAsMap.{stands_from_get}
 use Rattle.segcache.specs.Shown.{current}
-use Rattle.segcache.specs.Kept.{IsTied}
-use Rattle.segcache.specs.Merging.{HasPlan}
+use Rattle.segcache.specs.Invariants.{IsTied}
+use Rattle.segcache.specs.PlannedMerges.{HasPlan}
 use Rattle.segcache.proofs.TiedParts.{current_item, same_mark, held_place, mark_itself, one_place}
 use Rattle.segments.proofs.MarkedPlaces.{kept_mark}
 

@@ -21,10 +21,10 @@ use Rattle.segments.proofs.FilledLemmas.{keeps_append}
 use Rattle.segments.proofs.SeriesLemmas.{AreUsed, has_space, order_used}
 use Rattle.index.specs.Table.{Table}
 use Rattle.segcache.specs.Shown.{shown_entries, entry_at}
-use Rattle.segcache.specs.Kept.{IsPast}
-use Rattle.segcache.specs.Making.{MakesRoom}
-use Rattle.segcache.specs.Making.MakesRoom.{has_room, gives_back, evicts}
-use Rattle.segcache.specs.Forgetting.{keys_forgotten, PlacesItem}
+use Rattle.segcache.specs.Invariants.{IsPast}
+use Rattle.segcache.specs.Allocation.{MakesRoom}
+use Rattle.segcache.specs.Allocation.MakesRoom.{has_room, gives_back, evicts}
+use Rattle.segcache.specs.ForgottenKeys.{keys_forgotten, PlacesItem}
 use Rattle.segcache.specs.Keeping.{AllLast}
 use Rattle.segcache.proofs.OpeningMoments.{in_time_past}
 use Rattle.segcache.proofs.AppendedItems.{in_segment}

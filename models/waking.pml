@@ -22,7 +22,7 @@
 #ifndef WINDOW
 #define WINDOW 3             /* proto/limits.rt: WINDOW */
 #endif
-#define EIGHTH 2             /* storage_thread/serving.rt: ANSWERS_A_FLUSH */
+#define EIGHTH 2             /* storage_thread/serving.rt: ANSWERS_PER_FLUSH */
 #define WAKER_ROOM 1         /* the bytes that fit into a waker of which nobody reads */
 #define NOBODY WORKERS
 
@@ -105,14 +105,14 @@ inline flush_answers() {                           /* exchange/storage.rt: flush
   fi
 }
 
-inline unpark_told() {                             /* storage_thread/serving.rt: tell, execute */
+inline unpark_told() {                             /* storage_thread/serving.rt: tell_workers, execute */
   if
   :: told != NOBODY -> unpark(worker_words[told]); told = NOBODY
   :: else
   fi
 }
 
-inline tell() {                                    /* storage_thread/serving.rt: tell */
+inline tell() {                                    /* storage_thread/serving.rt: tell_workers */
 #ifdef UNPARK_BEFORE_TELL
   if :: waiting -> unpark(worker_words[waiting_lane]) :: else fi;
   flush_answers(); told = NOBODY

@@ -28,7 +28,7 @@ fn post(end: &mut WorkerEnd, request: Request) -> Result<(), Posted> {
 }
 
 fn put(end: &mut WorkerBatch, request: Request) -> Result<(), Posted> {
-    end.put(posted(end.sent() + end.waiting() + 1, request))
+    end.put(posted(end.sent() + end.unflushed() + 1, request))
 }
 
 // The next answer. Where none is left that was seen, sends the requests asked so far, and then looks for answers.
@@ -47,7 +47,7 @@ impl CallingEnd {
     pub(crate) fn counts(&self) -> (u64, u64) {
         match self {
             CallingEnd::Single(end) => (end.sent(), end.outstanding()),
-            CallingEnd::Batch(end) => (end.sent() + end.waiting(), end.outstanding()),
+            CallingEnd::Batch(end) => (end.sent() + end.unflushed(), end.outstanding()),
         }
     }
 
@@ -76,7 +76,7 @@ impl CallingEnd {
                 }
             }
             CallingEnd::Batch(end) => {
-                if !end.said_bye() && end.outstanding() == 0 && end.waiting() == 0 {
+                if !end.said_bye() && end.outstanding() == 0 && end.unflushed() == 0 {
                     end.bye();
                 }
             }

@@ -31,7 +31,7 @@ use Rattle.exchange.specs.declared.messages.LaneMessage.{LaneMessage}
 use Rattle.exchange.specs.declared.messages.LaneMessage.TheVariants.{Ask, Bye, Answer}
 use Rattle.std.specs.Prelude.{option_map}
 use Rattle.exchange.specs.Seats.{open_in, worker_state_in, StateWasTold, WorkerAgrees, StateTakes, worker_view, storage_state_in, StorageAgrees}
-use Rattle.exchange.specs.Seats.{IsWaiting, IsNamed}
+use Rattle.exchange.specs.Seats.{HasUntold, IsNamed}
 use Rattle.exchange.specs.Ends.{WorkerView, WorkerBatchView, max_posts, with_put_sent, IsToldHistory, IsDoneHistory, WasTold, TakesAnswer}
 use Rattle.exchange.specs.Ends.{new_worker_view, new_storage_view, AreNew}
 use Rattle.exchange.specs.Ends.{AreMade}
@@ -447,33 +447,33 @@ agrees_told me me' workers last counts open_now r is = let d : StorageState = st
       holds = r.holds;
     }
 
--- once all is told of nothing waits
-pub told_waits : (d : StorageState) (lane workers : ℕ) → lane < workers → IsWaiting (all_told d) false lane workers
-told_waits d lane workers inside = record {
-  none_waits = λ _. refl;
-  some_waits = λ y. absurd (true≢false (sym y));
+-- once all is told of nothing is untold
+pub all_told_of : (d : StorageState) (lane workers : ℕ) → lane < workers → HasUntold (all_told d) false lane workers
+all_told_of d lane workers inside = record {
+  none_untold = λ _. refl;
+  some_untold = λ y. absurd (true≢false (sym y));
   others = λ j _. refl;
   inside = inside;
 }
 
 -- no worker was told of more answers than there are
-few_told : (d : StorageState) (waiting : Bool) (lane workers : ℕ) → IsWaiting d waiting lane workers → (w : ℕ)
+few_told : (d : StorageState) (untold : Bool) (lane workers : ℕ) → HasUntold d untold lane workers → (w : ℕ)
     → length (worker_share d.told w) ≤ length (worker_share d.history w)
 few_told d false lane workers was w =
-    let e = ap (λ (h : List Answered). length (worker_share h w)) (was.none_waits refl) in omega (arith, e)
+    let e = ap (λ (h : List Answered). length (worker_share h w)) (was.none_untold refl) in omega (arith, e)
 few_told d true lane workers was w = either_way w lane
     (λ same. let few = subst (λ (l : ℕ). length (worker_share d.told l) < length (worker_share d.history l)) (sym same)
-    (was.some_waits refl) in omega (arith, few))
+    (was.some_untold refl) in omega (arith, few))
     (λ other. let e = ap length (was.others w other) in omega (arith, e))
 
 -- with one more answer to the lane
-pub waits_more : (d : StorageState) (a : Answered) (waiting : Bool) (lane workers : ℕ)
-    → IsWaiting d waiting lane workers → a.worker < workers
+pub untold_more : (d : StorageState) (a : Answered) (untold : Bool) (lane workers : ℕ)
+    → HasUntold d untold lane workers → a.worker < workers
     → ((j : ℕ) → j ≢ a.worker → worker_share d.history j ≡ worker_share d.told j)
-    → IsWaiting (with_held_answered d a) true a.worker workers
-waits_more d a waiting lane workers was inside others = record {
-  none_waits = λ y. absurd (true≢false y);
-  some_waits = λ _. let few = few_told d waiting lane workers was a.worker in
+    → HasUntold (with_held_answered d a) true a.worker workers
+untold_more d a untold lane workers was inside others = record {
+  none_untold = λ y. absurd (true≢false y);
+  some_untold = λ _. let few = few_told d untold lane workers was a.worker in
       let long = ap length (share_mine d.history a a.worker refl)
       ∙ length-append (worker_share d.history a.worker) (a ∷ []) in
       omega (arith, few, long);

@@ -16,14 +16,14 @@ use Rattle.exchange.specs.declared.messages.LaneMessage.TheVariants.{Ask, Bye, A
 use Rattle.exchange.specs.declared.rule.WorkerState.{WorkerState}
 use Rattle.exchange.specs.Beginnings.{StartsWith, posted_of}
 use Rattle.proto.specs.History.{asked_posted}
-use Rattle.exchange.specs.Lanes.{bye_at_end, messages, count_of, At, LaneOk}
+use Rattle.exchange.specs.Lanes.{bye_at_end, messages, count_of, SlotContents, IsLaneConsistent}
 use Rattle.exchange.specs.Steps.{holding_slot, placed_count, put_on, all_sent, with_bye, with_history, with_seen_slot_taken}
 use Rattle.exchange.proofs.Lists.{at_below, at_end, at_either, starts_at, starts_more, starts_longer, starts_below, starts_self, starts_trans, take_more}
 use Rattle.exchange.proofs.Lists.{take_front, take_whole}
 use Rattle.std.proofs.lemmas.List.{append-nil}
 
 -- nothing but the slot of the message i changes
-abbrev pub Else : At → At → ℕ → Type 0
+abbrev pub Else : SlotContents → SlotContents → ℕ → Type 0
 Else at at' i = (k : ℕ) → k % WINDOW ≢ i % WINDOW → at' k ≡ at k
 
 -- two numbers of one window have different slots
@@ -148,8 +148,8 @@ asked_told sent mine told asked first = let low : length told ≤ length mine = 
 -- A worker's steps
 
 module _ (c : WorkerState) (mine told : List Answered) (byes : ℕ) (held : maybe.Option LaneMessage) (posted done : ℕ)
-    (at : At)
-    (r : LaneOk c mine told byes held posted done at) where
+    (at : SlotContents)
+    (r : IsLaneConsistent c mine told byes held posted done at) where
   -- the number of messages
   len : ℕ
   len = length (messages c)
@@ -167,9 +167,9 @@ module _ (c : WorkerState) (mine told : List Answered) (byes : ℕ) (held : mayb
   told_below = starts_below mine told r.told_is
 
   -- the worker takes the slot of its next message
-  pub begins : (at' : At) → c.slot_held ≡ 0 → c.said_bye ≡ false → placed_count c < length c.back + WINDOW
+  pub begins : (at' : SlotContents) → c.slot_held ≡ 0 → c.said_bye ≡ false → placed_count c < length c.back + WINDOW
       → Else at at' (placed_count c)
-      → LaneOk (holding_slot c (suc (placed_count c))) mine told byes held posted done at'
+      → IsLaneConsistent (holding_slot c (suc (placed_count c))) mine told byes held posted done at'
   begins at' idle open_ room same = let n : ℕ = placed_count c in let b : ℕ = length c.back in
       let q : ℕ = length c.put in
       let n_is : n ≡ length c.sent + q = refl in
@@ -199,19 +199,19 @@ module _ (c : WorkerState) (mine told : List Answered) (byes : ℕ) (held : mayb
         requests = λ k m le is. let below : k < length (messages c) = at_below (messages c) k m is in
             let le' : length mine + byes + count_of held ≤ k = le in
             same k (apart k n (omega arith) (omega arith)) ∙ r.requests k m le is;
-        waits = λ k p is. let below : k < q = at_below c.put k p is in
+        unsent = λ k p is. let below : k < q = at_below c.put k p is in
             same (length (messages c) + k) (apart (length (messages c) + k) n (omega arith) (omega arith))
-            ∙ r.waits k p is;
+            ∙ r.unsent k p is;
         frees = λ k le near other. let le' : length (messages c) + q ≤ k = le in let near' : k < b + WINDOW = near in
             let ne : suc k ≢ suc n = other in
             same k (apart' n k (omega arith) (omega arith)) ∙ r.frees k le near (λ z. suc-ne-zero k (z ∙ idle));
       }
 
   -- the worker gives the slot back, with a request in it
-  pub puts : (at' : At) (p : Posted) → p.number ≡ suc (placed_count c) → c.slot_held ≡ suc (placed_count c)
+  pub puts : (at' : SlotContents) (p : Posted) → p.number ≡ suc (placed_count c) → c.slot_held ≡ suc (placed_count c)
       → c.said_bye ≡ false
       → at' (placed_count c) ≡ some (some (Some (Ask p))) → Else at at' (placed_count c)
-      → LaneOk (put_on c p) mine told byes held posted done at'
+      → IsLaneConsistent (put_on c p) mine told byes held posted done at'
   puts at' p next mineis open_ here same = let n : ℕ = placed_count c in let b : ℕ = length c.back in
       let q : ℕ = length c.put in
       let n_is : n ≡ length c.sent + q = refl in
@@ -245,9 +245,9 @@ module _ (c : WorkerState) (mine told : List Answered) (byes : ℕ) (held : mayb
         requests = λ k m le is. let below : k < length (messages c) = at_below (messages c) k m is in
             let le' : length mine + byes + count_of held ≤ k = le in
             same k (apart k n (omega arith) (omega arith)) ∙ r.requests k m le is;
-        waits = λ k x is. ⊎_elim (λ (h : get_elem? c.put k ≡ some x). let below : k < q = at_below c.put k x h in
+        unsent = λ k x is. ⊎_elim (λ (h : get_elem? c.put k ≡ some x). let below : k < q = at_below c.put k x h in
             same (length (messages c) + k) (apart (length (messages c) + k) n (omega arith) (omega arith))
-            ∙ r.waits k x h)
+            ∙ r.unsent k x h)
             (λ (h : (k ≡ length c.put) × (p ≡ x)). let k_is : k ≡ q = h.0 in
             let at_is : length (messages c) + k ≡ n = omega arith in
             ap at' at_is ∙ (here ∙ ap (λ (z : Posted). some (some (Some (Ask z)))) h.1)) (at_end c.put p k x is);
@@ -259,7 +259,7 @@ module _ (c : WorkerState) (mine told : List Answered) (byes : ℕ) (held : mayb
       }
 
   -- the store of posted
-  pub sends : c.slot_held ≡ 0 → c.said_bye ≡ false → LaneOk (all_sent c) mine told byes held (placed_count c) done at
+  pub sends : c.slot_held ≡ 0 → c.said_bye ≡ false → IsLaneConsistent (all_sent c) mine told byes held (placed_count c) done at
   sends idle open_ = let n : ℕ = placed_count c in let b : ℕ = length c.back in let q : ℕ = length c.put in
       let n_is : n ≡ length c.sent + q = refl in
       let e : length (messages c) ≡ length c.sent = count c ∙ (omega (arith, ap bye_count open_)) in
@@ -295,19 +295,19 @@ module _ (c : WorkerState) (mine told : List Answered) (byes : ℕ) (held : mayb
         requests = λ k m le y. ⊎_elim (λ (h : get_elem? (messages c) k ≡ some m). r.requests k m le h)
             (λ (h : (j : ℕ) × (k ≡ length (messages c) + j) × (get_elem? (map Ask c.put) j ≡ some m)). let x = ask_of
             c.put h.0 m h.2 in
-            ap at h.1 ∙ (r.waits h.0 x.0 x.2 ∙ ap (λ (z : LaneMessage). some (some (Some z))) x.1))
+            ap at h.1 ∙ (r.unsent h.0 x.0 x.2 ∙ ap (λ (z : LaneMessage). some (some (Some z))) x.1))
             (at_either (messages c) (map Ask c.put) k m
             (subst (λ (l : List LaneMessage). get_elem? l k ≡ some m) is y));
-        waits = λ k p y. absurd (some-ne-none p (sym y));
+        unsent = λ k p y. absurd (some-ne-none p (sym y));
         frees = λ k le near other. let le' : length (messages (all_sent c)) + 0 ≤ k = le in
             r.frees k (let g : length (messages c) + q ≤ k = omega arith in g) near other;
       }
 
   -- the store of posted, with the Bye
-  pub posts_last : (at' : At) → c.put ≡ [] → c.slot_held ≡ suc (placed_count c) → c.said_bye ≡ false
+  pub posts_last : (at' : SlotContents) → c.put ≡ [] → c.slot_held ≡ suc (placed_count c) → c.said_bye ≡ false
       → length c.back ≡ length c.sent
       → at' (placed_count c) ≡ some (some (Some Bye)) → Else at at' (placed_count c)
-      → LaneOk (with_bye c) mine told byes held (suc posted) done at'
+      → IsLaneConsistent (with_bye c) mine told byes held (suc posted) done at'
   posts_last at' none_put mineis open_ all here same = let n : ℕ = placed_count c in let b : ℕ = length c.back in
       let q : ℕ = length c.put in
       let n_is : n ≡ length c.sent + q = refl in let empty_put : q ≡ 0 = ap length none_put in
@@ -350,7 +350,7 @@ module _ (c : WorkerState) (mine told : List Answered) (byes : ℕ) (held : mayb
             (λ (h : (k ≡ length (messages c)) × (Bye ≡ m)). let k_is : k ≡ n = h.0 ∙ e in ap at' k_is
             ∙ (here ∙ ap (λ (z : LaneMessage). some (some (Some z))) h.1))
             (at_end (messages c) Bye k m (subst (λ (l : List LaneMessage). get_elem? l k ≡ some m) is y));
-        waits = λ k p y. absurd (some-ne-none p (sym (subst (λ (l : List Posted). get_elem? l k ≡ some p) none_put y)));
+        unsent = λ k p y. absurd (some-ne-none p (sym (subst (λ (l : List Posted). get_elem? l k ≡ some p) none_put y)));
         frees = λ k le near other. let le' : length (messages (with_bye c)) + q ≤ k = le in
             let near' : k < b + WINDOW = near in
             same k (apart' n k (omega arith) (omega arith))
@@ -359,9 +359,9 @@ module _ (c : WorkerState) (mine told : List Answered) (byes : ℕ) (held : mayb
       }
 
   -- the load of done, where an answer is taken
-  pub takes_back : (at' : At) (a : Answered) → c.slot_held ≡ 0 → get_elem? told (length c.back) ≡ some a
+  pub takes_back : (at' : SlotContents) (a : Answered) → c.slot_held ≡ 0 → get_elem? told (length c.back) ≡ some a
       → Else at at' (length c.back)
-      → LaneOk (with_seen_slot_taken c a) mine told byes held posted done at'
+      → IsLaneConsistent (with_seen_slot_taken c a) mine told byes held posted done at'
   takes_back at' a idle is same = let b : ℕ = length c.back in let q : ℕ = length c.put in let all = count c in
       let high : length mine ≤ length c.sent = r.answered in
       let low : b < length mine = at_below mine b a (starts_at mine told b a r.told_is is) in
@@ -392,9 +392,9 @@ module _ (c : WorkerState) (mine told : List Answered) (byes : ℕ) (held : mayb
         requests = λ k m le y. let below : k < length (messages c) = at_below (messages c) k m y in
             let le' : length mine + byes + count_of held ≤ k = le in
             same k (apart' b k (omega arith) (omega arith)) ∙ r.requests k m le y;
-        waits = λ k p y. let below : k < q = at_below c.put k p y in
+        unsent = λ k p y. let below : k < q = at_below c.put k p y in
             same (length (messages c) + k) (apart' b (length (messages c) + k) (omega arith) (omega arith))
-            ∙ r.waits k p y;
+            ∙ r.unsent k p y;
         frees = λ k le near other. let le' : length (messages c) + q ≤ k = le in
             let near' : k < length (c.back ++ a ∷ []) + WINDOW = near in
             let ne : suc k ≢ suc (b + WINDOW) = other in
@@ -403,7 +403,7 @@ module _ (c : WorkerState) (mine told : List Answered) (byes : ℕ) (held : mayb
       }
 
   -- the load of done, where nothing is taken
-  pub is_told : (g : List Answered) (n : ℕ) → LaneOk (with_history c n g) mine told byes held posted done at
+  pub is_told : (g : List Answered) (n : ℕ) → IsLaneConsistent (with_history c n g) mine told byes held posted done at
   is_told g n = record {
     posted_is = r.posted_is;
     done_is = r.done_is;
@@ -421,13 +421,13 @@ module _ (c : WorkerState) (mine told : List Answered) (byes : ℕ) (held : mayb
     within = r.within;
     answers = r.answers;
     requests = r.requests;
-    waits = r.waits;
+    unsent = r.unsent;
     frees = r.frees;
   }
 
   -- the worker gives back the slot of i, empty
-  pub returns_slot : (at' : At) (i : ℕ) → c.slot_held ≡ suc i → at' i ≡ some (some None) → Else at at' i
-      → LaneOk (holding_slot c 0) mine told byes held posted done at'
+  pub returns_slot : (at' : SlotContents) (i : ℕ) → c.slot_held ≡ suc i → at' i ≡ some (some None) → Else at at' i
+      → IsLaneConsistent (holding_slot c 0) mine told byes held posted done at'
   returns_slot at' i slot_held here same = let b : ℕ = length c.back in let q : ℕ = length c.put in let all = count c in
       let high : length mine ≤ length c.sent = r.answered in let low : b ≤ length mine = back_below in
       let hand' : c.slot_held ≡ suc i = slot_held in
@@ -453,9 +453,9 @@ module _ (c : WorkerState) (mine told : List Answered) (byes : ℕ) (held : mayb
         requests = λ k m le y. let below : k < length (messages c) = at_below (messages c) k m y in
             let le' : length mine + byes + count_of held ≤ k = le in
             same k (apart k i (omega arith) (omega arith)) ∙ r.requests k m le y;
-        waits = λ k p y. let below : k < q = at_below c.put k p y in
+        unsent = λ k p y. let below : k < q = at_below c.put k p y in
             same (length (messages c) + k) (apart (length (messages c) + k) i (omega arith) (omega arith))
-            ∙ r.waits k p y;
+            ∙ r.unsent k p y;
         frees = λ k le near _. let le' : length (messages c) + q ≤ k = le in let near' : k < b + WINDOW = near in
             dite (ℕ_discrete k i) (λ e. ap at' e ∙ here)
             (λ ne. same k (λ e. ne (window k i (omega arith) (omega arith) e))
@@ -473,9 +473,9 @@ module _ (c : WorkerState) (mine told : List Answered) (byes : ℕ) (held : mayb
   -- Storage's steps on the lane
 
   -- storage takes the next message out
-  pub opens : (at' : At) (x : LaneMessage) → held ≡ none → get_elem? (messages c) (length mine + byes) ≡ some x
+  pub opens : (at' : SlotContents) (x : LaneMessage) → held ≡ none → get_elem? (messages c) (length mine + byes) ≡ some x
       → Else at at' (length mine + byes)
-      → LaneOk c mine told byes (some x) posted done at'
+      → IsLaneConsistent c mine told byes (some x) posted done at'
   opens at' x none_ is same = let t : ℕ = length mine + byes in let b : ℕ = length c.back in
       let low : b ≤ length mine = back_below in
       let below_ : t < length (messages c) = at_below (messages c) t x is in
@@ -500,18 +500,18 @@ module _ (c : WorkerState) (mine told : List Answered) (byes : ℕ) (held : mayb
         requests = λ k m le y. let below : k < length (messages c) = at_below (messages c) k m y in
             let le' : length mine + byes + 1 ≤ k = le in same k (apart' t k (omega arith) (omega arith))
             ∙ r.requests k m (let g : length mine + byes + count_of held ≤ k = omega arith in g) y;
-        waits = λ k p y. let below : k < length c.put = at_below c.put k p y in
+        unsent = λ k p y. let below : k < length c.put = at_below c.put k p y in
             same (length (messages c) + k) (apart' t (length (messages c) + k) (omega arith) (omega arith))
-            ∙ r.waits k p y;
+            ∙ r.unsent k p y;
         frees = λ k le near other. let le' : length (messages c) + length c.put ≤ k = le in
             let near' : k < b + WINDOW = near in same k (apart' t k (omega arith) (omega arith)) ∙ r.frees k le near other;
       }
 
   -- the store of done, with an answer
-  pub replies : (at' : At) (p : Posted) (a : Answered) → held ≡ some (Ask p) → posted_of a ≡ p
+  pub replies : (at' : SlotContents) (p : Posted) (a : Answered) → held ≡ some (Ask p) → posted_of a ≡ p
       → at' (length mine + byes) ≡ some (some (Some (Answer a)))
       → Else at at' (length mine + byes)
-      → LaneOk c (mine ++ a ∷ []) told byes none posted done at'
+      → IsLaneConsistent c (mine ++ a ∷ []) told byes none posted done at'
   replies at' p a held_ for here same = let t : ℕ = length mine + byes in let n : ℕ = length mine in
       let b : ℕ = length c.back in
       let low : b ≤ n = back_below in
@@ -554,15 +554,15 @@ module _ (c : WorkerState) (mine told : List Answered) (byes : ℕ) (held : mayb
             let le' : length (mine ++ a ∷ []) + byes + 0 ≤ k = le in
             same k (apart' t k (omega arith) (omega arith))
             ∙ r.requests k m (let g : length mine + byes + count_of held ≤ k = omega arith in g) y;
-        waits = λ k p y. let below : k < length c.put = at_below c.put k p y in
+        unsent = λ k p y. let below : k < length c.put = at_below c.put k p y in
             same (length (messages c) + k) (apart' t (length (messages c) + k) (omega arith) (omega arith))
-            ∙ r.waits k p y;
+            ∙ r.unsent k p y;
         frees = λ k le near other. let le' : length (messages c) + length c.put ≤ k = le in
             let near' : k < b + WINDOW = near in same k (apart' t k (omega arith) (omega arith)) ∙ r.frees k le near other;
       }
 
   -- the store of done, for all answers of the lane
-  pub tells : LaneOk c mine mine byes held posted (length mine + byes) at
+  pub tells : IsLaneConsistent c mine mine byes held posted (length mine + byes) at
   tells = let low : length told ≤ length mine = told_below in record {
     posted_is = r.posted_is;
     done_is = refl;
@@ -586,13 +586,13 @@ module _ (c : WorkerState) (mine told : List Answered) (byes : ℕ) (held : mayb
     within = r.within;
     answers = r.answers;
     requests = r.requests;
-    waits = r.waits;
+    unsent = r.unsent;
     frees = r.frees;
   }
 
   -- the store of done, after a Bye
-  pub settles_bye : (at' : At) → held ≡ some Bye → Else at at' (length mine + byes)
-      → LaneOk c mine told (suc byes) none posted (suc (length mine + byes)) at'
+  pub settles_bye : (at' : SlotContents) → held ≡ some Bye → Else at at' (length mine + byes)
+      → IsLaneConsistent c mine told (suc byes) none posted (suc (length mine + byes)) at'
   settles_bye at' held_ same = let t : ℕ = length mine + byes in let n : ℕ = length mine in let b : ℕ = length c.back in
       let low : b ≤ n = back_below in
       let item : get_elem? (messages c) t ≡ some Bye = r.open_is Bye held_ in
@@ -629,9 +629,9 @@ module _ (c : WorkerState) (mine told : List Answered) (byes : ℕ) (held : mayb
             let le' : length mine + suc byes + 0 ≤ k = le in
             same k (apart' t k (omega arith) (omega arith))
             ∙ r.requests k m (let g : length mine + byes + count_of held ≤ k = omega arith in g) y;
-        waits = λ k p y. let below : k < length c.put = at_below c.put k p y in
+        unsent = λ k p y. let below : k < length c.put = at_below c.put k p y in
             same (length (messages c) + k) (apart' t (length (messages c) + k) (omega arith) (omega arith))
-            ∙ r.waits k p y;
+            ∙ r.unsent k p y;
         frees = λ k le near other. let le' : length (messages c) + length c.put ≤ k = le in
             let near' : k < b + WINDOW = near in same k (apart' t k (omega arith) (omega arith)) ∙ r.frees k le near other;
       }

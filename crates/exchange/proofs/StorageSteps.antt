@@ -25,7 +25,8 @@ use Rattle.exchange.specs.declared.rule.LaneView.TheVariants.{Nobody, Worker, St
 use Rattle.exchange.specs.Beginnings.{StartsWith, posted_of}
 use Rattle.proto.proofs.HistoryLemmas.{legal_none}
 use Rattle.proto.specs.History.{worker_share, LegalBy}
-use Rattle.exchange.specs.Lanes.{Homes, SeatState, messages, open_at, count_of, lane_slot, at_home, LaneIs, Agree, Fits, first_worker_state}
+use Rattle.exchange.specs.Lanes.{UnheldSlots, SeatState, messages, open_at, count_of, lane_slot, at_home, IsLaneOfTable, EndsAgree}
+use Rattle.exchange.specs.Lanes.{IsViewOf, first_worker_state}
 use Rattle.exchange.specs.Lanes.{storage_state_with, LanesHold, opening_view, worker_seated}
 use Rattle.proto.specs.Counts.{times}
 use Rattle.exchange.specs.Ends.{settled_count}
@@ -67,8 +68,8 @@ module _ (key : LaneKey) where
 
   -- the lane of a worker, by what storage knows
   lane_at : (s : St) (r : LanesHold key s) (d : StorageState) (w : ℕ) → r.storage_state ≡ d → w < key.workers
-      → LaneIs s.words s.homes d (r.states w) w
-  lane_at s r d w is inside = subst (λ (z : StorageState). LaneIs s.words s.homes z (r.states w) w) is
+      → IsLaneOfTable s.words s.homes d (r.states w) w
+  lane_at s r d w is inside = subst (λ (z : StorageState). IsLaneOfTable s.words s.homes z (r.states w) w) is
       (r.each_lane w inside)
 
   -- the history is legal
@@ -84,13 +85,13 @@ module _ (key : LaneKey) where
   first_of s r d is = subst (λ (z : StorageState). StartsWith z.history z.told) is r.told_first
 
   -- what the worker took back is no more than what was answered
-  back_low : (words : List ℕ) (homes : Homes) (c : WorkerState) (d : StorageState) (w : ℕ) → LaneIs words homes d c w
+  back_low : (words : List ℕ) (homes : UnheldSlots) (c : WorkerState) (d : StorageState) (w : ℕ) → IsLaneOfTable words homes d c w
       → length c.back ≤ length (worker_share d.history w)
   back_low words homes c d w lane = starts_below (worker_share d.history w) c.back
       (starts_trans (worker_share d.history w) (worker_share d.told w) c.back lane.told_is lane.known)
 
   -- no Bye was taken of a lane whose next message is a request
-  next_number : (words : List ℕ) (homes : Homes) (c : WorkerState) (d : StorageState) (w : ℕ) → LaneIs words homes d c w
+  next_number : (words : List ℕ) (homes : UnheldSlots) (c : WorkerState) (d : StorageState) (w : ℕ) → IsLaneOfTable words homes d c w
       → (p : Posted)
       → get_elem? c.sent (settled_count d.history d.byes w) ≡ some p → p.number ≡ suc (length (worker_share d.history w))
   next_number words homes c d w lane p at = let byes : ℕ = times w d.byes in
@@ -104,7 +105,7 @@ module _ (key : LaneKey) where
       ∙ (let g : suc (n + byes) ≡ suc n = omega arith in g)
 
   -- no Bye was taken of a lane that has a further message
-  no_bye : (words : List ℕ) (homes : Homes) (c : WorkerState) (d : StorageState) (w : ℕ) → LaneIs words homes d c w
+  no_bye : (words : List ℕ) (homes : UnheldSlots) (c : WorkerState) (d : StorageState) (w : ℕ) → IsLaneOfTable words homes d c w
       → (m : LaneMessage)
       → SentAt c.sent c.said_bye (settled_count d.history d.byes w) m → times w d.byes ≡ 0
   no_bye words homes c d w lane m at = let byes : ℕ = times w d.byes in let n : ℕ = length (worker_share d.history w) in
@@ -165,7 +166,7 @@ module _ (key : LaneKey) where
       let next = at_some (messages c) t (let h : t < length (messages c) = omega arith in h) in
       let y : LaneMessage = next.0 in let sent = sent_at c.sent c.said_bye t y next.1 in
       let d' : StorageState = with_message_held d w y in
-      let homes' : Homes = set s.homes (lane_slot w t) none in (
+      let homes' : UnheldSlots = set s.homes (lane_slot w t) none in (
         Storage d',
         takes (lane_slot w t) (Some y),
         lane.requests t y (let h : length (worker_share d.history w) + times w d.byes + count_of (open_at d.holding w)
@@ -211,7 +212,7 @@ module _ (key : LaneKey) where
       let d' : StorageState = with_held_answered d a in let v : Option LaneMessage = Some (Answer a) in
       let near : lane_slot w t < length s.homes =
       subst (λ (z : ℕ). lane_slot w t < z) (sym deep) (slot_below key.workers w t inside) in
-      let homes' : Homes = set s.homes (lane_slot w t) (some v) in let words' : List ℕ = set s.words i x in
+      let homes' : UnheldSlots = set s.homes (lane_slot w t) (some v) in let words' : List ℕ = set s.words i x in
       let same_terms : d.terms ≡ key.terms = ap (λ (z : StorageState). z.terms) (sym f.1) ∙ r.same_terms in
       let open_is : open_at d.holding w ≡ some (Ask p) = ap (λ z. open_at z w) held ∙ open_mine w (Ask p) in (
         Storage d',
@@ -288,7 +289,7 @@ module _ (key : LaneKey) where
       let lane = lane_at s r d w f.1 inside in let wide = r.wide in let deep = r.deep in
       let c : WorkerState = r.states w in
       let d' : StorageState = bye_settled d w in let v : Option LaneMessage = None in
-      let homes' : Homes = set s.homes (lane_slot w t) (some v) in let words' : List ℕ = set s.words i (suc t) in
+      let homes' : UnheldSlots = set s.homes (lane_slot w t) (some v) in let words' : List ℕ = set s.words i (suc t) in
       let open_is : open_at d.holding w ≡ some Bye = ap (λ z. open_at z w) held ∙ open_mine w Bye in (
         Storage d',
         gives,
@@ -345,14 +346,14 @@ module _ (key : LaneKey) where
             (subst (λ (z : StorageState). StartsWith z.told (r.states j).seen) is' was.0, was.1, was.2);
         each_view = λ j u e. ⊎_elim
             (λ (h : get_elem? (set s.views id w) j ≡ some u). ⊎_elim
-            (λ (x : (j ≡ id) × (w ≡ u)). subst (λ (z : ℕ × LaneView). Fits key r.states d' z.0 z.1)
+            (λ (x : (j ≡ id) × (w ≡ u)). subst (λ (z : ℕ × LaneView). IsViewOf key r.states d' z.0 z.1)
             (λ i. (sym x.0 i, x.1 i)) (f.0, refl))
             (λ (x : (j ≢ id) × (get_elem? s.views j ≡ some u)). fits_later key r.states d d' j u
             (λ e. x.0 (e ∙ sym f.0)) (let g : d.made ≤ suc d.made = omega arith in g) (starts_self d.told)
-            (subst (λ (z : StorageState). Fits key r.states z j u) is' (r.each_view j u x.1)))
+            (subst (λ (z : StorageState). IsViewOf key r.states z j u) is' (r.each_view j u x.1)))
             (at_set s.views id j w u h))
             (λ (h : (j ≡ length (set s.views id w)) × (Worker c ≡ u)).
-            subst (λ (z : LaneView). Fits key r.states d' j z) h.1 (
+            subst (λ (z : LaneView). IsViewOf key r.states d' j z) h.1 (
               (let g : d.made < suc d.made = omega arith in g),
               r.later d.made (subst (λ (z : StorageState). z.made ≤ d.made) (sym is') (le_refl d.made))
                   ∙ ap (λ z. first_worker_state z d.made) (sym same_terms),
@@ -385,14 +386,14 @@ module _ (key : LaneKey) where
       let same : r.storage_state ≡ d = f.1 in
       let there' : get_elem? s.views other ≡ some (Worker c) = sym (set_else s.views id other both apart) ∙ there in
       let g = r.each_view other (Worker c) there' in
-      let lane = subst (λ (z : WorkerState). LaneIs s.words s.homes d z c.worker) g.1
+      let lane = subst (λ (z : WorkerState). IsLaneOfTable s.words s.homes d z c.worker) g.1
       (lane_at s r d c.worker same g.2) in
       let seen = subst (λ (z : WorkerState). StartsWith d.history z.seen) g.1
       (starts_trans d.history d.told (r.states c.worker).seen (first_of s r d same)
       (subst (λ (z : StorageState). StartsWith z.told (r.states c.worker).seen) same (r.each_seen c.worker g.2).0)) in
       let known = subst (λ (z : WorkerState). z.terms ≡ key.terms) g.1 (r.each_seen c.worker g.2).1 in
       let same_terms : d.terms ≡ key.terms = ap (λ (z : StorageState). z.terms) (sym same) ∙ r.same_terms in
-      let agree : Agree d c = record {
+      let agree : EndsAgree d c = record {
         legal = subst (λ z. LegalBy z d.history) (sym same_terms) (legal_of s r d same);
         same_terms = known ∙ sym same_terms;
         told = seen;
@@ -404,9 +405,9 @@ module _ (key : LaneKey) where
         all_back = lane.all_back;
         leaves = lane.leaves;
       } in
-      let at_w : (j : ℕ) (x : LaneView) → get_elem? vs j ≡ some x → Fits key r.states r.storage_state j x =
+      let at_w : (j : ℕ) (x : LaneView) → get_elem? vs j ≡ some x → IsViewOf key r.states r.storage_state j x =
       λ j x e. ⊎_elim
-      (λ (h : (j ≡ id) × (both ≡ x)). subst (λ (z : ℕ × LaneView). Fits key r.states r.storage_state z.0 z.1)
+      (λ (h : (j ≡ id) × (both ≡ x)). subst (λ (z : ℕ × LaneView). IsViewOf key r.states r.storage_state z.0 z.1)
       (λ i. (sym h.0 i, h.1 i)) (f.0, same, agree))
       (λ (h : (j ≢ id) × (get_elem? s.views j ≡ some x)). r.each_view j x h.1) (at_set s.views id j both x e) in
       record {
@@ -421,7 +422,7 @@ module _ (key : LaneKey) where
         each_lane = r.each_lane;
         each_seen = r.each_seen;
         each_view = λ j x e. ⊎_elim
-            (λ (h : (j ≡ other) × (Nobody ≡ x)). subst (λ (z : LaneView). Fits key r.states r.storage_state j z) h.1 tt)
+            (λ (h : (j ≡ other) × (Nobody ≡ x)). subst (λ (z : LaneView). IsViewOf key r.states r.storage_state j z) h.1 tt)
             (λ (h : (j ≢ other) × (get_elem? vs j ≡ some x)). at_w j x h.1) (at_set vs other j Nobody x e);
         apart = apart_set vs other (Worker c) Nobody there (λ n e. absurd (some-ne-none n (sym e)))
             (apart_set s.views id (Storage d) both at (λ n e. absurd (some-ne-none n (sym e))) r.apart);
@@ -429,8 +430,8 @@ module _ (key : LaneKey) where
         later = r.later;
       })
     where
-      held_is : (words : List ℕ) (homes : Homes) (c : WorkerState) (d : StorageState) (p : Posted)
-          → LaneIs words homes d c c.worker
+      held_is : (words : List ℕ) (homes : UnheldSlots) (c : WorkerState) (d : StorageState) (p : Posted)
+          → IsLaneOfTable words homes d c c.worker
           → d.holding ≡ Some (c.worker, Ask p) → get_elem? c.sent (length (worker_share d.history c.worker)) ≡ some p
       held_is words homes c d p lane e = let open_is : open_at d.holding c.worker ≡ some (Ask p) =
           ap (λ z. open_at z c.worker) e
@@ -466,7 +467,7 @@ module _ (key : LaneKey) where
               each_lane = r.each_lane;
               each_seen = r.each_seen;
               each_view = λ j u e. ⊎_elim
-                  (λ (x : (j ≡ id) × (w ≡ u)). subst (λ (z : ℕ × LaneView). Fits key r.states r.storage_state z.0 z.1)
+                  (λ (x : (j ≡ id) × (w ≡ u)). subst (λ (z : ℕ × LaneView). IsViewOf key r.states r.storage_state z.0 z.1)
                   (λ i. (sym x.0 i, x.1 i)) (f.0, f.1))
                   (λ (x : (j ≢ id) × (get_elem? s.views j ≡ some u)). r.each_view j u x.1) (at_set s.views id j w u e);
               apart = apart_set s.views id (Comparing d c) w at' (λ n e. absurd (some-ne-none n (sym e))) r.apart;
@@ -475,7 +476,7 @@ module _ (key : LaneKey) where
             },
         λ d₂ c₂ is₂. let e : Comparing d c ≡ Comparing d₂ c₂ = sym is
             ∙ is₂ in (
-              subst (λ (z : StorageState × WorkerState). Agree z.0 z.1)
+              subst (λ (z : StorageState × WorkerState). EndsAgree z.0 z.1)
                   (λ j. (storage_state_or d (e j), worker_state_or c (e j))) f.2,
               λ j.
                   (Storage (storage_state_or d (e j)), me.1),
@@ -521,7 +522,7 @@ module _ (key : LaneKey) where
       behind = omega arith;
       open_is = λ m y. absurd (some-ne-none m (sym y));
       slot_held_is = λ (y : 0 < 0). absurd (omega arith);
-      waits = λ k p y. absurd (some-ne-none p (sym y));
+      unsent = λ k p y. absurd (some-ne-none p (sym y));
       within = omega arith;
       answers = λ k a _ y. absurd (some-ne-none a (sym y));
       requests = λ k m _ y. absurd (some-ne-none m (sym y));
@@ -535,8 +536,8 @@ module _ (key : LaneKey) where
   }
     where
       first : (j : ℕ) (v : LaneView) → get_elem? (opening_view key ∷ []) j ≡ some v
-          → Fits key (first_worker_state key.terms) (storage_state_with key.terms 0) j v
-      first zero v e = subst (λ (z : LaneView). Fits key (first_worker_state key.terms)
+          → IsViewOf key (first_worker_state key.terms) (storage_state_with key.terms 0) j v
+      first zero v e = subst (λ (z : LaneView). IsViewOf key (first_worker_state key.terms)
           (storage_state_with key.terms 0) 0 z)
           (some-injective (opening_view key) v e) (refl, refl)
       first (suc j) v e = absurd (some-ne-none v (sym e))

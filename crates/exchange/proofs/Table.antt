@@ -19,7 +19,7 @@ use Rattle.exchange.specs.declared.rule.LaneView.{LaneView}
 use Rattle.exchange.specs.declared.rule.LaneView.TheVariants.{Nobody, Worker, Storage, Comparing, Told, TwoTold, Checking}
 use Rattle.exchange.specs.Beginnings.{StartsWith}
 use Rattle.proto.specs.History.{worker_share, LegalBy}
-use Rattle.exchange.specs.Lanes.{Homes, messages, open_at, lane_slot, At, at_home, LaneOk, LaneIs, Fits, LanesHold}
+use Rattle.exchange.specs.Lanes.{UnheldSlots, messages, open_at, lane_slot, SlotContents, at_home, IsLaneConsistent, IsLaneOfTable, IsViewOf, LanesHold}
 use Rattle.exchange.specs.Lanes.{worker_seated, AreApart}
 use Rattle.proto.specs.Counts.{times}
 use Rattle.exchange.proofs.Lists.{at_end, starts_trans}
@@ -72,7 +72,7 @@ slots_apart w j k i other e = let a = below_window k in let b = below_window i i
 pub slots_of_one : (w k i : ℕ) → k % WINDOW ≢ i % WINDOW → lane_slot w k ≢ lane_slot w i
 slots_of_one w k i other e = let e' : WINDOW * w + k % WINDOW ≡ WINDOW * w + i % WINDOW = e in other (omega arith)
 
-module _ (homes : Homes) (w i : ℕ) (v : maybe.Option (Option LaneMessage)) where
+module _ (homes : UnheldSlots) (w i : ℕ) (v : maybe.Option (Option LaneMessage)) where
   -- another message's slot stays
   pub slot_else : Else (at_home homes w) (at_home (set homes (lane_slot w i) v) w) i
   slot_else k other = set_else homes (lane_slot w i) (lane_slot w k) v (slots_of_one w k i other)
@@ -87,12 +87,12 @@ module _ (homes : Homes) (w i : ℕ) (v : maybe.Option (Option LaneMessage)) whe
 
 -- a lane over equal posts_last
 pub lane_same : (c : WorkerState) (mine mine' told told' : List Answered) (byes gone' : ℕ)
-    (held held' : maybe.Option LaneMessage) (p p' d d' : ℕ) (at at' : At)
+    (held held' : maybe.Option LaneMessage) (p p' d d' : ℕ) (at at' : SlotContents)
     → mine' ≡ mine → told' ≡ told → gone' ≡ byes → held' ≡ held → p' ≡ p → d' ≡ d → ((k : ℕ) → at' k ≡ at k)
-    → LaneOk c mine told byes held p d at → LaneOk c mine' told' gone' held' p' d' at'
+    → IsLaneConsistent c mine told byes held p d at → IsLaneConsistent c mine' told' gone' held' p' d' at'
 lane_same c mine mine' told told' byes gone' held held' p p' d d' at at' e₀ f₀ e₁ e₂ e₃ e₄ e₅ ok =
-    let Seven : Type 0 = List Answered × List Answered × ℕ × maybe.Option LaneMessage × ℕ × ℕ × At in
-    subst (λ (z : Seven). LaneOk c z.0 z.1 z.2 z.3 z.4 z.5 z.6)
+    let Seven : Type 0 = List Answered × List Answered × ℕ × maybe.Option LaneMessage × ℕ × ℕ × SlotContents in
+    subst (λ (z : Seven). IsLaneConsistent c z.0 z.1 z.2 z.3 z.4 z.5 z.6)
     (λ i. (sym e₀ i, sym f₀ i, sym e₁ i, sym e₂ i, sym e₃ i, sym e₄ i, λ k. sym (e₅ k) i)) ok
 
 -- a seat of no further worker leaves the seats apart
@@ -132,7 +132,7 @@ apart_one v none_ (suc i) j u w n at_i at_j is_u is_w = absurd (some-ne-none u (
 
 -- what fits goes on to fit while storage goes on
 pub fits_later : (key : LaneKey) (states : ℕ → WorkerState) (old new : StorageState) (j : ℕ) (v : LaneView) → j ≢ 0
-    → old.made ≤ new.made → StartsWith new.told old.told → Fits key states old j v → Fits key states new j v
+    → old.made ≤ new.made → StartsWith new.told old.told → IsViewOf key states old j v → IsViewOf key states new j v
 fits_later key states old new j Nobody other made told f = tt
 fits_later key states old new j (Worker u) other made told f =
     let low : u.worker < old.made = f.0 in (let g : u.worker < new.made = omega arith in g, f.1, f.2)
@@ -149,7 +149,7 @@ fits_later key states old new j (Checking u t) other made told f =
 
 -- the worker of a seat was made
 pub made_before : (key : LaneKey) (states : ℕ → WorkerState) (storage : StorageState) (j n : ℕ) (v : LaneView)
-    → worker_seated v ≡ some n → Fits key states storage j v → n < storage.made
+    → worker_seated v ≡ some n → IsViewOf key states storage j v → n < storage.made
 made_before key states storage j n Nobody e f = absurd (some-ne-none n (sym e))
 made_before key states storage j n (Worker u) e f =
     subst (λ (z : ℕ). z < storage.made) (some-injective u.worker n e) f.0
@@ -165,7 +165,7 @@ abbrev pub St : Type 0
 St = State (Option LaneMessage) LaneView
 
 -- the lane j stands as it was
-abbrev pub Stands : St → List ℕ → Homes → ℕ → Type 0
+abbrev pub Stands : St → List ℕ → UnheldSlots → ℕ → Type 0
 Stands s words' homes' j = (get_or words' (16 * j + 8) 0 ≡ get_or s.words (16 * j + 8) 0)
     × (get_or words' (16 * j + 16) 0 ≡ get_or s.words (16 * j + 16) 0)
     × ((k : ℕ) → at_home homes' j k ≡ at_home s.homes j k)
@@ -178,16 +178,16 @@ module _ (key : LaneKey) (s : St) (r : LanesHold key s) where
 
   -- its lane is in order
   pub lane_of : (c : WorkerState) → r.states c.worker ≡ c → c.worker < key.workers
-      → LaneIs s.words s.homes r.storage_state c c.worker
-  lane_of c is inside = subst (λ (z : WorkerState). LaneIs s.words s.homes r.storage_state z c.worker) is
+      → IsLaneOfTable s.words s.homes r.storage_state c c.worker
+  lane_of c is inside = subst (λ (z : WorkerState). IsLaneOfTable s.words s.homes r.storage_state z c.worker) is
       (r.each_lane c.worker inside)
 
   -- a step of a worker
-  pub worker_moves : (id : ℕ) (c c' : WorkerState) (words' : List ℕ) (homes' : Homes)
+  pub worker_moves : (id : ℕ) (c c' : WorkerState) (words' : List ℕ) (homes' : UnheldSlots)
       → get_elem? s.views id ≡ some (Worker c) → c'.worker ≡ c.worker
       → c'.terms ≡ c.terms → length (messages c) ≤ length (messages c') → length words' ≡ length s.words
       → length homes' ≡ length s.homes
-      → ((j : ℕ) → j ≢ c.worker → Stands s words' homes' j) → LaneIs words' homes' r.storage_state c' c.worker
+      → ((j : ℕ) → j ≢ c.worker → Stands s words' homes' j) → IsLaneOfTable words' homes' r.storage_state c' c.worker
       → StartsWith r.storage_state.told c'.seen
       → LanesHold key record { words = words'; homes = homes'; views = set s.views id (Worker c') }
   worker_moves id c c' words' homes' at same terms more wide deep others lane seen =
@@ -203,9 +203,9 @@ module _ (key : LaneKey) (s : St) (r : LanesHold key s) where
         wide = wide ∙ r.wide;
         deep = deep ∙ r.deep;
         each_lane = λ j l. dite (ℕ_discrete j w)
-            (λ e. subst (λ (z : ℕ × WorkerState). LaneIs words' homes' r.storage_state z.1 z.0)
+            (λ e. subst (λ (z : ℕ × WorkerState). IsLaneOfTable words' homes' r.storage_state z.1 z.0)
             (λ i. (sym e i, (sym (put_here r.states w c') ∙ ap states' (sym e)) i)) lane)
-            (λ other. let st = others j other in subst (λ (z : WorkerState). LaneIs words' homes' r.storage_state z j)
+            (λ other. let st = others j other in subst (λ (z : WorkerState). IsLaneOfTable words' homes' r.storage_state z j)
             (sym (put_else r.states w c' j other))
             (lane_same (r.states j) _ _ _ _ _ _ _ _ _ _ _ _ (at_home s.homes j)
             (at_home homes' j) refl refl refl refl st.0 st.1 st.2 (r.each_lane j l)));
@@ -217,7 +217,7 @@ module _ (key : LaneKey) (s : St) (r : LanesHold key s) where
             (λ other. subst (λ (z : WorkerState). StartsWith r.storage_state.told z.seen × (z.terms ≡ key.terms)
             × (z.worker ≡ j)) (sym (put_else r.states w c' j other)) (r.each_seen j l));
         each_view = λ j v e. ⊎_elim
-            (λ (x : (j ≡ id) × (Worker c' ≡ v)). subst (λ (z : ℕ × LaneView). Fits key states' r.storage_state z.0 z.1)
+            (λ (x : (j ≡ id) × (Worker c' ≡ v)). subst (λ (z : ℕ × LaneView). IsViewOf key states' r.storage_state z.0 z.1)
             (λ i. (sym x.0 i, x.1 i)) (
               subst (λ (z : ℕ). z < r.storage_state.made) (sym same) made,
               ap states' same ∙ put_here r.states w c',
@@ -239,8 +239,8 @@ module _ (key : LaneKey) (s : St) (r : LanesHold key s) where
       }
     where
       stay : (j : ℕ) (v : LaneView) → worker_seated v ≢ some c.worker
-          → Fits key r.states r.storage_state j v
-          → Fits key (put r.states c.worker c') r.storage_state j v
+          → IsViewOf key r.states r.storage_state j v
+          → IsViewOf key (put r.states c.worker c') r.storage_state j v
       stay j Nobody other f = tt
       stay j (Worker u) other f =
           (f.0, put_else r.states c.worker c' u.worker (λ e. other (ap (λ (z : ℕ). some z) e)) ∙ f.1, f.2)
@@ -254,7 +254,7 @@ module _ (key : LaneKey) (s : St) (r : LanesHold key s) where
       )
 
   -- a step of storage on the lane w
-  pub storage_moves : (id : ℕ) (d d' : StorageState) (w : ℕ) (words' : List ℕ) (homes' : Homes)
+  pub storage_moves : (id : ℕ) (d d' : StorageState) (w : ℕ) (words' : List ℕ) (homes' : UnheldSlots)
       → get_elem? s.views id ≡ some (Storage d)
       → d'.terms ≡ d.terms → d'.made ≡ d.made → LegalBy key.terms d'.history → LegalBy key.terms d'.told
       → StartsWith d'.history d'.told → StartsWith d'.told d.told
@@ -264,7 +264,7 @@ module _ (key : LaneKey) (s : St) (r : LanesHold key s) where
       × (worker_share d'.told j ≡ worker_share d.told j)
       × (times j d'.byes ≡ times j d.byes)
       × (open_at d'.holding j ≡ open_at d.holding j))
-      → (w < key.workers → LaneIs words' homes' d' (r.states w) w)
+      → (w < key.workers → IsLaneOfTable words' homes' d' (r.states w) w)
       → ((k j n : ℕ) → get_elem? d'.looks k ≡ some (j, n)
       → (get_elem? d.looks k ≡ some (j, n)) ⊎ (j < key.workers → n ≤ length (messages (r.states j))))
       → LanesHold key record { words = words'; homes = homes'; views = set s.views id (Storage d') }
@@ -280,12 +280,12 @@ module _ (key : LaneKey) (s : St) (r : LanesHold key s) where
         wide = wide ∙ r.wide;
         deep = deep ∙ r.deep;
         each_lane = λ j l. dite (ℕ_discrete j w)
-            (λ e. subst (λ (z : ℕ). LaneIs words' homes' d' (r.states z) z) (sym e)
+            (λ e. subst (λ (z : ℕ). IsLaneOfTable words' homes' d' (r.states z) z) (sym e)
             (lane (subst (λ (z : ℕ). z < key.workers) e l)))
             (λ other. let st = others j other in let ap' = apart j other in
             lane_same (r.states j) _ _ _ _ _ _ _ _ _ _ _ _ (at_home s.homes j)
             (at_home homes' j) ap'.0 ap'.1 ap'.2 ap'.3 st.0 st.1 st.2
-            (subst (λ (z : StorageState). LaneIs s.words s.homes z (r.states j) j) is (r.each_lane j l)));
+            (subst (λ (z : StorageState). IsLaneOfTable s.words s.homes z (r.states j) j) is (r.each_lane j l)));
         each_seen = λ j l. let was = r.each_seen j l in (
           starts_trans d'.told d.told (r.states j).seen longer
               (subst (λ (z : StorageState). StartsWith z.told (r.states j).seen) is was.0),
@@ -293,11 +293,11 @@ module _ (key : LaneKey) (s : St) (r : LanesHold key s) where
           was.2,
         );
         each_view = λ j v e. ⊎_elim
-            (λ (x : (j ≡ id) × (Storage d' ≡ v)). subst (λ (z : ℕ × LaneView). Fits key r.states d' z.0 z.1)
+            (λ (x : (j ≡ id) × (Storage d' ≡ v)). subst (λ (z : ℕ × LaneView). IsViewOf key r.states d' z.0 z.1)
             (λ i. (sym x.0 i, x.1 i)) (f.0, refl))
             (λ (x : (j ≢ id) × (get_elem? s.views j ≡ some v)). fits_later key r.states d d' j v
             (λ e. x.0 (e ∙ sym f.0)) (subst (λ (z : ℕ). d.made ≤ z) (sym made) (le_refl d.made)) longer
-            (subst (λ (z : StorageState). Fits key r.states z j v) is (r.each_view j v x.1)))
+            (subst (λ (z : StorageState). IsViewOf key r.states z j v) is (r.each_view j v x.1)))
             (at_set s.views id j (Storage d') v e);
         looked = λ k j n e l. ⊎_elim (λ (h : get_elem? d.looks k ≡ some (j, n)).
             r.looked k j n (subst (λ (z : StorageState). get_elem? z.looks k ≡ some (j, n)) (sym is) h) l)
@@ -309,7 +309,7 @@ module _ (key : LaneKey) (s : St) (r : LanesHold key s) where
 
   -- a step at which a seat's view changes and nothing else
   pub view_moves : (id : ℕ) (v v' : LaneView) → get_elem? s.views id ≡ some v
-      → ((n : ℕ) → worker_seated v' ≡ some n → worker_seated v ≡ some n) → Fits key r.states r.storage_state id v'
+      → ((n : ℕ) → worker_seated v' ≡ some n → worker_seated v ≡ some n) → IsViewOf key r.states r.storage_state id v'
       → LanesHold key record { words = s.words; homes = s.homes; views = set s.views id v' }
   view_moves id v v' at same fits = record {
     states = r.states;
@@ -323,7 +323,7 @@ module _ (key : LaneKey) (s : St) (r : LanesHold key s) where
     each_lane = r.each_lane;
     each_seen = r.each_seen;
     each_view = λ j u e. ⊎_elim
-        (λ (x : (j ≡ id) × (v' ≡ u)). subst (λ (z : ℕ × LaneView). Fits key r.states r.storage_state z.0 z.1)
+        (λ (x : (j ≡ id) × (v' ≡ u)). subst (λ (z : ℕ × LaneView). IsViewOf key r.states r.storage_state z.0 z.1)
         (λ i. (sym x.0 i, x.1 i)) fits)
         (λ (x : (j ≢ id) × (get_elem? s.views j ≡ some u)). r.each_view j u x.1) (at_set s.views id j v' u e);
     apart = apart_set s.views id v v' at same r.apart;
@@ -332,7 +332,7 @@ module _ (key : LaneKey) (s : St) (r : LanesHold key s) where
   }
 
   -- a further seat of no worker
-  pub view_comes : (v : LaneView) → worker_seated v ≡ none → ((j : ℕ) → Fits key r.states r.storage_state j v)
+  pub view_comes : (v : LaneView) → worker_seated v ≡ none → ((j : ℕ) → IsViewOf key r.states r.storage_state j v)
       → LanesHold key record { words = s.words; homes = s.homes; views = s.views ++ v ∷ [] }
   view_comes v none_ fits = record {
     states = r.states;
@@ -346,7 +346,7 @@ module _ (key : LaneKey) (s : St) (r : LanesHold key s) where
     each_lane = r.each_lane;
     each_seen = r.each_seen;
     each_view = λ j u e. ⊎_elim (λ (x : get_elem? s.views j ≡ some u). r.each_view j u x)
-        (λ (x : (j ≡ length s.views) × (v ≡ u)). subst (Fits key r.states r.storage_state j) x.1 (fits j))
+        (λ (x : (j ≡ length s.views) × (v ≡ u)). subst (IsViewOf key r.states r.storage_state j) x.1 (fits j))
         (at_end s.views v j u e);
     apart = apart_more s.views v (λ j n u _ _ e. some-ne-none n (sym e ∙ none_)) r.apart;
     looked = r.looked;

@@ -20,7 +20,7 @@ use Rattle.exchange.specs.declared.rule.LaneView.{LaneView}
 use Rattle.exchange.specs.declared.rule.LaneView.TheVariants.{Nobody, Worker, Storage, Comparing, Told, TwoTold, Checking}
 use Rattle.exchange.specs.Beginnings.{StartsWith}
 use Rattle.proto.specs.History.{worker_share, LegalBy}
-use Rattle.exchange.specs.Lanes.{Homes, SeatState, messages, open_at, count_of, lane_slot, at_home, LaneIs, LanesHold}
+use Rattle.exchange.specs.Lanes.{UnheldSlots, SeatState, messages, open_at, count_of, lane_slot, at_home, IsLaneOfTable, LanesHold}
 use Rattle.proto.specs.Counts.{times}
 use Rattle.exchange.specs.Steps.{holding_slot, placed_count, put_on, all_sent, with_bye, with_history, with_seen_slot_taken, with_slot_taken}
 use Rattle.exchange.specs.Steps.{tells_begin, request_put, tells_post, bye_posted}
@@ -82,11 +82,11 @@ module _ (key : LaneKey) where
   loaded ws i j = ap (λ (z : List ℕ). get_or z j 0) (set-get_or ws i 0)
 
   -- a load of the word i by a worker, at which its lane's slots change
-  worker_load : (s : St) (r : LanesHold key s) (i id : ℕ) (c c' : WorkerState) (homes' : Homes)
+  worker_load : (s : St) (r : LanesHold key s) (i id : ℕ) (c c' : WorkerState) (homes' : UnheldSlots)
       → get_elem? s.views id ≡ some (Worker c) → c'.worker ≡ c.worker
       → c'.terms ≡ c.terms → length (messages c) ≤ length (messages c') → length homes' ≡ length s.homes
       → ((j k : ℕ) → j ≢ c.worker → at_home homes' j k ≡ at_home s.homes j k)
-      → LaneIs s.words homes' r.storage_state c' c.worker
+      → IsLaneOfTable s.words homes' r.storage_state c' c.worker
       → StartsWith r.storage_state.told c'.seen
       → LanesHold key record {
         words = set s.words i (get_or s.words i 0);
@@ -199,7 +199,7 @@ module _ (key : LaneKey) where
       let v : Option LaneMessage = Some Bye in
       let near : lane_slot w k < length s.homes =
       subst (λ (z : ℕ). lane_slot w k < z) (sym deep) (slot_below key.workers w k inside) in
-      let homes' : Homes = set s.homes (lane_slot w k) (some v) in let words' : List ℕ = set s.words (16 * w + 8) (suc k) in
+      let homes' : UnheldSlots = set s.homes (lane_slot w k) (some v) in let words' : List ℕ = set s.words (16 * w + 8) (suc k) in
       let was : get_or s.words (16 * w + 8) 0 ≡ k = lane.posted_is
       ∙ (count c ∙ (omega (arith, ap Rattle.exchange.proofs.Lane.bye_count open_, ap length none_put))) in (
         Worker c',

@@ -23,9 +23,9 @@ use Rattle.proto.specs.Counts.{times}
 use Rattle.exchange.specs.Beginnings.{StartsWith}
 use Rattle.proto.specs.History.{worker_share, asked_posted, LegalBy}
 
--- what stands in the slots that no seat holds
-abbrev pub Homes : Type 0
-Homes = List (maybe.Option (Option LaneMessage))
+-- what stands in the slots that no seat holds: the table calls these slots' contents homes
+abbrev pub UnheldSlots : Type 0
+UnheldSlots = List (maybe.Option (Option LaneMessage))
 
 -- What a seat knows, and the slots that it holds, each with what stands there. It stays a pair, since the rules of
 -- atomic_table, which the rule of the lanes is given to, speak of seats by this type of theirs.
@@ -64,10 +64,11 @@ abbrev pub lane_slot : ℕ → ℕ → ℕ
 lane_slot lane number = WINDOW * lane + number % WINDOW
 
 -- for each message number what stands in its slot, unless a seat holds that slot
-abbrev pub At : Type 0
-At = ℕ → maybe.Option (maybe.Option (Option LaneMessage))
+abbrev pub SlotContents : Type 0
+SlotContents = ℕ → maybe.Option (maybe.Option (Option LaneMessage))
 
-abbrev pub at_home : Homes → ℕ → At
+-- what stands in this lane's slots
+abbrev pub at_home : UnheldSlots → ℕ → SlotContents
 at_home homes lane = λ number. get_elem? homes (lane_slot lane number)
 
 -- One lane at any moment, over what the worker knows, its share of what was answered, the first of that share that
@@ -77,8 +78,8 @@ at_home homes lane = λ number. get_elem? homes (lane_slot lane number)
 -- of the entries. The answers that weren't taken back stand in their slots, and so do the messages that storage
 -- hasn't taken, and after the messages the requests that the worker put and hasn't sent. All other slots of the
 -- window are empty, but for the one that the worker holds.
-pub record LaneOk (worker : WorkerState) (mine told : List Answered) (byes : ℕ) (held : maybe.Option LaneMessage)
-    (posted done : ℕ) (at : At) : Type 0 where
+pub record IsLaneConsistent (worker : WorkerState) (mine told : List Answered) (byes : ℕ) (held : maybe.Option LaneMessage)
+    (posted done : ℕ) (at : SlotContents) : Type 0 where
   pub posted_is : posted ≡ length (messages worker)
   pub done_is : done ≡ length told + byes
   pub told_is : StartsWith mine told
@@ -101,7 +102,7 @@ pub record LaneOk (worker : WorkerState) (mine told : List Answered) (byes : ℕ
   pub requests : (number : ℕ) (message : LaneMessage) → length mine + byes + count_of held ≤ number
       → get_elem? (messages worker) number ≡ some message
       → at number ≡ some (some (Some message))
-  pub waits : (number : ℕ) (request : Posted) → get_elem? worker.put number ≡ some request
+  pub unsent : (number : ℕ) (request : Posted) → get_elem? worker.put number ≡ some request
       → at (length (messages worker) + number) ≡ some (some (Some (Ask request)))
   pub frees : (number : ℕ) → length (messages worker) + length worker.put ≤ number
       → number < length worker.back + WINDOW
@@ -109,14 +110,15 @@ pub record LaneOk (worker : WorkerState) (mine told : List Answered) (byes : ℕ
       → at number ≡ some (some None)
 
 -- this lane of the table
-abbrev pub LaneIs : List ℕ → Homes → StorageState → WorkerState → ℕ → Type 0
-LaneIs words homes storage worker lane =
-    LaneOk worker (worker_share storage.history lane) (worker_share storage.told lane) (times lane storage.byes)
+abbrev pub IsLaneOfTable : List ℕ → UnheldSlots → StorageState → WorkerState → ℕ → Type 0
+IsLaneOfTable words homes storage worker lane =
+    IsLaneConsistent worker (worker_share storage.history lane) (worker_share storage.told lane) (times lane storage.byes)
     (open_at storage.holding lane) (slice_index words (16 * lane + 8)) (slice_index words (16 * lane + 16))
     (at_home homes lane)
 
--- What storage and a worker find where their ends come together
-pub record Agree (storage : StorageState) (worker : WorkerState) : Type 0 where
+-- What storage and a worker find where their ends come together. `AreCompared` says what follows of their views, in which
+-- the request that storage holds is the open one.
+pub record EndsAgree (storage : StorageState) (worker : WorkerState) : Type 0 where
   pub legal : LegalBy storage.terms storage.history
   pub same_terms : worker.terms ≡ storage.terms
   pub told : StartsWith storage.history worker.seen
@@ -132,15 +134,15 @@ pub record Agree (storage : StorageState) (worker : WorkerState) : Type 0 where
 -- The view of each seat is what the states say: the first seat is storage's. The history of a seat that knows no more
 -- than one begins what was told.
 module _ (key : LaneKey) (states : ℕ → WorkerState) (storage_state : StorageState) where
-  abbrev pub Fits : ℕ → LaneView → Type 0
-  Fits seat Nobody = Unit {0}
-  Fits seat (Worker worker) = (worker.worker < storage_state.made) × (states worker.worker ≡ worker)
+  abbrev pub IsViewOf : ℕ → LaneView → Type 0
+  IsViewOf seat Nobody = Unit {0}
+  IsViewOf seat (Worker worker) = (worker.worker < storage_state.made) × (states worker.worker ≡ worker)
       × (worker.worker < key.workers)
-  Fits seat (Storage storage) = (seat ≡ 0) × (storage_state ≡ storage)
-  Fits seat (Comparing storage worker) = (seat ≡ 0) × (storage_state ≡ storage) × Agree storage worker
-  Fits seat (Told told) = StartsWith storage_state.told told
-  Fits seat (TwoTold told other) = StartsWith storage_state.told told × StartsWith storage_state.told other
-  Fits seat (Checking worker told) = ((worker.worker < storage_state.made) × (states worker.worker ≡ worker)
+  IsViewOf seat (Storage storage) = (seat ≡ 0) × (storage_state ≡ storage)
+  IsViewOf seat (Comparing storage worker) = (seat ≡ 0) × (storage_state ≡ storage) × EndsAgree storage worker
+  IsViewOf seat (Told told) = StartsWith storage_state.told told
+  IsViewOf seat (TwoTold told other) = StartsWith storage_state.told told × StartsWith storage_state.told other
+  IsViewOf seat (Checking worker told) = ((worker.worker < storage_state.made) × (states worker.worker ≡ worker)
       × (worker.worker < key.workers)) × StartsWith storage_state.told told
 
 -- the worker whose seat this is
@@ -197,12 +199,12 @@ pub record LanesHold (key : LaneKey) (table : State (Option LaneMessage) LaneVie
   pub same_terms : storage_state.terms ≡ key.terms
   pub wide : length table.words ≡ 16 * key.workers + 8
   pub deep : length table.homes ≡ WINDOW * key.workers
-  pub each_lane : (lane : ℕ) → lane < key.workers → LaneIs table.words table.homes storage_state (states lane) lane
+  pub each_lane : (lane : ℕ) → lane < key.workers → IsLaneOfTable table.words table.homes storage_state (states lane) lane
   pub each_seen : (lane : ℕ) → lane < key.workers
       → StartsWith storage_state.told (states lane).seen × ((states lane).terms ≡ key.terms)
       × ((states lane).worker ≡ lane)
   pub each_view : (seat : ℕ) (view : LaneView) → get_elem? table.views seat ≡ some view
-      → Fits key states storage_state seat view
+      → IsViewOf key states storage_state seat view
   pub apart : AreApart table.views
   pub looked : (place lane posted : ℕ) → get_elem? storage_state.looks place ≡ some (lane, posted) → lane < key.workers
       → posted ≤ length (messages (states lane))

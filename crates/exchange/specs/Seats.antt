@@ -225,10 +225,10 @@ HoldsTaken me lane count message = (me ≡ (Storage (storage_at me), (lane_slot 
     × (settled_count (storage_at me).history (storage_at me).byes lane ≡ count)
     × ((storage_at me).holding ≡ Some (lane, message)) × (count + 1 < 2 ^ 64)
 
--- The answers that weren't told of are all of this lane, and there are some exactly where one waits
-pub record IsWaiting (storage : StorageState) (waiting : Bool) (lane workers : ℕ) : Type 0 where
-  pub none_waits : waiting ≡ false → storage.told ≡ storage.history
-  pub some_waits : waiting ≡ true
+-- The answers that no worker was told of are all of this lane, and there are some exactly where `untold` says so
+pub record HasUntold (storage : StorageState) (untold : Bool) (lane workers : ℕ) : Type 0 where
+  pub none_untold : untold ≡ false → storage.told ≡ storage.history
+  pub some_untold : untold ≡ true
       → length (worker_share storage.told lane) < length (worker_share storage.history lane)
   pub others : (other : ℕ) → other ≢ lane → worker_share storage.history other ≡ worker_share storage.told other
   pub inside : lane < workers

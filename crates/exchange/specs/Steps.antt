@@ -17,7 +17,7 @@ use Rattle.proto.specs.Counts.{times}
 use Rattle.exchange.specs.Beginnings.{StartsWith, AreOfOne}
 use Rattle.proto.specs.History.{worker_share, asked_posted}
 use Rattle.exchange.specs.Ends.{IsDoneHistory, settled_count}
-use Rattle.exchange.specs.Lanes.{SeatState, known_by, slots_of, lane_slot, first_worker_state, Agree}
+use Rattle.exchange.specs.Lanes.{SeatState, known_by, slots_of, lane_slot, first_worker_state, EndsAgree}
 
 -- what a step tells: the step, the seat before, the word that was found, and the seat after
 abbrev StepTells : Type 1
@@ -156,15 +156,15 @@ all_told storage = record storage { told = storage.history }
 abbrev pub bye_settled : StorageState → ℕ → StorageState
 bye_settled storage lane = record storage { byes = lane ∷ storage.byes; holding = None }
 
--- a worker's message, of which no Bye was settled: a Bye, or a request whose number is 1 more than that of the worker's
--- last entry in the history
-abbrev pub IsSent : StorageState → ℕ → LaneMessage → Type 0
-IsSent storage lane message = (times lane storage.byes ≡ 0) × (((request : Posted) × (message ≡ Ask request)
+-- The message is the next one of this lane, of which no Bye was settled: a Bye, or a request whose number is 1 more than
+-- that of the worker's last entry in the history.
+abbrev pub IsNextOfLane : StorageState → ℕ → LaneMessage → Type 0
+IsNextOfLane storage lane message = (times lane storage.byes ≡ 0) × (((request : Posted) × (message ≡ Ask request)
     × (request.number ≡ suc (length (worker_share storage.history lane)))) ⊎ (message ≡ Bye))
 
 -- storage takes the next message of the lane
 abbrev pub SeenTells : StorageState → ℕ → List (ℕ × Option LaneMessage) → SeatState → Type 0
-SeenTells storage lane slots after = (message : LaneMessage) × IsSent storage lane message
+SeenTells storage lane slots after = (message : LaneMessage) × IsNextOfLane storage lane message
     × (after ≡ (
       Storage (with_message_held storage lane message),
       (lane_slot lane (settled_count storage.history storage.byes lane), Some message) ∷ slots,
@@ -237,7 +237,7 @@ comparing (Checking worker told) view = Checking worker told
 -- what the two find then, and storage goes on alone
 abbrev pub tells_comparison : StepTells
 tells_comparison step before found after = (storage : StorageState) (worker : WorkerState)
-    → known_by before ≡ Comparing storage worker → Agree storage worker × (after ≡ (Storage storage, slots_of before))
+    → known_by before ≡ Comparing storage worker → EndsAgree storage worker × (after ≡ (Storage storage, slots_of before))
 
 -- a view that stays as it is
 abbrev pub unchanged : LaneView → LaneView

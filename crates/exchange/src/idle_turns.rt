@@ -6,7 +6,7 @@ use std::time::{Clock, Duration, Instant};
 use std::{hint, thread};
 
 /// How often an idle turn spins: with the look for work it takes some 200 nanoseconds.
-const SPINS_A_TURN: u32 = 4;
+const SPINS_PER_TURN: u32 = 4;
 
 /// How long a thread parks at most: one that was forgotten looks for work again then.
 const LONGEST_PARK_MILLIS: u64 = 100;
@@ -69,7 +69,7 @@ impl IdleTurns {
             return;
         }
         self.turns += 1;
-        for _ in 0..SPINS_A_TURN {
+        for _ in 0..SPINS_PER_TURN {
             hint::spin_loop();
         }
     }

@@ -60,6 +60,7 @@ pub enum LaneView {
     Checking(WorkerState, LinkedList<Answered>),
 }
 
+/// The rule of the lanes, which each step keeps.
 pub struct Lanes;
 
 impl TableRule<Option<LaneMessage>, LaneView, LaneKey> for Lanes {
@@ -74,84 +75,98 @@ pub type LaneTable = Table<Option<LaneMessage>, LaneView, LaneKey, Lanes, Global
 
 pub type LaneSeat = Seat<Option<LaneMessage>, LaneView>;
 
+/// The worker loads its posted word, and takes the slot of its next message, which is empty.
 pub struct Begins;
 
 impl Play<Option<LaneMessage>, LaneView> for Begins {
     ghost then = { tells_begin };
 }
 
+/// The worker loads its posted word, and gives the slot back with a request in it, which isn't sent yet.
 pub struct PutsRequest;
 
 impl Play<Option<LaneMessage>, LaneView> for PutsRequest {
     ghost then = { request_put };
 }
 
+/// The worker loads its posted word, and takes the slot of the next answer of the history that it saw.
 pub struct TakesSeen;
 
 impl Play<Option<LaneMessage>, LaneView> for TakesSeen {
     ghost then = { seen_taken };
 }
 
+/// The worker stores posted: the requests that it put are sent.
 pub struct Posts;
 
 impl Play<Option<LaneMessage>, LaneView> for Posts {
     ghost then = { tells_post };
 }
 
+/// The worker stores posted, and gives the slot back with its Bye in it, which is sent so.
 pub struct PostsBye;
 
 impl Play<Option<LaneMessage>, LaneView> for PostsBye {
     ghost then = { bye_posted };
 }
 
+/// The worker loads done: it is told of a history, and takes the slot of its next answer there, if there is one.
 pub struct LoadsDone;
 
 impl Play<Option<LaneMessage>, LaneView> for LoadsDone {
     ghost then = { done_loaded };
 }
 
+/// The worker loads its posted word, and gives a slot back, empty.
 pub struct ReturnsSlot;
 
 impl Play<Option<LaneMessage>, LaneView> for ReturnsSlot {
     ghost then = { slot_returned };
 }
 
+/// Storage loads a lane's posted word, which says how many messages there are. It takes none.
 pub struct LoadsPosted;
 
 impl Play<Option<LaneMessage>, LaneView> for LoadsPosted {
     ghost then = { posted_loaded };
 }
 
+/// Storage loads its done word of a lane, and gives the slot back with an answer in it, which isn't told yet.
 pub struct Answers;
 
 impl Play<Option<LaneMessage>, LaneView> for Answers {
     ghost then = { tells_answer };
 }
 
+/// Storage loads its done word of a lane, and takes the slot of the next message that a look named.
 pub struct OpensSeen;
 
 impl Play<Option<LaneMessage>, LaneView> for OpensSeen {
     ghost then = { seen_opened };
 }
 
+/// Storage stores done: the lane's worker can be told of all answers.
 pub struct TellsDone;
 
 impl Play<Option<LaneMessage>, LaneView> for TellsDone {
     ghost then = { told_done };
 }
 
+/// Storage stores done, and gives the slot of a Bye back, empty.
 pub struct SettlesBye;
 
 impl Play<Option<LaneMessage>, LaneView> for SettlesBye {
     ghost then = { settle_bye };
 }
 
+/// Storage, with a worker joined to it, loads any word: what the two know agrees, and storage goes on alone.
 pub struct Compares;
 
 impl Play<Option<LaneMessage>, LaneView> for Compares {
     ghost then = { tells_comparison };
 }
 
+/// Storage splits its seat for the next worker, which has done nothing yet.
 pub struct MakesWorker;
 
 impl Split<LaneView> for MakesWorker {
@@ -160,6 +175,7 @@ impl Split<LaneView> for MakesWorker {
     ghost right = { new_worker };
 }
 
+/// Storage joins a worker's seat to its own, to be compared with it.
 pub struct JoinsWorker;
 
 impl Join<LaneView> for JoinsWorker {
@@ -170,6 +186,7 @@ impl Join<LaneView> for JoinsWorker {
     ghost spent = { Nobody };
 }
 
+/// A worker splits its seat: the new one knows the history that the worker was told of last.
 pub struct NotesTold;
 
 impl Split<LaneView> for NotesTold {
@@ -178,6 +195,7 @@ impl Split<LaneView> for NotesTold {
     ghost right = { noting };
 }
 
+/// A worker, or a told history, joins a told history's seat to its own, to be compared with it.
 pub struct MeetsTold;
 
 impl Join<LaneView> for MeetsTold {
@@ -188,12 +206,14 @@ impl Join<LaneView> for MeetsTold {
     ghost spent = { Nobody };
 }
 
+/// The worker, with a told history joined to it, loads any word: the history has no request that it hasn't sent.
 pub struct Checks;
 
 impl Play<Option<LaneMessage>, LaneView> for Checks {
     ghost then = { tells_check };
 }
 
+/// A told history, with another joined to it, loads any word: one of the two begins with the other.
 pub struct ComparesTold;
 
 impl Play<Option<LaneMessage>, LaneView> for ComparesTold {

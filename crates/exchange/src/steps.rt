@@ -12,7 +12,7 @@ ghost use Rattle.proto.specs.History.{LegalBy, worker_share};
 ghost use Rattle.exchange.specs.Ends.{settled_count};
 ghost use Rattle.exchange.specs.Lanes.{lane_slot};
 ghost use Rattle.exchange.specs.Steps.{put_on, holding_slot, with_seen_slot_taken, with_bye, with_held_answered};
-ghost use Rattle.exchange.specs.Steps.{bye_settled, looked_at, with_message_held, IsSent};
+ghost use Rattle.exchange.specs.Steps.{bye_settled, looked_at, with_message_held, IsNextOfLane};
 ghost use Rattle.exchange.specs.Seats.{worker_at, storage_at, IsLane, SameSeat, MayPost, MayTake, HasSeen};
 ghost use Rattle.exchange.specs.Seats.{HasSeenMessage, StateTakes, HoldsTaken, HoldsSlot, exchanged_to};
 
@@ -153,7 +153,7 @@ pub(crate) fn take_message(
         × (lane < lane_table.now.shared.key.workers) }
     requires seen { HasSeenMessage seat.old.me lane count }
     ensures table { SameSeat seat.old seat.new }
-    ensures sent { IsSent (storage_at seat.old.me) lane result }
+    ensures sent { IsNextOfLane (storage_at seat.old.me) lane result }
     ensures opened { seat.new.me ≡ (
       Storage (with_message_held (storage_at seat.old.me) lane result),
       (lane_slot lane (settled_count (storage_at seat.old.me).history (storage_at seat.old.me).byes lane), None) ∷ [],

@@ -21,10 +21,10 @@ pub struct StorageBatch {
     /// How many messages of each lane were settled.
     counts: [u64; MAX_WORKERS],
     open_now: bool,
-    /// Whether there are answers that weren't told of.
-    waiting: bool,
+    /// Whether there are answers that no worker was told of.
+    untold: bool,
     /// The lane that all of them are of.
-    waiting_lane: usize,
+    untold_lane: usize,
     /// The lane that was looked at last, and the posted word that was found there.
     looked_lane: usize,
     named: u64,
@@ -34,7 +34,7 @@ impl Model for StorageBatch {
     ghost use Rattle.std.specs.Prelude.{◌≡◌, ℕ, ◌+◌, ◌*◌, ◌<◌, ◌≤◌};
     ghost use Rattle.std.specs.Arc.{arc_value};
     ghost use Rattle.exchange.specs.Ends.{StorageBatchView};
-    ghost use Rattle.exchange.specs.Seats.{StorageAgrees, IsWaiting, IsNamed, IsTableSized, storage_batch_view};
+    ghost use Rattle.exchange.specs.Seats.{StorageAgrees, HasUntold, IsNamed, IsTableSized, storage_batch_view};
     ghost use Rattle.exchange.specs.Seats.{storage_at};
 
     ghost Value = { StorageBatchView };
@@ -46,7 +46,7 @@ impl Model for StorageBatch {
         × IsTableSized inside.seat.table_id inside.workers
         × ((arc_value inside.lane_table).shared.key.workers ≡ inside.workers)
         × StorageAgrees inside.seat.me inside.workers inside.last inside.counts inside.open_now
-        × IsWaiting (storage_at inside.seat.me) inside.waiting inside.waiting_lane inside.workers
+        × HasUntold (storage_at inside.seat.me) inside.untold inside.untold_lane inside.workers
         × IsNamed (storage_at inside.seat.me) inside.looked_lane inside.named inside.workers };
 }
 
@@ -64,7 +64,7 @@ impl StorageBatch {
     ghost use Rattle.exchange.specs.Lanes.{storage_state_with};
     ghost use Rattle.exchange.specs.Seats.{IsTableSized};
 
-    pub(crate) fn over(
+    pub(crate) fn new(
         lane_table: Arc<LaneTable, Global>,
         seat: LaneSeat,
         workers: usize,
@@ -83,8 +83,8 @@ impl StorageBatch {
             last: workers - 1,
             counts: [0; MAX_WORKERS],
             open_now: false,
-            waiting: false,
-            waiting_lane: 0,
+            untold: false,
+            untold_lane: 0,
             looked_lane: 0,
             named: 0,
         }
@@ -114,7 +114,7 @@ impl StorageBatch {
         ensures told { MatchOption result (self.new.told ≡ self.old.told) (λ worker. IsUntold self.old worker
             × (worker ≢ answered.worker) × (self.new.told ≡ self.old.end.history)) }
     {
-        let told = if self.waiting_lane == answered.worker {
+        let told = if self.untold_lane == answered.worker {
             None
         } else {
             self.flush_answers()
@@ -123,7 +123,7 @@ impl StorageBatch {
         told
     }
 
-    /// Answers the open request, if the answers that wait are of its lane.
+    /// Answers the open request, if all untold answers are of its lane.
     fn add_answer(&mut self, answered: Answered)
         requires open_request { self.old.end.open_request ≡ Some (answered.worker, posted_of answered) }
         requires legal { LegalBy self.old.end.terms (self.old.end.history ++ answered ∷ []) }
@@ -139,8 +139,8 @@ impl StorageBatch {
         put_answer(&self.lane_table, &mut self.seat, count, answered);
         self.counts[lane] = count + 1;
         self.open_now = false;
-        self.waiting = true;
-        self.waiting_lane = lane;
+        self.untold = true;
+        self.untold_lane = lane;
     }
 
     /// Tells the workers of all answers, in one step. It gives the worker whose answers they are, if there are any. Waits for
@@ -149,15 +149,15 @@ impl StorageBatch {
         ensures told { self.new ≡ record self.old { told = self.old.end.history } }
         ensures whose { MatchOption result (self.old.told ≡ self.old.end.history) (IsUntold self.old) }
     {
-        if !self.waiting {
+        if !self.untold {
             return None;
         }
-        let lane = self.waiting_lane;
+        let lane = self.untold_lane;
         let count = self.counts[lane];
         self.lane_table
             .shared
             .store::<TellsDone>(&mut self.seat, LANE * lane + DONE, count);
-        self.waiting = false;
+        self.untold = false;
         Some(lane)
     }
 

@@ -58,7 +58,7 @@ impl WorkerBatch {
     ghost use Rattle.exchange.specs.Ends.{new_worker_view, max_posts, CanPut, with_put_sent, TakesAnswer, TakesSeen};
     ghost use Rattle.exchange.specs.Seats.{IsLane, worker_view};
 
-    pub(crate) fn over(
+    pub(crate) fn new(
         lane_table: Arc<LaneTable, Global>,
         seat: LaneSeat,
         worker: usize,
@@ -119,7 +119,7 @@ impl WorkerBatch {
     }
 
     /// How many requests were put and not flushed.
-    pub fn waiting(&self) -> u64
+    pub fn unflushed(&self) -> u64
         ensures value { result ≡ length self.now.put }
         ensures range { result ≤ WINDOW }
     {

@@ -11,10 +11,10 @@ use Rattle.std.proofs.lemmas.List.Sums.{sum_by-cons, sum_by-set}
 use Rattle.index.specs.declared.slots.Slot.{Slot}
 use Rattle.segments.specs.declared.place.Place.{Place}
 use Rattle.index.specs.Keys.{KeysOf}
-use Rattle.index.specs.Slots.{is_used, place_of, slot_at, used_in, empty_slot, distance, behind, AreUsedUpTo}
+use Rattle.index.specs.Slots.{is_used, place_of, slot_at, used_in, empty_slot, distance, next_slot, AreUsedUpTo}
 use Rattle.index.specs.Reinserting.{IsNear, AreNear, IsFirstStop, IsStretch}
 use Rattle.index.specs.Table.{Hashing, AreIndexed, places_in}
-use Rattle.index.proofs.RowDistances.{distance_once, distance_itself, distance_below, behind_below, distance_add}
+use Rattle.index.proofs.RowDistances.{distance_once, distance_itself, distance_below, next_slot_below, distance_add}
 use Rattle.index.proofs.RowDistances.{distance_sum, distance_next, distance_last, distance_apart}
 use Rattle.index.proofs.SearchesUpToGap.{IsGap}
 use Rattle.index.proofs.SlotsAsMap.{Stands, same_places, stands_from_get, get_from_stands}
@@ -73,15 +73,15 @@ gap_index_is (s ∷ slots) less =
 -- what is used from a slot on is used from the next one on, where the slot itself may be none of those
 passes_on : (old new : List Slot) (at x : ℕ) → length new ≡ length old → at < length old → x < length old → x ≢ at
     → ((y : ℕ) → y < length old → y ≢ at → is_used (slot_at old y) ≡ true → is_used (slot_at new y) ≡ true)
-    → AreUsedUpTo old at x → AreUsedUpTo new (behind (length old) at) x
+    → AreUsedUpTo old at x → AreUsedUpTo new (next_slot (length old) at) x
 passes_on old new at x len a i differ keeps up y y_in lt =
     let n = length old in
-    let b = behind n at in
+    let b = next_slot n at in
     let in_old : y < n = omega (arith, len, y_in) in
     let less : distance n b y < distance n b x = rw len at lt in
     let apart : y ≢ at = λ same.
     (let last = distance_last n at a in
-    let below = distance_below n b x (behind_below n at a) i in
+    let below = distance_below n b x (next_slot_below n at a) i in
     let e = ap (distance n b) same in
     omega (arith, last, below, e, less)) in
     let p = distance_next n at y a in_old apart in
@@ -184,7 +184,7 @@ cluster_ends h keys slots at near r empty =
 -- a key that is found from its home stays
 pub run_stays : (h : Hashing) (keys : KeysOf) (slots : List Slot) (at : ℕ) (key : List ℕ) → AreNear h keys slots at
     → at < length slots → keys (place_of (slot_at slots at)) ≡ Some key → AreUsedUpTo slots (h.home key) at
-    → AreNear h keys slots (behind (length slots) at)
+    → AreNear h keys slots (next_slot (length slots) at)
 run_stays h keys slots at key near r is up =
     record {
       each = λ i i_in u.
@@ -330,7 +330,7 @@ module _ (h : Hashing) (keys : KeysOf) (old new : List Slot) (at gap : ℕ) (m :
     module _ (key : List ℕ) (is : keys (place_of (slot_at old at)) ≡ Some key)
         (up : AreUsedUpTo old (h.home key) gap)
         (nearer : distance (length old) (h.home key) gap < distance (length old) (h.home key) at) where
-      here_near : (k : List ℕ) × IsNear h keys new (behind (length old) at) gap k
+      here_near : (k : List ℕ) × IsNear h keys new (next_slot (length old) at) gap k
       here_near =
           let f = near.each at m.at_in m.was_used in
           let e : Some f.0 ≡ Some key = sym f.1.of_key ∙ is in
@@ -351,7 +351,7 @@ module _ (h : Hashing) (keys : KeysOf) (old new : List Slot) (at gap : ℕ) (m :
           )
 
       there_near : (i : ℕ) → i < length new → i ≢ gap → is_used (slot_at new i) ≡ true
-          → (k : List ℕ) × IsNear h keys new (behind (length old) at) i k
+          → (k : List ℕ) × IsNear h keys new (next_slot (length old) at) i k
       there_near i i_in differ u =
           let len = m.len in
           let in_old : i < length old = omega (arith, len, i_in) in
@@ -374,11 +374,11 @@ module _ (h : Hashing) (keys : KeysOf) (old new : List Slot) (at gap : ℕ) (m :
           )
 
       -- a key that isn't found from its home goes to the first gap of its search
-      pub run_moves : AreNear h keys new (behind (length old) at)
+      pub run_moves : AreNear h keys new (next_slot (length old) at)
       run_moves =
           record {
             each = λ i i_in u. elim (eqb_tells i gap) [
-              | inl y ↦ subst (λ (x : ℕ). (k : List ℕ) × IsNear h keys new (behind (length old) at) x k) (sym y.1)
+              | inl y ↦ subst (λ (x : ℕ). (k : List ℕ) × IsNear h keys new (next_slot (length old) at) x k) (sym y.1)
                   here_near
               | inr y ↦ there_near i i_in y.1 u
             ];
@@ -446,7 +446,7 @@ first_falls a b n x y lt below =
 -- a slot at which a search goes on is one nearer to a gap
 pub gap_nears : (slots : List Slot) (at gap : ℕ) → at < length slots → IsGap slots gap
     → is_used (slot_at slots at) ≡ true
-    → distance (length slots) (behind (length slots) at) gap < distance (length slots) at gap
+    → distance (length slots) (next_slot (length slots) at) gap < distance (length slots) at gap
 gap_nears slots at gap a is used =
     let apart : gap ≢ at = λ same.
     true_false (sym used ∙ ap (λ (k : ℕ). is_used (slot_at slots k)) (sym same) ∙ is.empty) in
@@ -455,13 +455,13 @@ gap_nears slots at gap a is used =
 
 -- what one step along a cluster keeps, and what falls with it
 pub record IsStep (h : Hashing) (keys : KeysOf) (slots new : List Slot) (at : ℕ) : Type 0 where
-  pub near : AreNear h keys new (behind (length slots) at)
+  pub near : AreNear h keys new (next_slot (length slots) at)
   pub places : places_in keys new ≡ places_in keys slots
   pub used : used_in new ≡ used_in slots
   pub len : length new ≡ length slots
   pub keeps : (y : ℕ) → y < length slots → y ≢ at → is_used (slot_at slots y) ≡ true → is_used (slot_at new y) ≡ true
   pub falls : spread h keys (length slots) 0 new * length slots
-      + distance (length slots) (behind (length slots) at) (gap_index new)
+      + distance (length slots) (next_slot (length slots) at) (gap_index new)
       < spread h keys (length slots) 0 slots * length slots + distance (length slots) at (gap_index slots)
 
 -- a step at a key that stays
@@ -495,7 +495,7 @@ step_moves h keys slots new at gap key near r used less in_row is stop apart new
       len = m.len;
       keeps = keeps h keys slots moved at gap m;
       falls = first_falls (spread h keys n 0 moved) (spread h keys n 0 slots) n
-          (distance n (behind n at) (gap_index moved)) (distance n at (gap_index slots))
+          (distance n (next_slot n at) (gap_index moved)) (distance n at (gap_index slots))
           (moved_spread h keys n slots at gap key r stop.in_range apart used empty is nearer) short;
     }
   where
@@ -522,9 +522,9 @@ step_moves h keys slots new at gap key near r used less in_row is stop apart new
           | inr y ↦ y.1
         ]
 
-    short : distance n (behind n at) (gap_index moved) < n
+    short : distance n (next_slot n at) (gap_index moved) < n
     short =
         let len = m.len in
         let g = gap_index_is moved (omega (arith, used_same, len, less)) in
         let in_range = g.in_range in
-        distance_below n (behind n at) (gap_index moved) (behind_below n at r) (omega (arith, in_range, len))
+        distance_below n (next_slot n at) (gap_index moved) (next_slot_below n at r) (omega (arith, in_range, len))

@@ -16,7 +16,7 @@ use Rattle.segments.specs.Pools.{key_at}
 use Rattle.index.specs.Layouts.{IsInLayout, IsLayoutOf}
 use Rattle.index.proofs.PlacesInLayout.{place_in_layout}
 use Rattle.index.specs.Table.{Table, IsIndex}
-use Rattle.index.specs.Relocating.{CanRelocate, HoldsLive, keys_behind}
+use Rattle.index.specs.Relocating.{CanRelocate, HoldsLive, keys_after_merge}
 use Rattle.index.proofs.KeptKeys.{held_key}
 use Rattle.index.proofs.PoolKeys.{some_key}
 use Rattle.index.proofs.MoveOrder.{plan_in_turn}
@@ -83,7 +83,7 @@ key_half p q a b e = ap (option_map (λ (i : Item). i.key)) e ∙ half_key (item
 pub plan_relocates : (lives : Liveness) (p : PoolState) (plan : Plan) (t : Table) → IsPool p → IsPlan lives p plan
     → IsPool (carried_out (with_merge_planned p plan) plan)
     → IsLayoutOf p.sizes t.layout → IsIndex (key_at p) t → HoldsLive lives p t
-    → CanRelocate (key_at (with_merge_planned p plan)) (keys_behind (with_merge_planned p plan)) t plan.moves
+    → CanRelocate (key_at (with_merge_planned p plan)) (keys_after_merge (with_merge_planned p plan)) t plan.moves
 plan_relocates lives p plan t k h behind layout index holds =
     let after = carried_out (with_merge_planned p plan) plan in
     let c : IsCarriedOut p plan after = carried lives p plan after k h refl in

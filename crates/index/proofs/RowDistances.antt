@@ -1,7 +1,7 @@
 -- Distances in a row whose first slot is after its last.
 use Rattle.std.proofs.Common.{◌≡◌, ◌≢◌, ℕ, ◌+◌, ◌-◌, ◌<◌, ◌≤◌, refl, inl, inr, ◌⊎◌, arith}
 use Rattle.std.proofs.lemmas.Bool.Decides.{leb_tells, eqb_tells}
-use Rattle.index.specs.Slots.{distance, behind}
+use Rattle.index.specs.Slots.{distance, next_slot}
 
 -- the distance, and on which side the other one stands
 pub distance_cases : (n from to : ℕ) → ((from ≤ to) × (distance n from to ≡ to - from))
@@ -11,8 +11,8 @@ distance_cases n from to =
     elim (leb_tells from to) [ inl y ↦ inl (y.1, rw y.0 refl) | inr y ↦ inr (y.1, rw y.0 refl) ]
 
 -- after the last slot comes the first one, and after any other slot the one with the next number
-pub behind_cases : (n i : ℕ) → ((i + 1 ≡ n) × (behind n i ≡ 0)) ⊎ ((i + 1 ≢ n) × (behind n i ≡ i + 1))
-behind_cases n i = elim (eqb_tells (i + 1) n) [ inl y ↦ inl (y.1, rw y.0 refl) | inr y ↦ inr (y.1, rw y.0 refl) ]
+pub next_slot_cases : (n i : ℕ) → ((i + 1 ≡ n) × (next_slot n i ≡ 0)) ⊎ ((i + 1 ≢ n) × (next_slot n i ≡ i + 1))
+next_slot_cases n i = elim (eqb_tells (i + 1) n) [ inl y ↦ inl (y.1, rw y.0 refl) | inr y ↦ inr (y.1, rw y.0 refl) ]
 
 -- the distance between two slots of a row is less than the number of slots
 pub distance_below : (n from to : ℕ) → from < n → to < n → distance n from to < n
@@ -31,39 +31,39 @@ distance_once n from a b f x y same =
     ]
 
 -- the next slot is one further, where a slot stands further away
-pub distance_behind : (n from at far : ℕ) → from < n → at < n → far < n → distance n from at < distance n from far
-    → distance n from (behind n at) ≡ distance n from at + 1
-distance_behind n from at far f a r lt =
-    elim (behind_cases n at) [
+pub distance_to_next : (n from at far : ℕ) → from < n → at < n → far < n → distance n from at < distance n from far
+    → distance n from (next_slot n at) ≡ distance n from at + 1
+distance_to_next n from at far f a r lt =
+    elim (next_slot_cases n at) [
       | inl b ↦ elim (distance_cases n from at) [
         | inl p ↦ elim (distance_cases n from far) [
           | inl q ↦ absurd (omega (arith, b, p, q))
-          | inr q ↦ elim (distance_cases n from (behind n at))
+          | inr q ↦ elim (distance_cases n from (next_slot n at))
               [ inl s ↦ omega (arith, b, p, q, s) | inr s ↦ omega (arith, b, p, q, s) ]
         ]
         | inr p ↦ absurd (omega (arith, b, p))
       ]
       | inr b ↦ elim (distance_cases n from at) [
-        | inl p ↦ elim (distance_cases n from (behind n at))
+        | inl p ↦ elim (distance_cases n from (next_slot n at))
             [ inl s ↦ omega (arith, b, p, s) | inr s ↦ absurd (omega (arith, b, p, s)) ]
         | inr p ↦ elim (distance_cases n from far) [
           | inl q ↦ absurd (omega (arith, b, p, q))
-          | inr q ↦ elim (distance_cases n from (behind n at))
+          | inr q ↦ elim (distance_cases n from (next_slot n at))
               [ inl s ↦ omega (arith, b, p, q, s) | inr s ↦ omega (arith, b, p, q, s) ]
         ]
       ]
     ]
 
 -- the slot after a slot of the row is one of the row
-pub behind_below : (n at : ℕ) → at < n → behind n at < n
-behind_below n at a = elim (behind_cases n at) [ inl b ↦ omega (arith, b) | inr b ↦ omega (arith, b) ]
+pub next_slot_below : (n at : ℕ) → at < n → next_slot n at < n
+next_slot_below n at a = elim (next_slot_cases n at) [ inl b ↦ omega (arith, b) | inr b ↦ omega (arith, b) ]
 
 -- what is less far than the next slot is less far than this one, or it is this one
 pub distance_upto : (n from at x far : ℕ) → from < n → at < n → x < n → far < n
     → distance n from at < distance n from far
-    → distance n from x < distance n from (behind n at) → (distance n from x < distance n from at) ⊎ (x ≡ at)
+    → distance n from x < distance n from (next_slot n at) → (distance n from x < distance n from at) ⊎ (x ≡ at)
 distance_upto n from at x far f a i r lt less =
-    let step = distance_behind n from at far f a r lt in
+    let step = distance_to_next n from at far f a r lt in
     elim (leb_tells (distance n from at) (distance n from x)) [
       | inl y ↦ let same : distance n from x ≡ distance n from at = omega (arith, y, step, less) in
           inr (distance_once n from x at f i a same)
@@ -111,23 +111,23 @@ distance_apart n a b x y differ = elim (distance_cases n a b) [ inl p ↦ omega 
 
 -- a slot is one further from a slot than from the one after that
 pub distance_next : (n at x : ℕ) → at < n → x < n → x ≢ at
-    → distance n at x ≡ distance n (behind n at) x + 1
+    → distance n at x ≡ distance n (next_slot n at) x + 1
 distance_next n at x a i differ =
-    elim (behind_cases n at) [
+    elim (next_slot_cases n at) [
       | inl b ↦ elim (distance_cases n at x) [
-        | inl p ↦ elim (distance_cases n (behind n at) x) [ inl q ↦ omega (arith, b, p, q) | inr q ↦ omega (arith, b, p, q) ]
-        | inr p ↦ elim (distance_cases n (behind n at) x) [ inl q ↦ omega (arith, b, p, q) | inr q ↦ omega (arith, b, p, q) ]
+        | inl p ↦ elim (distance_cases n (next_slot n at) x) [ inl q ↦ omega (arith, b, p, q) | inr q ↦ omega (arith, b, p, q) ]
+        | inr p ↦ elim (distance_cases n (next_slot n at) x) [ inl q ↦ omega (arith, b, p, q) | inr q ↦ omega (arith, b, p, q) ]
       ]
       | inr b ↦ elim (distance_cases n at x) [
-        | inl p ↦ elim (distance_cases n (behind n at) x) [ inl q ↦ omega (arith, b, p, q) | inr q ↦ omega (arith, b, p, q) ]
-        | inr p ↦ elim (distance_cases n (behind n at) x) [ inl q ↦ omega (arith, b, p, q) | inr q ↦ omega (arith, b, p, q) ]
+        | inl p ↦ elim (distance_cases n (next_slot n at) x) [ inl q ↦ omega (arith, b, p, q) | inr q ↦ omega (arith, b, p, q) ]
+        | inr p ↦ elim (distance_cases n (next_slot n at) x) [ inl q ↦ omega (arith, b, p, q) | inr q ↦ omega (arith, b, p, q) ]
       ]
     ]
 
 -- a slot is the last one from the slot after it on
-pub distance_last : (n at : ℕ) → at < n → distance n (behind n at) at + 1 ≡ n
+pub distance_last : (n at : ℕ) → at < n → distance n (next_slot n at) at + 1 ≡ n
 distance_last n at a =
-    elim (behind_cases n at) [
-      | inl b ↦ elim (distance_cases n (behind n at) at) [ inl q ↦ omega (arith, b, q) | inr q ↦ omega (arith, b, q) ]
-      | inr b ↦ elim (distance_cases n (behind n at) at) [ inl q ↦ omega (arith, b, q) | inr q ↦ omega (arith, b, q) ]
+    elim (next_slot_cases n at) [
+      | inl b ↦ elim (distance_cases n (next_slot n at) at) [ inl q ↦ omega (arith, b, q) | inr q ↦ omega (arith, b, q) ]
+      | inr b ↦ elim (distance_cases n (next_slot n at) at) [ inl q ↦ omega (arith, b, q) | inr q ↦ omega (arith, b, q) ]
     ]

@@ -8,8 +8,8 @@ use Rattle.std.proofs.lemmas.Bool.{cases_Bool}
 use Rattle.std.proofs.lemmas.Bool.Decides.{leb_tells, nat_tests}
 use Rattle.std.proofs.lemmas.List.Sums.{sum_by-cons}
 use Rattle.index.specs.declared.slots.Slot.{Slot}
-use Rattle.index.specs.Slots.{distance, behind, is_used, slot_at, used_in, AreUsedUpTo}
-use Rattle.index.proofs.RowDistances.{distance_itself, distance_below, distance_once, distance_behind, distance_upto, behind_below}
+use Rattle.index.specs.Slots.{distance, next_slot, is_used, slot_at, used_in, AreUsedUpTo}
+use Rattle.index.proofs.RowDistances.{distance_itself, distance_below, distance_once, distance_to_next, distance_upto, next_slot_below}
 
 -- true isn't false
 true_false : true ≡ false → ⊥
@@ -62,13 +62,13 @@ gap_ahead slots from at gap f way is used =
 -- where some slot isn't used, a search at a used slot may go on to the next: it has passed only used ones there, too
 pub way_goes_on : (slots : List Slot) (from at : ℕ) → from < length slots → used_in slots < length slots
     → IsOnWay slots from at
-    → is_used (slot_at slots at) ≡ true → IsOnWay slots from (behind (length slots) at)
+    → is_used (slot_at slots at) ≡ true → IsOnWay slots from (next_slot (length slots) at)
 way_goes_on slots from at f less way used =
     let n = length slots in
     let gap = some_gap slots less in
     let ahead = gap_ahead slots from at gap.0 f way gap.1 used in
     record {
-      at_range = behind_below n at way.at_range;
+      at_range = next_slot_below n at way.at_range;
       up_to = λ x i upto. elim (distance_upto n from at x gap.0 f way.at_range i gap.1.in_range ahead upto) [
         | inl y ↦ way.up_to x i y
         | inr y ↦ rw y used
@@ -79,13 +79,13 @@ way_goes_on slots from at f less way used =
 pub way_shortens : (slots : List Slot) (from at : ℕ) → from < length slots → used_in slots < length slots
     → IsOnWay slots from at
     → is_used (slot_at slots at) ≡ true
-    → length slots - distance (length slots) from (behind (length slots) at)
+    → length slots - distance (length slots) from (next_slot (length slots) at)
     < length slots - distance (length slots) from at
 way_shortens slots from at f less way used =
     let n = length slots in
     let gap = some_gap slots less in
     let ahead = gap_ahead slots from at gap.0 f way gap.1 used in
-    let step = distance_behind n from at gap.0 f way.at_range gap.1.in_range ahead in
+    let step = distance_to_next n from at gap.0 f way.at_range gap.1.in_range ahead in
     let below = distance_below n from gap.0 f gap.1.in_range in
     omega (arith, step, below, ahead)
 
@@ -95,7 +95,7 @@ pub way_keeps : (P : ℕ → Type 0) (slots : List Slot) (from at : ℕ) → fro
     → is_used (slot_at slots at) ≡ true
     → ((x : ℕ) → x < length slots → distance (length slots) from x < distance (length slots) from at → P x) → P at
     → (x : ℕ) → x < length slots → distance (length slots) from x
-    < distance (length slots) from (behind (length slots) at) → P x
+    < distance (length slots) from (next_slot (length slots) at) → P x
 way_keeps P slots from at f less way used passed here x i upto =
     let n = length slots in
     let gap = some_gap slots less in
@@ -107,11 +107,11 @@ way_keeps P slots from at f less way used passed here x i upto =
 
 -- a search that hasn't come to a slot is at most as far as it after its next step, too
 pub nears : (n from at end : ℕ) → from < n → at < n → end < n → distance n from at ≤ distance n from end → at ≢ end
-    → distance n from (behind n at) ≤ distance n from end
+    → distance n from (next_slot n at) ≤ distance n from end
 nears n from at end f a e le differ =
     elim (leb_tells (distance n from end) (distance n from at)) [
       | inl y ↦ absurd (differ (distance_once n from at end f a e (omega (arith, le, y))))
-      | inr y ↦ (let step = distance_behind n from at end f a e y.1 in omega (arith, step, y))
+      | inr y ↦ (let step = distance_to_next n from at end f a e y.1 in omega (arith, step, y))
     ]
 
 -- no slot is nearer to a search's first one than that one itself, so anything holds of those that are

@@ -10,10 +10,10 @@ use Rattle.segments.specs.declared.place.Place.{Place}
 use Rattle.std.specs.declared.hash.FoldHasher.{FoldHasher}
 use Rattle.index.specs.Keys.{KeysOf, hash_of}
 use Rattle.index.proofs.SplitHomes.{home_below}
-use Rattle.index.specs.Slots.{is_used, place_of, slot_at, used_in, empty_slot, distance, behind, AreUsedUpTo}
+use Rattle.index.specs.Slots.{is_used, place_of, slot_at, used_in, empty_slot, distance, next_slot, AreUsedUpTo}
 use Rattle.index.specs.Table.{hashing, Hashing, AreIndexed, IsSlotFound}
 use Rattle.index.specs.BackwardShift.{IsWithout}
-use Rattle.index.proofs.RowDistances.{distance_once, distance_itself, distance_below, distance_behind, behind_below, distance_add, distance_sum}
+use Rattle.index.proofs.RowDistances.{distance_once, distance_itself, distance_below, distance_to_next, next_slot_below, distance_add, distance_sum}
 use Rattle.index.proofs.RowDistances.{distance_within, distance_apart}
 use Rattle.index.proofs.SearchesUpToGap.{some_gap}
 use Rattle.index.proofs.SlotsAsMap.{Stands, removed_places, stands_once}
@@ -133,7 +133,7 @@ module _ (h : Hashing) (keys : KeysOf) (old : List Slot) (in_row : (k : List ℕ
   pub begins : (start : ℕ) (key : List ℕ) → start < length old → is_used (slot_at old start) ≡ true
       → keys (place_of (slot_at old start)) ≡ Some key
       → AreIndexed h keys old → used_in old < length old
-      → IsShifting h keys old (slice_set old start empty_slot) start start (behind (length old) start) key
+      → IsShifting h keys old (slice_set old start empty_slot) start start (next_slot (length old) start) key
   begins start key r u key_is indexed less =
       let n = length old in
       let v = slice_set old start empty_slot in
@@ -145,8 +145,8 @@ module _ (h : Hashing) (keys : KeysOf) (old : List Slot) (in_row : (k : List ℕ
       (sym u ∙ ap (λ (k : ℕ). is_used (slot_at old k)) (sym same) ∙ gap.1.empty) in
       let zero_far = distance_itself n start in
       let far = distance_apart n start e r e_in apart in
-      let step = distance_behind n start start e r r e_in (omega (arith, zero_far, far)) in
-      let next_in = behind_below n start r in
+      let step = distance_to_next n start start e r r e_in (omega (arith, zero_far, far)) in
+      let next_in = next_slot_below n start r in
       record {
         len = length-set old start empty_slot;
         start_range = r;
@@ -216,14 +216,14 @@ module _ (h : Hashing) (keys : KeysOf) (old : List Slot) (in_row : (k : List ℕ
           | inr y ↦ y.1
         ]
 
-    hole_step : distance (length old) hole (behind (length old) next) ≡ distance (length old) hole next + 1
-    hole_step = distance_behind (length old) hole next c.gap.0 c.hole_range c.next_range c.gap.1.in_range hole_to_gap
+    hole_step : distance (length old) hole (next_slot (length old) next) ≡ distance (length old) hole next + 1
+    hole_step = distance_to_next (length old) hole next c.gap.0 c.hole_range c.next_range c.gap.1.in_range hole_to_gap
 
-    start_step : distance (length old) start (behind (length old) next) ≡ distance (length old) start next + 1
-    start_step = distance_behind (length old) start next c.gap.0 c.start_range c.next_range c.gap.1.in_range
+    start_step : distance (length old) start (next_slot (length old) next) ≡ distance (length old) start next + 1
+    start_step = distance_to_next (length old) start next c.gap.0 c.start_range c.next_range c.gap.1.in_range
         start_to_gap
 
-    pub shifting_shortens : length old - distance (length old) start (behind (length old) next)
+    pub shifting_shortens : length old - distance (length old) start (next_slot (length old) next)
         < length old - distance (length old) start next
     shifting_shortens =
         let b = distance_below (length old) start c.gap.0 c.start_range c.gap.1.in_range in
@@ -241,13 +241,13 @@ module _ (h : Hashing) (keys : KeysOf) (old : List Slot) (in_row : (k : List ℕ
           (omega (arith, lt)) in
           omega (arith, s, stays)
 
-      pub stayed : IsShifting h keys old slots start hole (behind (length old) next) key
+      pub stayed : IsShifting h keys old slots start hole (next_slot (length old) next) key
       stayed =
           record {
             len = c.len;
             start_range = c.start_range;
             hole_range = c.hole_range;
-            next_range = behind_below (length old) next c.next_range;
+            next_range = next_slot_below (length old) next c.next_range;
             hole_empty = c.hole_empty;
             each = λ i i_in used.
                 let f = c.each i i_in used in (
@@ -339,11 +339,11 @@ module _ (h : Hashing) (keys : KeysOf) (old : List Slot) (in_row : (k : List ℕ
       apart_far = distance_apart (length old) hole next c.hole_range c.next_range c.ahead
 
       each_found : (i : ℕ) → i < length old → is_used (slot_at new i) ≡ true
-          → (key : List ℕ) × IsNearlyFound h keys (length old) new next (behind (length old) next) i key
+          → (key : List ℕ) × IsNearlyFound h keys (length old) new next (next_slot (length old) next) i key
       each_found i i_in used =
           elim (eqb_tells i hole) [
             | inl y ↦ subst (λ (j : ℕ). (key : List ℕ)
-                × IsNearlyFound h keys (length old) new next (behind (length old) next) j key) (sym y.1) in_hole
+                × IsNearlyFound h keys (length old) new next (next_slot (length old) next) j key) (sym y.1) in_hole
             | inr y ↦
                 let b : i ≢ next = not_at new i next used new_next in
                 let same = new_others i y.1 b in
@@ -362,15 +362,15 @@ module _ (h : Hashing) (keys : KeysOf) (old : List Slot) (in_row : (k : List ℕ
           ]
         where
           one_step : (i : ℕ) → i < length old → i ≢ next
-              → distance (length old) next (behind (length old) next) ≤ distance (length old) next i
+              → distance (length old) next (next_slot (length old) next) ≤ distance (length old) next i
           one_step i i_in differ =
               let n = length old in
               let d = distance_apart n next i c.next_range i_in differ in
               let z = distance_itself n next in
-              let s = distance_behind n next next i c.next_range c.next_range i_in (omega (arith, d, z)) in
+              let s = distance_to_next n next next i c.next_range c.next_range i_in (omega (arith, d, z)) in
               omega (arith, d, z, s)
 
-          in_hole : (key : List ℕ) × IsNearlyFound h keys (length old) new next (behind (length old) next) hole key
+          in_hole : (key : List ℕ) × IsNearlyFound h keys (length old) new next (next_slot (length old) next) hole key
           in_hole =
               let f = c.each next c.next_range u in
               let e : Some f.0 ≡ Some k = sym f.1.of_key ∙ k_is in
@@ -465,19 +465,19 @@ module _ (h : Hashing) (keys : KeysOf) (old : List Slot) (in_row : (k : List ℕ
           let e = ap used_in new_is in
           omega (arith, a, b, was, one, there, e)
 
-      pub moved : IsShifting h keys old new start next (behind (length old) next) key
+      pub moved : IsShifting h keys old new start next (next_slot (length old) next) key
       moved =
           let n = length old in
           let g = c.gap.1 in
           let e = c.gap.0 in
           let far = distance_apart n next e c.next_range g.in_range gap_apart in
           let z = distance_itself n next in
-          let s = distance_behind n next next e c.next_range c.next_range g.in_range (omega (arith, far, z)) in
+          let s = distance_to_next n next next e c.next_range c.next_range g.in_range (omega (arith, far, z)) in
           record {
             len = new_len;
             start_range = c.start_range;
             hole_range = c.next_range;
-            next_range = behind_below n next c.next_range;
+            next_range = next_slot_below n next c.next_range;
             hole_empty = new_next;
             each = each_found;
             once = once_still;

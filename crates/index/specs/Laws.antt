@@ -5,7 +5,7 @@ use Rattle.segments.specs.Pools.{PoolState, Plan, IsPool, Liveness}
 use Rattle.segments.specs.Merges.{IsPlan, with_merge_planned, carried_out}
 use Rattle.index.specs.Keys.{KeysOf}
 use Rattle.segments.specs.Pools.{key_at}
-use Rattle.index.specs.Relocating.{CanRelocate, HoldsLive, keys_behind}
+use Rattle.index.specs.Relocating.{CanRelocate, HoldsLive, keys_after_merge}
 use Rattle.index.specs.Layouts.{IsLayoutOf}
 use Rattle.index.specs.Slots.{used_in}
 use Rattle.index.specs.Table.{Table, IsIndex, HasPlace, IsMap, places}
@@ -28,4 +28,4 @@ PlansCanRelocate =
     (lives : Liveness) (p : PoolState) (plan : Plan) (t : Table) → IsPool p → IsPlan lives p plan
     → IsPool (carried_out (with_merge_planned p plan) plan)
     → IsLayoutOf p.sizes t.layout → IsIndex (key_at p) t → HoldsLive lives p t
-    → CanRelocate (key_at (with_merge_planned p plan)) (keys_behind (with_merge_planned p plan)) t plan.moves
+    → CanRelocate (key_at (with_merge_planned p plan)) (keys_after_merge (with_merge_planned p plan)) t plan.moves

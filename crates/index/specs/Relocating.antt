@@ -33,8 +33,8 @@ abbrev pub forget_lost : List Move → Place → Option Place
 forget_lost moves p = if list_any (λ m. not (is_some m.target) && same_place m.source p) moves then None else Some p
 
 -- the keys of the places after the merge that is planned
-abbrev pub keys_behind : PoolState → KeysOf
-keys_behind p = option_map_or (λ plan. key_at (carried_out p plan)) p.plan (key_at p)
+abbrev pub keys_after_merge : PoolState → KeysOf
+keys_after_merge p = option_map_or (λ plan. key_at (carried_out p plan)) p.plan (key_at p)
 
 -- Moves by which a table can be relocated: each that keeps its item starts at a place of the table, and its target
 -- has the key of its source; no place of the table at which none starts gets another key.

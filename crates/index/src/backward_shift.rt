@@ -9,7 +9,7 @@ ghost use Rattle.index.specs.BackwardShift.{IsWithout};
 
 use crate::hash::{hash_of, home_of};
 use crate::search::has_gap;
-use crate::slots::{Slot, Slots, behind, distance};
+use crate::slots::{Slot, Slots, distance, next_slot};
 use segments::Pool;
 use std::hash::FoldHasher;
 
@@ -74,14 +74,15 @@ pub fn delete(slots: &mut Slots, at: usize, hasher: FoldHasher, pool: &Pool)
 {
     let count = slots.len();
     let mut hole = at;
-    let mut next = behind(count, at);
+    let mut next = next_slot(count, at);
+    // The loop has a label for its proof alone.
     'scan: while slots.get(next).is_used() {
         let home = home_in(slots, next, hasher, pool);
         if distance(count, hole, next) <= distance(count, home, next) {
             slots.copy(next, hole);
             hole = next;
         }
-        next = behind(count, next);
+        next = next_slot(count, next);
     }
     slots.empty(hole);
 }

@@ -12,16 +12,16 @@ ghost use Rattle.index.specs.Table.{hashing, AreIndexed, IsIndex, table_of};
 use crate::backward_shift::home_at;
 use crate::hash::split_home;
 use crate::search::first_gap_before;
-use crate::slots::{Slots, behind, distance};
+use crate::slots::{Slots, distance, next_slot};
 use proto::{Geometry, MIN_ITEM_SIZE};
 use segments::Pool;
 use std::hash::FoldHasher;
 
 /// The most slots that are added for one new key: more than two, so that at most half of the slots are ever used.
-const MOST_AT_ONCE: usize = 3;
+const MAX_GROWTH: usize = 3;
 
 /// The most slots for each key.
-const SLOTS_FOR_EACH: usize = 3;
+const SLOTS_PER_KEY: usize = 3;
 
 /// The slots of the index for a pool of these sizes. The items of a full pool use at most half of them.
 pub fn slots_for(geometry: Geometry) -> usize
@@ -80,6 +80,7 @@ fn reinsert(slots: &mut Slots, from: usize, count: usize, hasher: FoldHasher, po
         first: from,
         end: from,
     };
+    // The loop has a label for its proof alone.
     'cluster: while slots.get(at).is_used() {
         let home = home_at(slots.get(at), count, hasher, pool);
         known = search(slots, known, home, at);
@@ -88,7 +89,7 @@ fn reinsert(slots: &mut Slots, from: usize, count: usize, hasher: FoldHasher, po
             slots.copy(at, gap);
             slots.empty(at);
         }
-        at = behind(slots.len(), at);
+        at = next_slot(slots.len(), at);
     }
 }
 
@@ -128,8 +129,8 @@ pub fn grow_for(slots: &mut Slots, keys: usize, hasher: FoldHasher, pool: &Pool)
     ensures indexed { IsIndex (key_at pool.now) (table_of slots.new hasher) }
     ensures same { HasSamePlaces (key_at pool.now) slots.old slots.new }
 {
-    let mut left = MOST_AT_ONCE;
-    while left > 0 && slots.len() < slots.room() && slots.len() / SLOTS_FOR_EACH < keys {
+    let mut left = MAX_GROWTH;
+    while left > 0 && slots.len() < slots.room() && slots.len() / SLOTS_PER_KEY < keys {
         grow(slots, hasher, pool);
         left -= 1;
     }

@@ -5,7 +5,7 @@ ghost use Rattle.index.specs.Layouts.{IsLayout, IsLayoutOf, CanHold, packed_limi
 ghost use Rattle.index.specs.Layouts.{packed_of};
 
 use crate::slots::{EMPTY, Slot};
-use proto::Geometry;
+use proto::{Geometry, MAX_SEGMENTS};
 use segments::Place;
 
 /// How many bits an offset takes, counted in eight bytes, and how many a place takes. A packed slot has four bytes, of
@@ -16,8 +16,11 @@ pub struct Layout {
     pub place_bits: u32,
 }
 
-/// The most segments of a pool.
-const MAX_SEGMENTS: u64 = 65_536;
+/// The most bits of an offset: the longest segment has 2^17 times eight bytes.
+const MOST_OFFSET_BITS: u32 = 17;
+
+/// The most bits of a place: of the most segments, each as long.
+const MOST_PLACE_BITS: u32 = 33;
 
 /// The fewest bits, at least one, that hold each number below `count`.
 fn bits_for(count: u64, most: u32) -> u32
@@ -40,8 +43,9 @@ pub fn layout_for(geometry: Geometry) -> Layout
     ensures layout { IsLayout result }
     ensures sizes { IsLayoutOf geometry result }
 {
-    let offset_bits = bits_for((geometry.segment_size() as u64 + 7) / 8, 17);
-    let place_bits = bits_for(geometry.segments() as u64 * (1u64 << offset_bits), 33);
+    let offset_bits = bits_for((geometry.segment_size() as u64 + 7) / 8, MOST_OFFSET_BITS);
+    let segments = geometry.segments() as u64;
+    let place_bits = bits_for(segments * (1u64 << offset_bits), MOST_PLACE_BITS);
     Layout {
         offset_bits,
         place_bits,
@@ -109,7 +113,7 @@ impl Layout {
         Slot {
             tag: (packed >> self.place_bits) + 1,
             place: Place {
-                segment: ((number >> self.offset_bits) % MAX_SEGMENTS) as u32,
+                segment: ((number >> self.offset_bits) % u64::from(MAX_SEGMENTS)) as u32,
                 offset: 8 * (number & ((1u64 << self.offset_bits) - 1)) as u32,
             },
         }

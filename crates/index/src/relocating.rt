@@ -5,7 +5,7 @@ ghost use Rattle.segments.specs.Pools.{item_in, key_at};
 ghost use Rattle.segments.specs.Merges.{planned_moves};
 ghost use Rattle.segments.specs.Places.{moved_by};
 ghost use Rattle.index.specs.Table.{IsIndex, IsSameSize, HasPlace};
-ghost use Rattle.index.specs.Relocating.{IsRelocated, CanRelocate, forget_lost, keys_behind};
+ghost use Rattle.index.specs.Relocating.{IsRelocated, CanRelocate, forget_lost, keys_after_merge};
 
 use crate::hash::hash_of;
 use crate::index::Index;
@@ -57,9 +57,9 @@ impl Index {
     fn move_kept(&mut self, pool: &Pool, moves: &[Move])
         requires index { IsIndex (key_at pool.now) self.old }
         requires sources { All (λ m. IsSome (item_in pool.now m.source)) moves.now }
-        requires can { CanRelocate (key_at pool.now) (keys_behind pool.now) self.old moves.now }
+        requires can { CanRelocate (key_at pool.now) (keys_after_merge pool.now) self.old moves.now }
         requires lost { All (λ m. m.target ≡ None → ¬ (HasPlace self.old m.source)) moves.now }
-        ensures relocated { IsRelocated (key_at pool.now) (keys_behind pool.now)
+        ensures relocated { IsRelocated (key_at pool.now) (keys_after_merge pool.now)
             (moved_by moves.now) self.old self.new }
         ensures size { IsSameSize self.old self.new }
     {
@@ -80,8 +80,8 @@ impl Index {
     /// for each move.
     pub fn relocate(&mut self, pool: &Pool)
         requires index { IsIndex (key_at pool.now) self.old }
-        requires can { CanRelocate (key_at pool.now) (keys_behind pool.now) self.old (planned_moves pool.now.plan) }
-        ensures relocated { IsRelocated (key_at pool.now) (keys_behind pool.now)
+        requires can { CanRelocate (key_at pool.now) (keys_after_merge pool.now) self.old (planned_moves pool.now.plan) }
+        ensures relocated { IsRelocated (key_at pool.now) (keys_after_merge pool.now)
             (moved_by (planned_moves pool.now.plan)) self.old self.new }
         ensures size { IsSameSize self.old self.new }
     {

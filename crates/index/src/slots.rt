@@ -1,7 +1,7 @@
 //! The slots of a table, each packed into one number, and the steps from slot to slot.
 
 ghost use Rattle.std.specs.Prelude.{◌≡◌, ◌<◌, ◌≤◌, ◌∷◌, [], ◌++◌, IfOk, length, slice_set};
-ghost use Rattle.index.specs.Slots.{is_used, distance, behind, empty_slot, slot_at};
+ghost use Rattle.index.specs.Slots.{is_used, distance, next_slot, empty_slot, slot_at};
 ghost use Rattle.index.specs.Layouts.{IsLayout, CanHold, slot_of, packed_limit};
 
 use crate::layout::Layout;
@@ -11,7 +11,7 @@ use std::alloc::Global;
 use std::marker::Model;
 
 /// A place, and bits of the hash of its key, by which a search passes most slots of other keys. A slot with the tag 0
-/// is empty.
+/// is empty. Of a used one, 1 less than the tag is packed.
 #[derive(Clone, Copy)]
 pub struct Slot {
     pub tag: u64,
@@ -36,9 +36,9 @@ impl Slot {
 }
 
 /// The slot after a slot; after the last of `count` comes the first.
-pub fn behind(count: usize, at: usize) -> usize
+pub fn next_slot(count: usize, at: usize) -> usize
     requires { at < count }
-    ensures value { result ≡ behind count at }
+    ensures value { result ≡ next_slot count at }
     ensures in_range { result < count }
 {
     if at + 1 == count { 0 } else { at + 1 }

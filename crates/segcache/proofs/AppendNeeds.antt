@@ -14,7 +14,7 @@ use Rattle.segments.specs.Pools.{key_at}
 use Rattle.index.specs.Slots.{used_in}
 use Rattle.index.specs.Table.{Table, Places, IsIndex, IsMap, places, place_at}
 use Rattle.segcache.specs.Shown.{current}
-use Rattle.segcache.specs.Kept.{IsTied}
+use Rattle.segcache.specs.Invariants.{IsTied}
 use Rattle.segcache.proofs.TiedParts.{current_item, held_place, same_current}
 use Rattle.segcache.proofs.PlaceCounts.{slot_to_spare}
 use Rattle.index.proofs.PoolKeys.{item_key}

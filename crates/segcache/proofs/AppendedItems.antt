@@ -25,12 +25,12 @@ use Rattle.segments.proofs.InTimeLemmas.{in_time_appended}
 use Rattle.segments.specs.Marks.{Marks}
 use Rattle.index.specs.Table.{Table, Places}
 use Rattle.segcache.specs.Shown.{current, shown_entries, live_entries, entry_at, kept_entry}
-use Rattle.segcache.specs.Kept.{IsTied, IsPast}
+use Rattle.segcache.specs.Invariants.{IsTied, IsPast}
 use Rattle.proto.proofs.CacheLemmas.{without-nil}
 use Rattle.segcache.specs.Room.{IsPut, IsPutOver, IsPutBeside, AreKept}
 use Rattle.segcache.proofs.WriteParts.{insert_removed}
 use Rattle.segcache.proofs.OpeningMoments.{in_time_past}
-use Rattle.segcache.specs.Forgetting.{HasMadeRoom, PlacesItem}
+use Rattle.segcache.specs.ForgottenKeys.{HasMadeRoom, PlacesItem}
 use Rattle.index.proofs.SlotsAsMap.{get-insert}
 use Rattle.segcache.specs.State.{MapState}
 use Rattle.segcache.proofs.ShownItems.{shown_insert, shown_remove, entry_is}

@@ -22,7 +22,7 @@ use Rattle.segments.proofs.MovedPlaces.{same_place_is, same_place_itself}
 use Rattle.index.specs.Table.{Table, Places}
 use Rattle.segcache.specs.Shown.{current, shown_entries, live_entries, entry_at, kept_entry}
 use Rattle.segcache.specs.State.{MapState, IsSegmentedMap}
-use Rattle.segcache.specs.Kept.{IsPast}
+use Rattle.segcache.specs.Invariants.{IsPast}
 use Rattle.segcache.specs.Keeping.{KeepsStored}
 use Rattle.segcache.specs.Writes.{StandsAt, ChangesInPlace, unread, with_value}
 use Rattle.engine.specs.Written.{IsWritten, IsChanged, MayBeWritten}

@@ -28,9 +28,9 @@ use Rattle.segments.specs.Pools.{key_at}
 use Rattle.segments.specs.Marks.{Marks, is_marked, lives_by}
 use Rattle.index.specs.Table.{Table, Places}
 use Rattle.segcache.specs.Shown.{current, shown_entries, entry_at, kept_entry, dead_entry}
-use Rattle.segcache.specs.Leaving.{HasLeft}
+use Rattle.segcache.specs.Removals.{HasLeft}
 use Rattle.segcache.proofs.OpeningMoments.{past_cleared}
-use Rattle.segcache.specs.Kept.{IsTied, IsPast}
+use Rattle.segcache.specs.Invariants.{IsTied, IsPast}
 use Rattle.segcache.specs.Room.{AllWait, IsCrowded, IsRoomMade, AreKept}
 use Rattle.segcache.proofs.ShownItems.{get-live_in, entry_live, entry_is, shown_without}
 use Rattle.segcache.proofs.TiedParts.{current_item, tied_same}

@@ -25,13 +25,13 @@ use Rattle.segments.proofs.AgreeingTests.{same_live_items, same_live_standing, s
 use Rattle.segments.specs.Marks.{Marks, is_marked, lives_by}
 use Rattle.index.specs.Table.{Table, Places}
 use Rattle.segcache.specs.Shown.{current, shown_entries, live_entries, entry_at}
-use Rattle.segcache.specs.Kept.{IsTied}
+use Rattle.segcache.specs.Invariants.{IsTied}
 use Rattle.segcache.specs.State.{MapState, IsSegmentedMap}
-use Rattle.segcache.specs.Leaving.{HaveExpiredLeft}
-use Rattle.segcache.specs.Living.{live_marks, live_others}
-use Rattle.segcache.specs.Making.{MakesRoom}
-use Rattle.segcache.specs.Making.MakesRoom.{has_room, gives_back, evicts}
-use Rattle.segcache.specs.Forgetting.{IsEvicted, HasMadeRoom, PlacesItem, keys_evicted, keys_forgotten}
+use Rattle.segcache.specs.Removals.{HaveExpiredLeft}
+use Rattle.segcache.specs.LiveItems.{live_marks, live_others}
+use Rattle.segcache.specs.Allocation.{MakesRoom}
+use Rattle.segcache.specs.Allocation.MakesRoom.{has_room, gives_back, evicts}
+use Rattle.segcache.specs.ForgottenKeys.{IsEvicted, HasMadeRoom, PlacesItem, keys_evicted, keys_forgotten}
 use Rattle.segcache.proofs.TiedParts.{removed_at, removed_other}
 use Rattle.segcache.proofs.GivenBack.{all_alive}
 use Rattle.segcache.proofs.MergePlans.{with_plan, shown_replanned}

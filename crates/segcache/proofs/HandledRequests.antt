@@ -19,8 +19,8 @@ use Rattle.segcache.specs.State.{MapState, IsSegmentedMap}
 use Rattle.segcache.specs.StoreState.{sizes_in, segmented_cache}
 use Rattle.segcache.specs.Writes.{StandsAt, WritesToSegments, ChangesSegments, stays_as, IsReadAgain, IsTouched, HasSamePool}
 use Rattle.segcache.specs.Keeping.{KeepsStored}
-use Rattle.segcache.specs.Handling.{LeavesSegments, HandlesSegments}
-use Rattle.segcache.specs.Handling.LeavesSegments.{writes, changes, dates, reads, stays, refuses}
+use Rattle.segcache.specs.Requests.{LeavesSegments, HandlesSegments}
+use Rattle.segcache.specs.Requests.LeavesSegments.{writes, changes, dates, reads, stays, refuses}
 
 -- the members of a segmented map
 abbrev pub members : MapOf SegmentMap Place

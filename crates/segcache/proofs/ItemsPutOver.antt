@@ -18,7 +18,7 @@ use Rattle.segments.proofs.ItemChanges.{KeepsSize, keeps_over}
 use Rattle.index.specs.Table.{Places}
 use Rattle.segcache.specs.Shown.{current, shown_entries, live_entries, entry_at, kept_entry}
 use Rattle.segcache.specs.State.{MapState, IsSegmentedMap}
-use Rattle.segcache.specs.Kept.{IsPast}
+use Rattle.segcache.specs.Invariants.{IsPast}
 use Rattle.segcache.specs.Keeping.{KeepsStored}
 use Rattle.segcache.specs.Writes.{StandsAt, GoesOver, unread, loses_little, may_give, goes_over}
 use Rattle.segcache.proofs.TiedParts.{current_item, some_item, tied_changed}

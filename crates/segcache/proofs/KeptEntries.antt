@@ -26,10 +26,10 @@ use Rattle.segments.proofs.FilledLemmas.{filled_changed}
 use Rattle.index.specs.Table.{Places}
 use Rattle.segcache.specs.Shown.{current, shown_entries, live_entries, entry_at, kept_entry, dead_entry}
 use Rattle.segcache.specs.State.{MapState}
-use Rattle.segcache.specs.Kept.{IsPast}
-use Rattle.segcache.specs.Living.{live_others}
+use Rattle.segcache.specs.Invariants.{IsPast}
+use Rattle.segcache.specs.LiveItems.{live_others}
 use Rattle.segcache.specs.Writes.{StandsAt, unread, goes_over, WritesAnew}
-use Rattle.segcache.specs.Forgetting.{PlacesItem, keys_forgotten}
+use Rattle.segcache.specs.ForgottenKeys.{PlacesItem, keys_forgotten}
 use Rattle.segcache.specs.Keeping.{AllLast, KeepsStored}
 use Rattle.segcache.proofs.ShownItems.{get-live_in, entry_is}
 use Rattle.segcache.proofs.OpeningMoments.{was_opened}

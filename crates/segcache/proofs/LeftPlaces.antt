@@ -24,8 +24,8 @@ use Rattle.index.specs.Layouts.{IsLayoutOf}
 use Rattle.segments.specs.Pools.{key_at}
 use Rattle.index.specs.Table.{Table, Places, IsMap, IsSameSize}
 use Rattle.segcache.specs.Shown.{current, live_entries, shown_entries}
-use Rattle.segcache.specs.Kept.{IsTied}
-use Rattle.segcache.specs.Leaving.{HasLeft, HaveExpiredLeft}
+use Rattle.segcache.specs.Invariants.{IsTied}
+use Rattle.segcache.specs.Removals.{HasLeft, HaveExpiredLeft}
 use Rattle.segcache.specs.State.{MapState, IsSegmentedMap}
 use Rattle.segcache.proofs.ShownItems.{shown_remove}
 use Rattle.segcache.proofs.TiedParts.{current_item, removed_at, removed_other}

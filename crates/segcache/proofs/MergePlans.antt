@@ -13,9 +13,9 @@ use Rattle.segments.proofs.InTimeLemmas.{order_same}
 use Rattle.segments.specs.Pools.{key_at}
 use Rattle.index.specs.Table.{Table, Places}
 use Rattle.segcache.specs.Shown.{current, shown_entries, live_entries, entry_at}
-use Rattle.segcache.specs.Kept.{IsTied, IsPast}
+use Rattle.segcache.specs.Invariants.{IsTied, IsPast}
 use Rattle.segcache.specs.Room.{IsCrowded, IsRoomMade}
-use Rattle.segcache.specs.Merging.{HasPlan}
+use Rattle.segcache.specs.PlannedMerges.{HasPlan}
 use Rattle.segcache.proofs.ShownItems.{shown_same}
 use Rattle.segcache.proofs.TiedParts.{tied_same}
 use Rattle.segcache.proofs.MergedMarks.{planned_again}

@@ -20,9 +20,9 @@ use Rattle.index.specs.Table.{Table}
 use Rattle.index.specs.Relocating.{AreInTurn}
 use Rattle.index.proofs.MoveOrder.{plan_in_turn}
 use Rattle.segcache.specs.Shown.{current, shown_entries}
-use Rattle.segcache.specs.Kept.{IsTied}
-use Rattle.segcache.specs.Leaving.{HasLeft}
-use Rattle.segcache.specs.Forgetting.{IsEvicted}
+use Rattle.segcache.specs.Invariants.{IsTied}
+use Rattle.segcache.specs.Removals.{HasLeft}
+use Rattle.segcache.specs.ForgottenKeys.{IsEvicted}
 use Rattle.segcache.proofs.LeftPlaces.{standing_all}
 use Rattle.segcache.proofs.EvictedKeys.{IsCurrent, key_in, left_entries, current_among, cleared_stayed}
 use Rattle.segcache.proofs.MergedMarks.{IsMergeRelocated, moved_at}

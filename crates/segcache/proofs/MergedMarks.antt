@@ -23,13 +23,13 @@ use Rattle.index.specs.Keys.{KeysOf}
 use Rattle.segments.specs.Pools.{key_at}
 use Rattle.index.specs.Layouts.{IsLayoutOf}
 use Rattle.index.specs.Table.{Table, IsSameSize}
-use Rattle.index.specs.Relocating.{IsRelocated, CanRelocate, HoldsLive, AreInTurn, keys_behind}
+use Rattle.index.specs.Relocating.{IsRelocated, CanRelocate, HoldsLive, AreInTurn, keys_after_merge}
 use Rattle.index.proofs.RelocatablePlans.{StandsLive, starts_live, plan_relocates}
 use Rattle.index.proofs.MoveOrder.{plan_in_turn}
 use Rattle.index.proofs.SlotsAsMap.{stands_from_get}
 use Rattle.segcache.specs.Shown.{current}
-use Rattle.segcache.specs.Kept.{IsTied}
-use Rattle.segcache.specs.Merging.{HasPlan}
+use Rattle.segcache.specs.Invariants.{IsTied}
+use Rattle.segcache.specs.PlannedMerges.{HasPlan}
 use Rattle.segcache.proofs.TiedParts.{current_item, same_mark, held_place, mark_itself, one_place}
 use Rattle.segments.proofs.MarkedPlaces.{kept_mark}
 
@@ -306,12 +306,12 @@ holds_marked p index marks tied =
 -- what relocating requires
 pub can_relocate : (p : PoolState) (index : Table) (marks : Marks) → IsTied p index marks → HasPlan p marks
     → IfSome p.plan (λ plan. IsPool (carried_out p plan))
-    → CanRelocate (key_at p) (keys_behind p) index (planned_moves p.plan)
+    → CanRelocate (key_at p) (keys_after_merge p) index (planned_moves p.plan)
 can_relocate p index marks tied h behind =
     let is = has_planned p h.plan h.planned in
     let pool : IsPool (carried_out p h.plan) =
     subst (λ (o : Option Plan). IfSome o (λ plan. IsPool (carried_out p plan))) h.planned behind in
-    subst (λ (r : PoolState). CanRelocate (key_at r) (keys_behind r) index (planned_moves r.plan)) (sym is)
+    subst (λ (r : PoolState). CanRelocate (key_at r) (keys_after_merge r) index (planned_moves r.plan)) (sym is)
     (plan_relocates (lives_by marks) p h.plan index tied.known.pool h.is_plan
     (subst (λ (r : PoolState). IsPool (carried_out r h.plan)) is pool) tied.layout tied.indexed
     (holds_marked p index marks tied))
@@ -320,12 +320,12 @@ can_relocate p index marks tied h behind =
 pub merge_relocated : (p after : PoolState) (index found : Table) (marks : Marks) → IsTied p index marks
     → (h : HasPlan p marks)
     → IfSome p.plan (λ plan. after ≡ carried_out p plan) → IsPool after
-    → IsRelocated (key_at p) (keys_behind p) (moved_by (planned_moves p.plan)) index found → IsSameSize index found
+    → IsRelocated (key_at p) (keys_after_merge p) (moved_by (planned_moves p.plan)) index found → IsSameSize index found
     → IsMergeRelocated p h.plan after index found marks
 merge_relocated p after index found marks tied h merged pool f size =
     let is : after ≡ carried_out p h.plan =
     subst (λ (o : Option Plan). IfSome o (λ plan. after ≡ carried_out p plan)) h.planned merged in
-    let keys : keys_behind p ≡ key_at after =
+    let keys : keys_after_merge p ≡ key_at after =
     ap (λ (o : Option Plan). option_map_or (λ plan. key_at (carried_out p plan)) o (key_at p)) h.planned
     ∙ ap key_at (sym is) in
     record {
@@ -336,7 +336,7 @@ merge_relocated p after index found marks tied h merged pool f size =
           (is ∙ ap (λ (r : PoolState). carried_out r h.plan) (has_planned p h.plan h.planned));
       pool = pool;
       relocated = subst (λ (k : KeysOf). IsRelocated (key_at p) k (moved_by h.plan.moves) index found) keys
-          (subst (λ (moves : List Move). IsRelocated (key_at p) (keys_behind p) (moved_by moves) index found)
+          (subst (λ (moves : List Move). IsRelocated (key_at p) (keys_after_merge p) (moved_by moves) index found)
           (ap planned_moves h.planned) f);
       size = size;
     }

@@ -25,7 +25,7 @@ use Rattle.segments.proofs.FrontLemmas.{most_four}
 use Rattle.segments.specs.Marks.{Marks, is_marked, lives_by}
 use Rattle.index.specs.Table.{Table}
 use Rattle.segcache.specs.Shown.{current, entry_at, kept_entry}
-use Rattle.segcache.specs.Kept.{IsTied, IsPast}
+use Rattle.segcache.specs.Invariants.{IsTied, IsPast}
 use Rattle.segcache.specs.Room.{IsCrowded, IsRoomMade}
 use Rattle.segcache.proofs.ShownItems.{entry_is}
 use Rattle.segcache.proofs.OpeningMoments.{earlier}

@@ -16,7 +16,7 @@ use Rattle.segments.proofs.MarkedPlaces.{knows_none, nothing_at}
 use Rattle.segments.specs.Pools.{key_at}
 use Rattle.index.specs.Layouts.{IsLayoutOf}
 use Rattle.index.specs.Table.{Table, Places, IsMap}
-use Rattle.segcache.specs.Kept.{IsTied, IsPast}
+use Rattle.segcache.specs.Invariants.{IsTied, IsPast}
 
 -- with no marks and no keys all is tied
 no_mark : (s : Sizes) (p : PoolState) (t : Marks) (n k : ℕ) → t ≡ no_marks s → mark_at t n k ≡ false

@@ -15,10 +15,10 @@ use Rattle.proto.specs.declared.eviction.Eviction.{Eviction}
 use Rattle.segments.specs.Filling.{IsInTime, IsOpenedBy, bucket_in}
 use Rattle.segments.proofs.OpeningLemmas.{opening_later}
 use Rattle.segments.proofs.Places.{changed_segment, cleared_segment}
-use Rattle.segments.proofs.GroupLemmas.{AreUsed, order_used}
+use Rattle.segments.proofs.SeriesLemmas.{AreUsed, order_used}
 use Rattle.segments.proofs.InTimeLemmas.{order_changed, order_same, order_part, part_given, part_cleared}
 use Rattle.segments.specs.Pools.{item_in}
-use Rattle.segcache.specs.Kept.{IsPast}
+use Rattle.segcache.specs.Invariants.{IsPast}
 
 -- where segments stand in order and none was opened after a moment, it is so at each later moment within the limit
 pub past_later : (p : PoolState) (t u : ℕ) → IsPast p t → t ≤ u → u ≤ 4611686018427387904 → IsPast p u

@@ -16,9 +16,9 @@ use Rattle.segments.proofs.Places.{live_given}
 use Rattle.segments.specs.Marks.{Marks, lives_by}
 use Rattle.index.specs.Table.{Table, Places}
 use Rattle.segcache.specs.Shown.{current, shown_entries, live_entries, kept_entry}
-use Rattle.segcache.specs.Kept.{IsTied, IsPast}
+use Rattle.segcache.specs.Invariants.{IsTied, IsPast}
 use Rattle.segcache.specs.State.{MapState, IsSegmentedMap}
-use Rattle.segcache.specs.Leaving.{HaveExpiredLeft}
+use Rattle.segcache.specs.Removals.{HaveExpiredLeft}
 use Rattle.segcache.specs.Room.{AllWait, IsCrowded, IsRoomMade, AreKept}
 use Rattle.segcache.proofs.ShownItems.{shown_same, shown_left, entry_is}
 use Rattle.segcache.proofs.TiedParts.{current_item, tied_given}

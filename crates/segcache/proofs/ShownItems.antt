@@ -21,7 +21,7 @@ use Rattle.segments.proofs.Places.{changed_item, changed_deadline}
 use Rattle.index.specs.Table.{Table, Places}
 use Rattle.index.proofs.SlotsAsMap as mapping
 use Rattle.segcache.specs.Shown.{kept_entry, dead_entry, entry_at, entries_at, live_entries, current, shown_entries}
-use Rattle.segcache.specs.Leaving.{HaveExpiredLeft}
+use Rattle.segcache.specs.Removals.{HaveExpiredLeft}
 
 -- to look up a key among the entries at places is to look up its place and take the entry there
 find-map : (p : PoolState) (es : List (List ℕ × Place)) (q : List ℕ)

@@ -34,10 +34,10 @@ use Rattle.segcache.specs.declared.segment_map.SegmentMap.{SegmentMap}
 use Rattle.segcache.specs.Shown.{shown_entries}
 use Rattle.segcache.specs.State.{MapState, IsSegmentedMap}
 use Rattle.segcache.specs.StoreState.{sizes_in, segmented_cache}
-use Rattle.segcache.specs.Living.{live_others}
+use Rattle.segcache.specs.LiveItems.{live_others}
 use Rattle.segcache.specs.Writes.{WritesToSegments, WritesAnew, GoesOver, ChangesInPlace, StaysDated, IsReadAgain, unread, with_value}
-use Rattle.segcache.specs.Handling.{LeavesSegments, HandlesSegments}
-use Rattle.segcache.specs.Handling.LeavesSegments.{writes, changes, dates, reads, stays, refuses}
+use Rattle.segcache.specs.Requests.{LeavesSegments, HandlesSegments}
+use Rattle.segcache.specs.Requests.LeavesSegments.{writes, changes, dates, reads, stays, refuses}
 use Rattle.segcache.specs.StayingFilled.{StaysFilled}
 use Rattle.segcache.proofs.TiedParts.{current_some}
 use Rattle.segcache.proofs.ChangedItems.{sized_over}

@@ -25,8 +25,8 @@ use Rattle.index.specs.Table.{Table, Places, IsIndex, IsMap, IsSameSize, HasPlac
 use Rattle.index.proofs.SlotsAsMap.{stands_from_get, get_from_stands, stands_once, get-insert, get-remove, Stands}
 use Rattle.index.proofs.KeptKeys.{keys_agree, held_key}
 use Rattle.segcache.specs.Shown.{current}
-use Rattle.segcache.specs.Kept.{IsTied}
-use Rattle.segcache.specs.Leaving.{marked_instead}
+use Rattle.segcache.specs.Invariants.{IsTied}
+use Rattle.segcache.specs.Removals.{marked_instead}
 use Rattle.index.proofs.PoolKeys.{item_key}
 use Rattle.segments.proofs.MarkedPlaces.{is_of_place}
 use Rattle.proto.proofs.Options.{value_there}

@@ -18,7 +18,7 @@ use Rattle.segments.proofs.Places.{item_storable}
 use Rattle.index.specs.Table.{Table}
 use Rattle.engine.specs.Written.{IsWritten, MayBeWritten}
 use Rattle.segcache.specs.Shown.{current, shown_entries, entry_at}
-use Rattle.segcache.specs.Kept.{IsTied}
+use Rattle.segcache.specs.Invariants.{IsTied}
 use Rattle.segcache.specs.Room.{AreKept}
 use Rattle.segments.specs.Marks.{Marks}
 use Rattle.proto.proofs.CacheLemmas.{if_live}

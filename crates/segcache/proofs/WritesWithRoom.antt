@@ -16,15 +16,15 @@ use Rattle.segments.specs.declared.place.Place.{Place}
 use Rattle.segments.specs.Items.{Item, size_of_item, IsStorable}
 use Rattle.segments.specs.Pools.{PoolState, IsPool, Used, Liveness, segment_at, opening_moment, lasting}
 use Rattle.segments.specs.Changes.{HasNoRoom, IsAddedToTail, IsAddedToFree}
-use Rattle.segments.specs.Filling.{IsFilled, HoldsLittle, held_size, Group, group_for, group_of, same_group, groups_among, groups_with}
+use Rattle.segments.specs.Filling.{IsFilled, HoldsLittle, held_size, Series, series_for, series_of, same_series, series_among, series_with}
 use Rattle.segments.proofs.FilledLemmas.{keeps_append}
-use Rattle.segments.proofs.GroupLemmas.{AreUsed, has_space, order_used}
+use Rattle.segments.proofs.SeriesLemmas.{AreUsed, has_space, order_used}
 use Rattle.index.specs.Table.{Table}
 use Rattle.segcache.specs.Shown.{shown_entries, entry_at}
-use Rattle.segcache.specs.Kept.{IsPast}
-use Rattle.segcache.specs.Making.{MakesRoom}
-use Rattle.segcache.specs.Making.MakesRoom.{has_room, gives_back, evicts}
-use Rattle.segcache.specs.Forgetting.{keys_forgotten, PlacesItem}
+use Rattle.segcache.specs.Invariants.{IsPast}
+use Rattle.segcache.specs.Allocation.{MakesRoom}
+use Rattle.segcache.specs.Allocation.MakesRoom.{has_room, gives_back, evicts}
+use Rattle.segcache.specs.ForgottenKeys.{keys_forgotten, PlacesItem}
 use Rattle.segcache.specs.Keeping.{AllLast}
 use Rattle.segcache.proofs.OpeningMoments.{in_time_past}
 use Rattle.segcache.proofs.AppendedItems.{in_segment}
@@ -78,46 +78,46 @@ kept_with lives p index bucket t i after found pool past storable filled little 
       held = kept.1;
     }
 
--- ---- one group
+-- ---- one series
 
--- segments that are all of the bucket without deadlines are of one group
-abbrev AreOf : Group → List Group → Type 0
-AreOf g groups = AllByRecursion (λ (h : Group). h ≡ g) groups
+-- segments that are all of the bucket without deadlines are of one series
+abbrev AreOf : Series → List Series → Type 0
+AreOf g series = AllByRecursion (λ (h : Series). h ≡ g) series
 
--- groups that are all the same count as one
-groups_of_one : (g : Group) (groups : List Group) → AreOf g groups → groups_among (g ∷ groups) ≡ 1
-groups_of_one g [] all = refl
-groups_of_one g (h ∷ groups) all =
-    let same : same_group g h ≡ true = ap (same_group g) all.0 ∙ same_itself g in
-    let any : list_any (same_group g) (h ∷ groups) ≡ true =
-    ap (λ (b : Bool). b || list_any (same_group g) groups) same in
-    let rest : groups_among (h ∷ groups) ≡ 1 =
-    ap (λ (x : Group). groups_among (x ∷ groups)) all.0 ∙ groups_of_one g groups all.1 in
-    ap (λ (b : Bool). (if b then 0 else 1) + groups_among (h ∷ groups)) any ∙ zero_more (groups_among (h ∷ groups)) rest
+-- series that are all the same count as one
+series_of_one : (g : Series) (series : List Series) → AreOf g series → series_among (g ∷ series) ≡ 1
+series_of_one g [] all = refl
+series_of_one g (h ∷ series) all =
+    let same : same_series g h ≡ true = ap (same_series g) all.0 ∙ same_itself g in
+    let any : list_any (same_series g) (h ∷ series) ≡ true =
+    ap (λ (b : Bool). b || list_any (same_series g) series) same in
+    let rest : series_among (h ∷ series) ≡ 1 =
+    ap (λ (x : Series). series_among (x ∷ series)) all.0 ∙ series_of_one g series all.1 in
+    ap (λ (b : Bool). (if b then 0 else 1) + series_among (h ∷ series)) any ∙ zero_more (series_among (h ∷ series)) rest
   where
     zero_more : (n : ℕ) → n ≡ 1 → 0 + n ≡ 1
     zero_more n e = omega arith
 
-    same_itself : (g : Group) → same_group g g ≡ true
+    same_itself : (g : Series) → same_series g g ≡ true
     same_itself g = and_from (g.bucket == g.bucket) (g.opened == g.opened) (eq-eqb g.bucket g.bucket refl)
         (eq-eqb g.opened g.opened refl)
 
--- where each segment is of the bucket of what has no deadline, segments of chains are all of that bucket's one group
-groups_last : (p : PoolState) (t : ℕ) (numbers : List ℕ) → AreUsed p numbers → AllLast p
-    → AreOf (group_for lasting t) (map (group_of p) numbers)
-groups_last p t [] used all = tt
-groups_last p t (n ∷ later) used all =
+-- where each segment is of the bucket of what has no deadline, segments of chains are all of that bucket's one series
+series_last : (p : PoolState) (t : ℕ) (numbers : List ℕ) → AreUsed p numbers → AllLast p
+    → AreOf (series_for lasting t) (map (series_of p) numbers)
+series_last p t [] used all = tt
+series_last p t (n ∷ later) used all =
     let u = used.0.0 in
-    let is : group_of p n ≡ group_for u.bucket u.opened =
-    ap (λ (o : Option Used). group_for (option_map_or (λ (s : Used). s.bucket) o lasting)
+    let is : series_of p n ≡ series_for u.bucket u.opened =
+    ap (λ (o : Option Used). series_for (option_map_or (λ (s : Used). s.bucket) o lasting)
     (option_map_or (λ (s : Used). s.opened) o 0)) used.0.1 in
-    (is ∙ ap (λ (b : ℕ). group_for b u.opened) (all n u used.0.1), groups_last p t later used.1 all)
+    (is ∙ ap (λ (b : ℕ). series_for b u.opened) (all n u used.0.1), series_last p t later used.1 all)
 
--- where all is of that bucket, an item of it goes to the one group
-pub one_group : (p : PoolState) (t : ℕ) → IsPool p → AllLast p → groups_with p lasting t ≡ 1
-one_group p t pool all =
+-- where all is of that bucket, an item of it goes to the one series
+pub one_series : (p : PoolState) (t : ℕ) → IsPool p → AllLast p → series_with p lasting t ≡ 1
+one_series p t pool all =
     let k = opening_moment p.eviction lasting t in
-    groups_of_one (group_for lasting k) (map (group_of p) p.order) (groups_last p k p.order (order_used p pool) all)
+    series_of_one (series_for lasting k) (map (series_of p) p.order) (series_last p k p.order (order_used p pool) all)
 
 -- ---- items without deadlines
 
@@ -159,12 +159,12 @@ pub holds_little : (p : PoolState) (t : ℕ) (items : List StoredItem) (one : St
     → written (items ++ one ∷ []) ≤ (p.sizes.segments - spread
     (items ++ one ∷ [])) * (p.sizes.segment_size - item_limit p.sizes) → HoldsLittle p lasting t
 holds_little p t items one pool all last is held bound =
-    let groups = one_group p t pool all in
+    let series = one_series p t pool all in
     let spread_is = spread_last items one last is in
     let more = written_more items one in
     let some = pool.geometry.fewest in
     let d = p.sizes.segment_size - item_limit p.sizes in
-    subst (λ (k : ℕ). held_size p + k * d ≤ p.sizes.segments * d) (sym groups)
+    subst (λ (k : ℕ). held_size p + k * d ≤ p.sizes.segments * d) (sym series)
     (within_bound (held_size p) d one.size p.sizes.segments (spread (items ++ one ∷ [])) spread_is (omega arith)
     (omega arith))
 

@@ -11,7 +11,7 @@ use Rattle.proto.specs.declared.message.Reply.{Reply}
 use Rattle.engine.specs.declared.commands.Engine.{Engine}
 use Rattle.segcache.specs.declared.segment_map.SegmentMap.{SegmentMap}
 use Rattle.segcache.specs.State.{MapState}
-use Rattle.segcache.specs.Handling.{HandlesSegments}
+use Rattle.segcache.specs.Requests.{HandlesSegments}
 use Rattle.segcache.specs.StayingFilled.{StaysFilled}
 
 -- The pool of a new map is new, and evicts by this rule; its index has memory for two slots for each item that segments of these sizes can hold,

@@ -11,7 +11,7 @@ use Rattle.segments.specs.Pools.{PoolState, place_deadline}
 use Rattle.segments.specs.Places.{HasFree}
 use Rattle.index.specs.Table.{Table, Places}
 use Rattle.segcache.specs.Shown.{current, shown_entries, kept_entry}
-use Rattle.segcache.specs.Kept.{IsPast}
+use Rattle.segcache.specs.Invariants.{IsPast}
 
 -- the entries were kept but for some that had to be forgotten
 pub record AreKept (sizes : Sizes) (old new : Entries) : Type 0 where

@@ -3,7 +3,7 @@ use Rattle.std.specs.Prelude.{ℕ}
 use Rattle.segments.specs.Pools.{PoolState}
 use Rattle.segments.specs.Marks.{Marks}
 use Rattle.index.specs.Table.{Table}
-use Rattle.segcache.specs.Kept.{IsTied, IsPast}
+use Rattle.segcache.specs.Invariants.{IsTied, IsPast}
 
 -- the pool, the index and the marks of its current items, and the last moment
 pub record MapState : Type 0 where

@@ -10,7 +10,7 @@ use Rattle.segments.specs.Filling.{IsFilled, HoldsLittle, held_size}
 use Rattle.segcache.specs.declared.segment_map.SegmentMap.{SegmentMap}
 use Rattle.segcache.specs.StoreState.{sizes_in, segmented_cache}
 
--- Where each segment but the last of its group is filled, and segments hold so little that an item of the stored
+-- Where each segment but the last of its series is filled, and segments hold so little that an item of the stored
 -- one's bucket surely has room, the request forgets nothing, segments stay filled, and what they hold grows by the
 -- size of the item that it stores at most.
 abbrev pub StaysFilled : Engine SegmentMap → ℕ → Request → Reply → Engine SegmentMap → Type 0

@@ -12,8 +12,8 @@ use Rattle.segments.specs.Pools.{item_in, place_deadline}
 use Rattle.segments.specs.Changes.{with_read, with_item_at, with_segment_hit, goes_over_by}
 use Rattle.segcache.specs.State.{MapState, IsSegmentedMap}
 use Rattle.segcache.specs.Shown.{current, entry_at, kept_entry, shown_entries}
-use Rattle.segcache.specs.Living.{live_others}
-use Rattle.segcache.specs.Forgetting.{PlacesItem}
+use Rattle.segcache.specs.LiveItems.{live_others}
+use Rattle.segcache.specs.ForgottenKeys.{PlacesItem}
 
 -- the place is the current one of the key
 abbrev pub StandsAt : MapState → List ℕ → Place → Type 0

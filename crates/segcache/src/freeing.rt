@@ -6,9 +6,9 @@ ghost use Rattle.segments.specs.Items.{Item};
 ghost use Rattle.segments.specs.Changes.{HasNoRoom, IsPoolFull};
 ghost use Rattle.segments.specs.Merges.{NoneQualifies};
 ghost use Rattle.segments.specs.Marks.{lives_by};
-ghost use Rattle.segcache.specs.Forgetting.{IsEvicted, HasMadeRoom};
-ghost use Rattle.segcache.specs.Living.{live_marks};
-ghost use Rattle.segcache.specs.Merging.{HasPlan};
+ghost use Rattle.segcache.specs.ForgottenKeys.{IsEvicted, HasMadeRoom};
+ghost use Rattle.segcache.specs.LiveItems.{live_marks};
+ghost use Rattle.segcache.specs.PlannedMerges.{HasPlan};
 ghost use Rattle.segcache.specs.Room.{IsCrowded, IsRoomMade};
 
 use crate::segment_map::SegmentMap;

@@ -2,11 +2,11 @@
 
 ghost use Rattle.std.specs.Prelude.{◌≡◌, ◌<◌, Some};
 ghost use Rattle.std.specs.FinMap as map;
-ghost use Rattle.segcache.specs.Kept.{IsTied};
+ghost use Rattle.segcache.specs.Invariants.{IsTied};
 ghost use Rattle.segcache.specs.Shown.{current};
 ghost use Rattle.segcache.specs.State.{IsSegmentedMap};
 ghost use Rattle.segcache.specs.Writes.{HasSamePool};
-ghost use Rattle.segcache.specs.Leaving.{HasLeft, HaveExpiredLeft};
+ghost use Rattle.segcache.specs.Removals.{HasLeft, HaveExpiredLeft};
 
 use crate::segment_map::SegmentMap;
 use engine::has_arrived;

@@ -13,9 +13,9 @@ ghost use Rattle.segments.specs.Marks.{IsWithin};
 ghost use Rattle.segcache.specs.Shown.{current};
 ghost use Rattle.segcache.specs.State.{IsSegmentedMap};
 ghost use Rattle.segcache.specs.Room.{IsPut, IsPutOver};
-ghost use Rattle.segcache.specs.Leaving.{marked_instead};
-ghost use Rattle.segcache.specs.Living.{live_marks, live_others};
-ghost use Rattle.segcache.specs.Forgetting.{PlacesItem};
+ghost use Rattle.segcache.specs.Removals.{marked_instead};
+ghost use Rattle.segcache.specs.LiveItems.{live_marks, live_others};
+ghost use Rattle.segcache.specs.ForgottenKeys.{PlacesItem};
 ghost use Rattle.segcache.specs.Writes.{GoesOver, StandsAt, goes_over};
 ghost use Rattle.segments.specs.declared.place.Place.{Place as Spot};
 

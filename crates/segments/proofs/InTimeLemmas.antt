@@ -21,7 +21,7 @@ use Rattle.segments.proofs.FrontLemmas.{times-take}
 use Rattle.segments.proofs.MergingLemmas.{contains_is, times_others}
 use Rattle.segments.proofs.MovedNumbers.{times_between, moved_filter, in_time_moved}
 use Rattle.segments.proofs.BehindLemmas.{IsBehind, behind_is}
-use Rattle.segments.proofs.GroupLemmas.{bucket_of_in}
+use Rattle.segments.proofs.SeriesLemmas.{bucket_of_in}
 use Rattle.segments.specs.Hits.{HitCounts, IsFewest}
 use Rattle.segments.specs.Merges.{IsVictim, IsVictimBy, qualifies, merged_segments, merged_into, contains_number, opened_at}
 use Rattle.segments.specs.Merges.{look_count, candidates, quarter, chain_of, behind_front, order_by}

@@ -3,6 +3,6 @@
 #![tactic(auto)]
 
 mod serving;
-mod telling;
+mod stats;
 
 pub use serving::{StorageReport, next_moment, run_storage};

@@ -12,7 +12,7 @@ ghost use Rattle.storage_thread.specs.Serving.{IsSameExchange};
 ghost use Rattle.storage_thread.specs.Serving.{GetsNone, GetsMessage, AnswersOpenRequest};
 ghost use Rattle.storage_thread.specs.Keeping.{LeadsKeeping, MayAlwaysForgetNothing};
 
-use crate::telling::Telling;
+use crate::stats::StatsSource;
 use engine::{Clock, MAX_MOMENT, StorageEngine};
 use exchange::{
     Answered, IdleTurns, Posted, StorageBatch, StorageEnd, StorageSignals, Taken, Waits,
@@ -22,7 +22,7 @@ use std::sync::Wait;
 use std::time;
 
 /// The workers are told of their answers at least at each so many.
-const ANSWERS_A_FLUSH: u64 = 8;
+const ANSWERS_PER_FLUSH: u64 = 8;
 
 /// The keys above which a `get` may take long. The workers are told of all answers before it.
 const MANY_KEYS: usize = 64;
@@ -83,7 +83,7 @@ fn execute<S: StorageEngine, C: Clock, R: time::Clock>(
     store: &mut S,
     clock: &mut AskedClock<C>,
     counts: &mut Counts,
-    telling: &Telling<R>,
+    source: &StatsSource<R>,
     end: &mut StorageBatch,
     worker: usize,
     posted: Posted,
@@ -118,9 +118,9 @@ fn execute<S: StorageEngine, C: Clock, R: time::Clock>(
     let evictions = store.evictions();
     let stored = store.handle(moment, &mut request);
     if store.evictions() != evictions {
-        telling.note_eviction(clock.at());
+        source.note_eviction(clock.at());
     }
-    let reply = telling.reply(counts, store, worker, &request, stored);
+    let reply = source.reply(counts, store, worker, &request, stored);
     counts.count(&request, &reply);
     let answered = Answered {
         worker,
@@ -135,7 +135,7 @@ fn execute<S: StorageEngine, C: Clock, R: time::Clock>(
 }
 
 // Tells the workers of all answers, and unparks the one whose answers they are.
-fn tell(end: &mut StorageBatch, signals: &StorageSignals)
+fn tell_workers(end: &mut StorageBatch, signals: &StorageSignals)
     ensures end { end.new.end ≡ end.old.end }
     ensures told { end.new.told ≡ end.old.end.history }
 {
@@ -146,7 +146,7 @@ fn tell(end: &mut StorageBatch, signals: &StorageSignals)
 
 // Whether the workers are told of all answers before this message: at each eighth answer, and before a `get` for many keys.
 fn tells_before(taken: &Taken, executed: u64) -> bool {
-    if executed % ANSWERS_A_FLUSH == 0 {
+    if executed % ANSWERS_PER_FLUSH == 0 {
         return true;
     }
     let Taken::Asked { posted, .. } = taken else {
@@ -172,11 +172,11 @@ fn take_next<C: Clock>(
     ensures told { IfNone result (end.new.told ≡ end.new.end.history) }
 {
     let Some(taken) = end.next_seen(clock) else {
-        tell(end, signals);
+        tell_workers(end, signals);
         return end.next(clock);
     };
     if tells_before(&taken, executed) {
-        tell(end, signals);
+        tell_workers(end, signals);
     }
     Some(taken)
 }
@@ -234,14 +234,14 @@ pub fn run_storage<R: Wait + time::Clock, S: StorageEngine + Drop, C: Clock>(
     let mut end = storage_end.batched();
     let mut executed = 0u64;
     let mut counts = Counts::new();
-    let telling = Telling::new(rt, signals);
+    let source = StatsSource::new(rt, signals);
     let mut left = end.workers();
     let mut idle = IdleTurns::new(IDLE_TURNS, signals.spin());
     let mut waits = Waits::new(rt, Some(signals.storage_gauges()));
     let mut ahead = 0;
     for _ in rt.forever() {
         if left == 0 {
-            tell(&mut end, signals);
+            tell_workers(&mut end, signals);
             return StorageReport {
                 clock: clock.into_clock(),
                 storage_end: end.into_end(),
@@ -256,7 +256,7 @@ pub fn run_storage<R: Wait + time::Clock, S: StorageEngine + Drop, C: Clock>(
                     &mut store,
                     &mut clock,
                     &mut counts,
-                    &telling,
+                    &source,
                     &mut end,
                     worker,
                     posted,

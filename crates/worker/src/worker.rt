@@ -292,7 +292,7 @@ impl<P: Port> Worker<P> {
     pub(crate) fn flush(&mut self, storage: &StorageSignals)
         ensures { Continues P.told P.leads_to self.old self.new }
     {
-        if self.state.batch.waiting() > 0 {
+        if self.state.batch.unflushed() > 0 {
             self.tell(storage);
             self.state.batch.flush();
             storage.parking().unpark();

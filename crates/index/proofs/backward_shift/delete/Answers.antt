@@ -6,7 +6,7 @@ use Rattle.index.specs.declared.slots.Slot.{Slot}
 use Rattle.index.specs.Layouts.{SlotArray}
 use Rattle.index.specs.Keys.{KeysOf, home_of, hash_of}
 use Rattle.segments.specs.Pools.{key_at}
-use Rattle.index.specs.Slots.{is_used, slot_at, place_of, distance, behind, empty_slot}
+use Rattle.index.specs.Slots.{is_used, slot_at, place_of, distance, next_slot, empty_slot}
 use Rattle.index.specs.Table.{hashing, Hashing}
 use Rattle.index.proofs.ShiftedSlots.{IsShifting, IsNearlyFound, nearly, begins, shifting_shortens, stayed, moved, finished, homes_in_row, emptied_others}
 use Rattle.index.proofs.backward_shift.delete.Goals as goal
@@ -21,7 +21,7 @@ scan-init c =
     let r = c.requires.at in
     let in_row = homes_in_row (length old) c.args.slots.now.layout c.args.hasher (omega (arith, r)) in
     let f = c.requires.indexed.each at r c.requires.used in
-    rw (c.behind-next.ensures.value, c.len-count.ensures) (
+    rw (c.next_slot-next.ensures.value, c.len-count.ensures) (
       f.0,
       f.1.of_key,
       begins h keys old in_row at f.0 r c.requires.used f.1.of_key c.requires.indexed
@@ -43,7 +43,7 @@ scan-smaller c =
     let same = emptied_others c.scan.slots.slots c.scan.hole c.scan.next inv.2.ahead in
     let used : is_used (slot_at slots c.scan.next) ≡ true =
     ap is_used same ∙ ap is_used (sym c.get.ensures) ∙ sym c.is_used.ensures ∙ c.scan-test.true in
-    rw (c.behind-next-in-scan.ensures.value, c.len-count.ensures)
+    rw (c.next_slot-next-in-scan.ensures.value, c.len-count.ensures)
     (shifting_shortens h keys old in_row slots c.args.at c.scan.hole c.scan.next inv.0 inv.2 used)
 
 pub home_in-home-requires : goal.home_in-home-requires
@@ -123,10 +123,10 @@ scan-preserved c =
           ∙ ap (λ (s : Slot). slice_set (slice_set c.scan.slots.slots hole s) next empty_slot) (sym same)
           ∙ ap (λ (l : List Slot). slice_set l next empty_slot)
           (sym (set-set c.scan.slots.slots hole empty_slot (slot_at slots next))) in
-          rw (c.behind-next-in-scan.ensures.value, c.len-count.ensures) (
+          rw (c.next_slot-next-in-scan.ensures.value, c.len-count.ensures) (
             inv.0,
             inv.1,
-            subst (λ (i : ℕ). IsShifting h keys old new c.args.at i (behind (length old) next) inv.0) (sym w.hole-is)
+            subst (λ (i : ℕ). IsShifting h keys old new c.args.at i (next_slot (length old) next) inv.0) (sym w.hole-is)
                 (moved h keys old in_row slots c.args.at hole next inv.0 inv.2 used new new_is f.0 f.1.of_key goes),
             layout,
             room,
@@ -136,7 +136,7 @@ scan-preserved c =
           let lt = w.if-distance.false in
           let stays : distance (length old) (h.home f.0) next < distance (length old) hole next =
           omega (arith, lt, near, far) in
-          rw (c.behind-next-in-scan.ensures.value, c.len-count.ensures, w.slots-is, w.hole-is) (
+          rw (c.next_slot-next-in-scan.ensures.value, c.len-count.ensures, w.slots-is, w.hole-is) (
             inv.0,
             inv.1,
             stayed h keys old in_row slots c.args.at hole next inv.0 inv.2 used f.0 f.1.of_key

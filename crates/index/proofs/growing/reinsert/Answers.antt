@@ -4,7 +4,7 @@ use Rattle.index.specs.declared.slots.Slot.{Slot}
 use Rattle.index.specs.Layouts.{SlotArray}
 use Rattle.index.specs.Keys.{KeysOf}
 use Rattle.segments.specs.Pools.{key_at}
-use Rattle.index.specs.Slots.{is_used, slot_at, distance, behind, empty_slot, used_in, AreUsedUpTo}
+use Rattle.index.specs.Slots.{is_used, slot_at, distance, next_slot, empty_slot, used_in, AreUsedUpTo}
 use Rattle.index.specs.Reinserting.{IsFirstStop}
 use Rattle.index.specs.Table.{hashing, Hashing}
 use Rattle.index.proofs.ShiftedSlots.{homes_in_row}
@@ -13,11 +13,11 @@ use Rattle.index.proofs.growing.reinsert.Goals as goal
 use Rattle.index.proofs.growing.reinsert.Goals.{then-gap-at, else-gap-at}
 
 -- how the keys are hashed
-abbrev hashing_of : goal.After-behind-at → Hashing
+abbrev hashing_of : goal.After-next_slot-at → Hashing
 hashing_of c = hashing c.args.count c.args.slots.now.layout c.args.hasher
 
 -- what an iteration does
-step : (c : goal.After-behind-at)
+step : (c : goal.After-next_slot-at)
     → IsStep (hashing_of c) (key_at c.args.pool.now) c.cluster.slots.slots c.if-gap-at.slots.slots c.cluster.at
 step c =
     let h : Hashing = hashing_of c in
@@ -58,7 +58,7 @@ step c =
     ]
 
 -- the layout and the room stay
-kept : (c : goal.After-behind-at)
+kept : (c : goal.After-next_slot-at)
     → (c.if-gap-at.slots.layout ≡ c.args.slots.now.layout) × (c.if-gap-at.slots.room ≡ c.args.slots.now.room)
 kept c =
     elim c.if-gap-at.branch [
@@ -88,10 +88,10 @@ cluster-smaller c =
     let s = step c in
     let n = length c.args.slots.now.slots in
     let len = c.cluster.invariant.len in
-    let next : c.behind-at.result ≡ behind n c.cluster.at =
-    c.behind-at.ensures.value ∙ ap (λ (m : ℕ). behind m c.cluster.at) (c.len.ensures ∙ s.len ∙ len) in
+    let next : c.next_slot-at.result ≡ next_slot n c.cluster.at =
+    c.next_slot-at.ensures.value ∙ ap (λ (m : ℕ). next_slot m c.cluster.at) (c.len.ensures ∙ s.len ∙ len) in
     let falls = subst (λ (m : ℕ). spread (hashing_of c) (key_at c.args.pool.now) m 0 c.if-gap-at.slots.slots * m
-    + distance m (behind m c.cluster.at) (gap_index c.if-gap-at.slots.slots)
+    + distance m (next_slot m c.cluster.at) (gap_index c.if-gap-at.slots.slots)
     < spread (hashing_of c) (key_at c.args.pool.now) m 0 c.cluster.slots.slots * m
     + distance m c.cluster.at (gap_index c.cluster.slots.slots)) len s.falls in
     rw next falls
@@ -100,9 +100,9 @@ pub cluster-preserved : goal.cluster-preserved
 cluster-preserved c =
     let s = step c in
     let inv = c.cluster.invariant in
-    let next : c.behind-at.result ≡ behind (length c.cluster.slots.slots) c.cluster.at =
-    c.behind-at.ensures.value ∙ ap (λ (m : ℕ). behind m c.cluster.at) (c.len.ensures ∙ s.len) in
-    let range = c.behind-at.ensures.in_range in
+    let next : c.next_slot-at.result ≡ next_slot (length c.cluster.slots.slots) c.cluster.at =
+    c.next_slot-at.ensures.value ∙ ap (λ (m : ℕ). next_slot m c.cluster.at) (c.len.ensures ∙ s.len) in
+    let range = c.next_slot-at.ensures.in_range in
     let long = c.len.ensures in
     let len = s.len in
     let was = inv.len in

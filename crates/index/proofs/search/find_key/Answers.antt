@@ -28,7 +28,7 @@ loop-key-smaller c =
     let used : is_used (slot_at c.args.slots.now.slots c.loop-key.at) ≡ true =
     tag_used (slot_at c.args.slots.now.slots c.loop-key.at)
     (λ none. c.if-slot-eq0.false (ap (λ (s : Slot). s.tag) c.get-slot.ensures ∙ none)) in
-    rw (c.behind-at.ensures.value, c.len.ensures)
+    rw (c.next_slot-at.ensures.value, c.len.ensures)
     (way_shortens c.args.slots.now.slots c.args.home c.loop-key.at c.requires.home c.requires.gap
     c.loop-key.invariant.way used)
 
@@ -49,7 +49,7 @@ loop-key-preserved c =
       | else-slot-tag-via-else-slot-tag w ↦ λ tag. absurd (w.if-slot-tag.false (ap (λ (s : Slot). s.tag) c.get-slot.ensures ∙ tag))
     ] in
     let way = c.loop-key.invariant.way in
-    rw (c.behind-at.ensures.value, c.len.ensures) record {
+    rw (c.next_slot-at.ensures.value, c.len.ensures) record {
       way = way_goes_on slots c.args.home at c.requires.home c.requires.gap way used;
       passed = way_keeps (λ x. (slot_at slots x).tag ≡ c.args.tag → ¬ (key_at c.args.pool.now
           (place_of (slot_at slots x)) ≡ Some c.args.key.now)) slots c.args.home at c.requires.home c.requires.gap way

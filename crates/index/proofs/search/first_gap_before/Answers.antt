@@ -14,7 +14,7 @@ pub loop-at-smaller : goal.loop-at-smaller
 loop-at-smaller c =
     let used : is_used (slot_at c.args.slots.now.slots c.loop-at.at) ≡ true =
     ap is_used (sym c.get.ensures) ∙ sym c.is_used.ensures ∙ c.if-is_used.true in
-    rw (c.behind-at.ensures.value, c.len.ensures)
+    rw (c.next_slot-at.ensures.value, c.len.ensures)
     (way_shortens c.args.slots.now.slots c.args.home c.loop-at.at c.requires.home c.requires.gap
     c.loop-at.invariant.way used)
 
@@ -22,7 +22,7 @@ pub loop-at-preserved : goal.loop-at-preserved
 loop-at-preserved c =
     let used : is_used (slot_at c.args.slots.now.slots c.loop-at.at) ≡ true =
     ap is_used (sym c.get.ensures) ∙ sym c.is_used.ensures ∙ c.if-is_used.true in
-    rw (c.behind-at.ensures.value, c.len.ensures) record {
+    rw (c.next_slot-at.ensures.value, c.len.ensures) record {
       way = way_goes_on c.args.slots.now.slots c.args.home c.loop-at.at c.requires.home c.requires.gap
           c.loop-at.invariant.way used;
       near = nears _ c.args.home c.loop-at.at c.args.end c.requires.home c.loop-at.invariant.way.at_range c.requires.end

@@ -1,7 +1,7 @@
 use Rattle.std.proofs.Common.{sym, subst, refl}
 use Rattle.std.specs.Prelude.{IsSome}
 use Rattle.segments.proofs.MarkedPlaces.{item_within}
-use Rattle.segcache.specs.Kept.{IsTied}
+use Rattle.segcache.specs.Invariants.{IsTied}
 use Rattle.segcache.proofs.TiedParts.{current_item, tied_left}
 use Rattle.segcache.proofs.unindexing.unindex.Goals as goal
 

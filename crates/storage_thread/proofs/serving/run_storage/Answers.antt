@@ -127,27 +127,27 @@ loop-preserved-in-Some-Bye g c = let i = c.loop.invariant in let now : StorageVi
 
 pub returns-then-left-eq0-clause-bye : goal.returns-then-left-eq0-clause-bye
 returns-then-left-eq0-clause-bye g c = let i = c.loop.invariant in let all = i.4 in
-    let same = c.into_end.ensures ∙ c.tell.ensures.end in
+    let same = c.into_end.ensures ∙ c.tell_workers.ensures.end in
     subst SaidBye (sym same) (all_said _ _ _ _ i.2 (search rules))
 
 pub returns-then-left-eq0-clause-legal : goal.returns-then-left-eq0-clause-legal
 returns-then-left-eq0-clause-legal g c = let i = c.loop.invariant in
-    let same = c.into_end.ensures ∙ c.tell.ensures.end in
+    let same = c.into_end.ensures ∙ c.tell_workers.ensures.end in
     subst (λ (z : StorageView). Legal c.args.storage_end.terms.geometry z.history) (sym same)
     (subst (λ (j : Terms). Legal j.geometry c.loop.end.end.history) i.2.same.2 (legal_of _ _ _ _ i.2.reaches))
 
 pub returns-then-left-eq0-clause-refused : goal.returns-then-left-eq0-clause-refused
-returns-then-left-eq0-clause-refused g c = let same = c.into_end.ensures ∙ c.tell.ensures.end in
+returns-then-left-eq0-clause-refused g c = let same = c.into_end.ensures ∙ c.tell_workers.ensures.end in
     subst (λ (z : StorageView). RefusesBy g.S.StorageEngine.may_refuse z.history) (sym same) c.loop.invariant.11
 
 pub returns-then-left-eq0-clause-inside : goal.returns-then-left-eq0-clause-inside
 returns-then-left-eq0-clause-inside g c = let i = c.loop.invariant in
-    let same = c.into_end.ensures ∙ c.tell.ensures.end in
+    let same = c.into_end.ensures ∙ c.tell_workers.ensures.end in
     subst (λ (z : StorageView). All (λ e. e.worker < c.args.storage_end.workers) z.history) (sym same)
     (subst (λ n. All (λ e. e.worker < n) c.loop.end.end.history) i.2.same.1 i.2.known)
 
 pub returns-then-left-eq0-clause-bounded : goal.returns-then-left-eq0-clause-bounded
 returns-then-left-eq0-clause-bounded g c start = let i = c.loop.invariant in
-    let same = c.into_end.ensures ∙ c.tell.ensures.end in
+    let same = c.into_end.ensures ∙ c.tell_workers.ensures.end in
     subst (λ (z : StorageView). MayAlwaysForgetNothing c.args.storage_end.terms.geometry z.history) (sym same)
     (subst (λ (j : Terms). MayAlwaysForgetNothing j.geometry c.loop.end.end.history) i.2.same.2 (i.8 start).always)

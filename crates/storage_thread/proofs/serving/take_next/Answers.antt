@@ -8,7 +8,7 @@ use Rattle.storage_thread.proofs.serving.take_next.Goals as goal
 pub returns-clause-taken : goal.returns-clause-taken
 returns-clause-taken g c =
     let same : c.if-tells_before.end.end ≡ c.next_seen.new.self.end = elim c.if-tells_before.branch [
-      | then-tells_before w ↦ ap (λ (v : StorageBatchView). v.end) w.end-is ∙ w.tell-then-tells_before.ensures.end
+      | then-tells_before w ↦ ap (λ (v : StorageBatchView). v.end) w.end-is ∙ w.tell_workers-then-tells_before.ensures.end
       | else-tells_before w ↦ ap (λ (v : StorageBatchView). v.end) w.end-is
     ] in
     subst (λ (v : StorageView). GetsMessage c.args.end.now.end v c.in-Some.taken) (sym same)

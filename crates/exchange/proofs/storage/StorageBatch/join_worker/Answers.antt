@@ -5,7 +5,7 @@ use Rattle.exchange.specs.declared.rule.WorkerState.{WorkerState}
 use Rattle.exchange.specs.declared.rule.LaneView.TheVariants.{Storage}
 use Rattle.exchange.specs.Lanes.{SeatState}
 use Rattle.exchange.specs.Steps.{comparing}
-use Rattle.exchange.specs.Seats.{storage_state_in, StorageAgrees, IsWaiting, IsNamed, IsLane, storage_batch_view}
+use Rattle.exchange.specs.Seats.{storage_state_in, StorageAgrees, HasUntold, IsNamed, IsLane, storage_batch_view}
 use Rattle.exchange.specs.Ends.{WorkerView, WorkerBatchView, StorageBatchView, AreCompared}
 use Rattle.exchange.proofs.StorageSteps.{joins, compares}
 use Rattle.exchange.proofs.Comparisons.{compared_outside}
@@ -46,7 +46,7 @@ invariant_of-self c = let d : StorageState = storage_state_in c.self.inside.seat
           StorageAgrees m c.self.inside.workers c.self.inside.last c.self.inside.counts c.self.inside.open_now) (seated
           ∙ sym back) c.self.invariant.3,
       subst (λ (m : SeatState).
-          IsWaiting (storage_state_in m.0) c.self.inside.waiting c.self.inside.waiting_lane
+          HasUntold (storage_state_in m.0) c.self.inside.untold c.self.inside.untold_lane
           c.self.inside.workers) (seated
           ∙ sym back) c.self.invariant.4,
       subst (λ (m : SeatState).

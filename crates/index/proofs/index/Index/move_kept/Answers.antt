@@ -8,7 +8,7 @@ use Rattle.segments.specs.Shown.{item_of}
 use Rattle.segments.specs.Places.{moved_by}
 use Rattle.index.specs.Keys.{KeysOf}
 use Rattle.segments.specs.Pools.{key_at}
-use Rattle.index.specs.Relocating.{IsRelocated, CanRelocate, keys_behind}
+use Rattle.index.specs.Relocating.{IsRelocated, CanRelocate, keys_after_merge}
 use Rattle.index.proofs.PoolKeys.{item_key}
 use Rattle.index.proofs.RelocatedTables.{relocated_itself}
 use Rattle.index.proofs.KeptMoves.{IsRelocating, rekeyed, skips, key_held, others_keep, target_rekeyed, moves_on}
@@ -33,7 +33,7 @@ loop-step-init c =
 pub loop-step-preserved : goal.loop-step-preserved
 loop-step-preserved c =
     let before : KeysOf = key_at c.args.pool.now in
-    let after : KeysOf = keys_behind c.args.pool.now in
+    let after : KeysOf = keys_after_merge c.args.pool.now in
     let moves = c.args.moves.now in
     let i = c.loop-step.step-index in
     let m : Move = get_or moves i no_move in
@@ -67,7 +67,7 @@ loop-step-preserved c =
 pub replace-requires-clause-there : goal.replace-requires-clause-there
 replace-requires-clause-there c =
     let before : KeysOf = key_at c.args.pool.now in
-    let after : KeysOf = keys_behind c.args.pool.now in
+    let after : KeysOf = keys_after_merge c.args.pool.now in
     let moves = c.args.moves.now in
     let i = c.loop-step.step-index in
     let m : Move = get_or moves i no_move in
@@ -88,7 +88,7 @@ replace-requires-clause-there c =
 
 pub returns-clause-relocated : goal.returns-clause-relocated
 returns-clause-relocated c =
-    let after : KeysOf = keys_behind c.args.pool.now in
+    let after : KeysOf = keys_after_merge c.args.pool.now in
     let h = c.loop-step.invariant in
     let moves = c.args.moves.now in
     let le = c.loop-step-test.false in

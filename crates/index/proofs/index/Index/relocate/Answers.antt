@@ -3,7 +3,7 @@ use Rattle.segments.specs.declared.place.Move.{Move}
 use Rattle.segments.specs.Places.{moved_by}
 use Rattle.index.specs.Keys.{KeysOf}
 use Rattle.segments.specs.Pools.{key_at}
-use Rattle.index.specs.Relocating.{IsRelocated, CanRelocate, forget_lost, keys_behind}
+use Rattle.index.specs.Relocating.{IsRelocated, CanRelocate, forget_lost, keys_after_merge}
 use Rattle.index.proofs.RelocatedTables.{composed}
 use Rattle.index.proofs.LostAndKeptMoves.{can_still, lost_out, lost_and_moved}
 use Rattle.index.proofs.index.Index.relocate.Goals as goal
@@ -11,7 +11,7 @@ use Rattle.index.proofs.index.Index.relocate.Goals as goal
 pub move_kept-requires-clause-can : goal.move_kept-requires-clause-can
 move_kept-requires-clause-can c =
     let before : KeysOf = key_at c.args.pool.now in
-    let after : KeysOf = keys_behind c.args.pool.now in
+    let after : KeysOf = keys_after_merge c.args.pool.now in
     let can = subst (λ (ms : List Move). CanRelocate before after c.args.self.now ms)
     (sym c.moves-moves.ensures.planned) c.requires.can in
     can_still before after c.moves-moves.result.now c.args.self.now c.drop_lost.new.self can c.requires.index
@@ -20,7 +20,7 @@ move_kept-requires-clause-can c =
 pub move_kept-requires-clause-lost : goal.move_kept-requires-clause-lost
 move_kept-requires-clause-lost c =
     let before : KeysOf = key_at c.args.pool.now in
-    let after : KeysOf = keys_behind c.args.pool.now in
+    let after : KeysOf = keys_after_merge c.args.pool.now in
     let can = subst (λ (ms : List Move). CanRelocate before after c.args.self.now ms)
     (sym c.moves-moves.ensures.planned) c.requires.can in
     lost_out before after c.moves-moves.result.now c.args.self.now c.drop_lost.new.self can c.requires.index
@@ -29,7 +29,7 @@ move_kept-requires-clause-lost c =
 pub returns-clause-relocated : goal.returns-clause-relocated
 returns-clause-relocated c =
     let before : KeysOf = key_at c.args.pool.now in
-    let after : KeysOf = keys_behind c.args.pool.now in
+    let after : KeysOf = keys_after_merge c.args.pool.now in
     let moves = c.moves-moves.result.now in
     let can = subst (λ (ms : List Move). CanRelocate before after c.args.self.now ms)
     (sym c.moves-moves.ensures.planned) c.requires.can in

@@ -3,7 +3,7 @@ use Rattle.segments.specs.Shown.{item_of}
 use Rattle.segments.proofs.Places.{appended}
 use Rattle.segments.proofs.MarkedPlaces.{knows_longer, item_within}
 use Rattle.index.proofs.PlacesInLayout.{appended_in_layout}
-use Rattle.segcache.specs.Kept.{IsTied}
+use Rattle.segcache.specs.Invariants.{IsTied}
 use Rattle.segcache.proofs.TiedParts.{some_item, tied_put, source_within}
 use Rattle.segcache.proofs.AppendedItems.{past_put, in_segment}
 use Rattle.segcache.proofs.AppendNeeds.{appended_here, appended_room, appended_index, appended_current, had_current}

@@ -3,7 +3,7 @@ use Rattle.std.specs.Prelude.{◌⊎◌}
 use Rattle.segments.specs.Shown.{item_of}
 use Rattle.segments.specs.Changes.{IsAddedToTail, IsAddedToFree}
 use Rattle.segments.proofs.Places.{has_room}
-use Rattle.segcache.specs.Living.{live_marks}
+use Rattle.segcache.specs.LiveItems.{live_marks}
 use Rattle.segcache.proofs.AppendedItems.{put_made, put_placed, never_refused}
 use Rattle.segcache.proofs.segment_map.SegmentMap.append_to_freed.Goals as goal
 

@@ -3,8 +3,8 @@ use Rattle.std.specs.Prelude.{MatchOption}
 use Rattle.segments.specs.Pools.{PoolState}
 use Rattle.segments.specs.Merges.{IsVictim}
 use Rattle.segments.specs.Changes.{IsPoolFull, without_segment}
-use Rattle.segcache.specs.Kept.{IsTied, IsPast}
-use Rattle.segcache.specs.Leaving.{HasLeft}
+use Rattle.segcache.specs.Invariants.{IsTied, IsPast}
+use Rattle.segcache.specs.Removals.{HasLeft}
 use Rattle.segcache.specs.Room.{IsCrowded}
 use Rattle.segcache.specs.Shown.{current}
 use Rattle.segcache.specs.State.{MapState}

@@ -3,9 +3,9 @@ use Rattle.segments.specs.Pools.{PoolState}
 use Rattle.segments.specs.Changes.{IsPoolFull, IsGivenBack, dead_segments}
 use Rattle.segments.specs.Marks.{lives_by}
 use Rattle.segments.proofs.Places.{given_free}
-use Rattle.segcache.specs.Kept.{IsTied, IsPast}
-use Rattle.segcache.specs.Leaving.{HaveExpiredLeft}
-use Rattle.segcache.specs.Living.{live_marks}
+use Rattle.segcache.specs.Invariants.{IsTied, IsPast}
+use Rattle.segcache.specs.Removals.{HaveExpiredLeft}
+use Rattle.segcache.specs.LiveItems.{live_marks}
 use Rattle.segcache.specs.Room.{IsCrowded, IsRoomMade}
 use Rattle.segcache.specs.Shown.{current}
 use Rattle.segcache.specs.State.{MapState}

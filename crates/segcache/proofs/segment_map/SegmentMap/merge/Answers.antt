@@ -2,8 +2,8 @@ use Rattle.std.proofs.Common.{subst, sym, ◌∙◌, ap}
 use Rattle.segments.specs.Merges.{planned_moves}
 use Rattle.segments.specs.Marks.{carried_marks}
 use Rattle.segments.proofs.MarkedPlaces.{merge_ready}
-use Rattle.segcache.specs.Kept.{IsTied}
-use Rattle.segcache.specs.Merging.{HasPlan}
+use Rattle.segcache.specs.Invariants.{IsTied}
+use Rattle.segcache.specs.PlannedMerges.{HasPlan}
 use Rattle.segcache.specs.Room.{IsCrowded}
 use Rattle.segcache.proofs.MergedMarks.{has_planned, can_relocate, merge_relocated, tied_merged}
 use Rattle.segcache.proofs.MergedRoom.{merged_made}

@@ -1,8 +1,8 @@
 use Rattle.std.proofs.Common.{◌≡◌, ℕ, sym, ap, subst, ◌∙◌}
 use Rattle.proto.specs.Cache.{has_arrived}
 use Rattle.segments.specs.Pools.{PoolState, deadline_in, segment_at}
-use Rattle.segcache.specs.Kept.{IsTied}
-use Rattle.segcache.specs.Leaving.{HasLeft}
+use Rattle.segcache.specs.Invariants.{IsTied}
+use Rattle.segcache.specs.Removals.{HasLeft}
 use Rattle.segcache.specs.Shown.{current}
 use Rattle.segcache.specs.State.{MapState}
 use Rattle.segcache.proofs.LeftPlaces.{expiring_passed, expiring_more}

@@ -12,7 +12,7 @@ use Rattle.index.specs.Table.{Places}
 use Rattle.index.proofs.SlotsAsMap.{get-remove}
 use Rattle.segcache.specs.State.{MapState}
 use Rattle.segcache.specs.Shown.{current}
-use Rattle.segcache.specs.Living.{live_others}
+use Rattle.segcache.specs.LiveItems.{live_others}
 use Rattle.segcache.proofs.ForgottenKeys.{placed_left, room_was, room_there}
 use Rattle.segcache.proofs.AppendedItems.{put_over, put_left, put_placed, was_refused, was_done}
 use Rattle.segcache.proofs.segment_map.SegmentMap.write_item.Goals as goal

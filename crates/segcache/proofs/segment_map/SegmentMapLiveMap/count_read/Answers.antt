@@ -2,7 +2,7 @@ use Rattle.std.proofs.Common.{◌≡◌, Some, refl, sym, ap, subst, ◌∙◌}
 use Rattle.std.specs.FinMap as finite
 use Rattle.index.specs.Table.{Places}
 use Rattle.segments.specs.Pools.{PoolState}
-use Rattle.segcache.specs.Kept.{IsPast}
+use Rattle.segcache.specs.Invariants.{IsPast}
 use Rattle.segcache.specs.State.{MapState}
 use Rattle.segments.specs.Items.{read_again}
 use Rattle.segments.proofs.ItemChanges.{keeps_read}

@@ -7,8 +7,8 @@ use Rattle.segments.specs.Items.{Item}
 use Rattle.segments.specs.declared.place.Place.{Place}
 use Rattle.segcache.specs.Shown.{shown_entries}
 use Rattle.segcache.specs.Writes.{StandsAt, goes_over, unread}
-use Rattle.segcache.specs.Living.{live_others}
-use Rattle.segcache.specs.Forgetting.{PlacesItem}
+use Rattle.segcache.specs.LiveItems.{live_others}
+use Rattle.segcache.specs.ForgottenKeys.{PlacesItem}
 use Rattle.segcache.specs.State.{IsSegmentedMap}
 use Rattle.segcache.proofs.KeptEntries.{keeps_entry, writes_anew}
 use Rattle.segcache.proofs.ItemsPutOver.{over_written, keeps_below}

@@ -15,8 +15,8 @@ invariant_of-self g c = let w = c.self.inside.state in
     (flushed_goes_on g.P.Port.told w c.flush.new.self (flushed_same w.batch c.flush.new.self c.flush.ensures)
     c.self.invariant).serving
 
-pub returns-then-waiting-gt0 : goal.returns-then-waiting-gt0
-returns-then-waiting-gt0 g c = let w = c.self.inside.state in
+pub returns-then-unflushed-gt0 : goal.returns-then-unflushed-gt0
+returns-then-unflushed-gt0 g c = let w = c.self.inside.state in
     continues c.self.view_is (g.met.P.Port.leads_reflexive _)
     (flushed_goes_on g.P.Port.told w c.flush.new.self (flushed_same w.batch c.flush.new.self c.flush.ensures)
     c.self.invariant)

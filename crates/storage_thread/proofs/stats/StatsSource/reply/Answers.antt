@@ -1,7 +1,7 @@
 use Rattle.std.proofs.Common.{List, ℕ, refl, inr, subst}
 use Rattle.proto.specs.declared.counts.Counts.{Counts}
 use Rattle.proto.specs.StatTexts.{IsStats}
-use Rattle.storage_thread.proofs.telling.Telling.reply.Goals as goal
+use Rattle.storage_thread.proofs.stats.StatsSource.reply.Goals as goal
 
 pub returns-in-Ok-clause-tells : goal.returns-in-Ok-clause-tells
 returns-in-Ok-clause-tells g c = λ is. inr (

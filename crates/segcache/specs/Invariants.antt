@@ -1,4 +1,4 @@
--- What a segmented map keeps.
+-- The invariants of a segmented map.
 use Rattle.std.specs.Prelude.{◌≡◌, ℕ, ◌*◌, ◌/◌, ◌≤◌, true, List, Some}
 use Rattle.std.specs.FinMap as finite
 use Rattle.proto.specs.History.{max_moment}

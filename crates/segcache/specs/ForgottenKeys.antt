@@ -9,8 +9,8 @@ use Rattle.segments.specs.Pools.{PoolState, Liveness, live_standing}
 use Rattle.segments.specs.Merges.{Evicts}
 use Rattle.index.specs.Table.{Table}
 use Rattle.segcache.specs.Shown.{current, shown_entries, entry_at}
-use Rattle.segcache.specs.Making.{MakesRoom, IsWrittenTo}
-use Rattle.segcache.specs.Making.MakesRoom.{has_room, gives_back, evicts}
+use Rattle.segcache.specs.Allocation.{MakesRoom, IsWrittenTo}
+use Rattle.segcache.specs.Allocation.MakesRoom.{has_room, gives_back, evicts}
 
 -- the keys of the items that a merge doesn't keep, or of the live items of the segment that was cleared
 abbrev pub keys_evicted : (lives : Liveness) (p after : PoolState) → Evicts lives p after → List (List ℕ)

@@ -1,4 +1,4 @@
--- Groups of the segments of a chain, and that all segments are in chains.
+-- The series of segments, each those of one bucket and one opening moment, and that all segments are in chains.
 use Rattle.std.proofs.Common.{◌≡◌, ℕ, suc, ◌+◌, ◌*◌, ◌<◌, ◌≤◌, Bool, true, false, eqb, List, [], ◌∷◌, ◌++◌, length}
 use Rattle.std.proofs.Common.{map, Option, Some, None, refl, sym, ap, subst, ◌∙◌, arith, inl, inr, add-one}
 use Rattle.std.specs.Prelude.{nat_lt, nat_le, not, ◌==◌, ◌&&◌, ◌||◌, if◌then◌else◌, IsTrue, All, is_some, filter, option_and_then}
@@ -18,61 +18,61 @@ use Rattle.proto.specs.declared.eviction.Eviction.TheVariants.{Oldest, LeastRead
 use Rattle.segments.specs.Changes.{takes, if_takes, open_tail, IsPoolFull, HasNoRoom}
 use Rattle.segments.specs.Merges.{opened_at}
 use Rattle.segments.specs.Filling.{bucket_in, OpensNoLater, IsOpenedBy}
-use Rattle.segments.specs.Filling.{goes_with, AreFilled, IsFilled, AreInTime, IsInTime, Group, group_for, group_of, same_group}
-use Rattle.segments.specs.Filling.{groups_among, held_in, held_among, held_size, groups_with, filled_size, HoldsLittle}
+use Rattle.segments.specs.Filling.{goes_with, AreFilled, IsFilled, AreInTime, IsInTime, Series, series_for, series_of, same_series}
+use Rattle.segments.specs.Filling.{series_among, held_in, held_among, held_size, series_with, filled_size, HoldsLittle}
 use Rattle.proto.specs.Sizes.{item_limit}
 use Rattle.segments.proofs.OpeningLemmas.{opening_open}
 use Rattle.segments.proofs.LinkLemmas.{times_range, length_range, same_length, used_if}
 
--- ---- counting groups
+-- ---- counting series
 
--- a group and what a segment of it holds
+-- a series and what a segment of it holds
 record Held : Type 0 where
-  group : Group
+  series : Series
   size : ℕ
 
--- the groups of what is held, and the sizes in sum
-abbrev groups_in : List Held → List Group
-groups_in hs = map (λ (h : Held). h.group) hs
+-- the series of what is held, and the sizes in sum
+abbrev series_in : List Held → List Series
+series_in hs = map (λ (h : Held). h.series) hs
 
 -- the sizes of what is held in sum
 abbrev sizes_in : List Held → ℕ
 sizes_in [] = 0
 sizes_in (h ∷ hs) = h.size + sizes_in hs
 
--- each that isn't the last of its group is filled
+-- each that isn't the last of its series is filled
 abbrev AreFull : ℕ → List Held → Type 0
 AreFull d [] = Unit {0}
-AreFull d (h ∷ hs) = (list_any (same_group h.group) (groups_in hs) ≡ true → d ≤ h.size) × AreFull d hs
+AreFull d (h ∷ hs) = (list_any (same_series h.series) (series_in hs) ≡ true → d ≤ h.size) × AreFull d hs
 
--- a full segment of a group that comes again pays for itself
+-- a full segment of a series that comes again pays for itself
 one_more : (d len g s size : ℕ) → len * d ≤ s + g * d → d ≤ size → (len + 1) * d ≤ (size + s) + (0 + g) * d
 one_more d len g s size e f = grind arith
 
--- the last segment of its group is paid for by the group
-one_group : (d len g s size : ℕ) → len * d ≤ s + g * d → (len + 1) * d ≤ (size + s) + (1 + g) * d
-one_group d len g s size e = grind arith
+-- the last segment of its series is paid for by the series
+one_series : (d len g s size : ℕ) → len * d ≤ s + g * d → (len + 1) * d ≤ (size + s) + (1 + g) * d
+one_series d len g s size e = grind arith
 
 -- either way one more segment keeps the bound
 count_by_case : (d len g s size : ℕ) (b : Bool) (n : ℕ) → n ≡ len + 1 → len * d ≤ s + g * d → (b ≡ true → d ≤ size)
     → n * d ≤ (size + s) + ((if b then 0 else 1) + g) * d
 count_by_case d len g s size true n e r f = rw e (one_more d len g s size r (f refl))
-count_by_case d len g s size false n e r f = rw e (one_group d len g s size r)
+count_by_case d len g s size false n e r f = rw e (one_series d len g s size r)
 
--- what is held with one filled segment for each group is as much as all hold filled
-count_full : (d : ℕ) (hs : List Held) → AreFull d hs → length hs * d ≤ sizes_in hs + groups_among (groups_in hs) * d
+-- what is held with one filled segment for each series is as much as all hold filled
+count_full : (d : ℕ) (hs : List Held) → AreFull d hs → length hs * d ≤ sizes_in hs + series_among (series_in hs) * d
 count_full d [] f = omega arith
 count_full d (h ∷ hs) f =
     let r = count_full d hs f.1 in
-    count_by_case d (length hs) (groups_among (groups_in hs)) (sizes_in hs) h.size
-    (list_any (same_group h.group) (groups_in hs))
+    count_by_case d (length hs) (series_among (series_in hs)) (sizes_in hs) h.size
+    (list_any (same_series h.series) (series_in hs))
     (suc (length hs)) (sym (add-one (length hs))) r f.0
 
--- ---- groups
+-- ---- series
 
--- groups that the test finds the same are equal
-pub same_group_is : (a b : Group) → same_group a b ≡ true → a ≡ b
-same_group_is a b h =
+-- series that the test finds the same are equal
+pub same_series_is : (a b : Series) → same_series a b ≡ true → a ≡ b
+same_series_is a b h =
     let parts = and_parts (a.bucket == b.bucket) (a.opened == b.opened) h in
     ap (λ n. record { bucket = n; opened = a.opened }) (eqb-true a.bucket b.bucket parts.0)
     ∙ ap (λ n. record { bucket = b.bucket; opened = n }) (eqb-true a.opened b.opened parts.1)
@@ -85,12 +85,12 @@ eqb_flips x y =
       | inr e ↦ ne_eqb x y e ∙ sym (ne_eqb y x (λ q. e (sym q)))
     ]
 
--- two groups are the same either way round
-group_flips : (a b : Group) → same_group a b ≡ same_group b a
-group_flips a b = ap (λ x. x && (a.opened == b.opened)) (eqb_flips a.bucket b.bucket)
+-- two series are the same either way round
+series_flips : (a b : Series) → same_series a b ≡ same_series b a
+series_flips a b = ap (λ x. x && (a.opened == b.opened)) (eqb_flips a.bucket b.bucket)
     ∙ ap (λ x. (b.bucket == a.bucket) && x) (eqb_flips a.opened b.opened)
 
--- of two groups that change places as many are different
+-- of two series that change places as many are different
 count_swap : (a b s : Bool) (k : ℕ) → (s ≡ true → a ≡ b)
     → (if a || (s || false) then 0 else 1) + ((if b then 0 else 1) + k)
     ≡ (if s || b then 0 else 1) + ((if a then 0 else 1) + k)
@@ -103,24 +103,24 @@ count_swap false false false k h = refl
 count_swap true false false k h = omega arith
 count_swap false true false k h = omega arith
 
--- the same groups, the last one in front
-groups_last : (gs : List Group) (g : Group) → groups_among (gs ++ g ∷ []) ≡ groups_among (g ∷ gs)
-groups_last [] g = refl
-groups_last (x ∷ gs) g =
-    let r = groups_last gs g in
-    let k = groups_among gs in
-    ap (λ (b : Bool). (if b then 0 else 1) + groups_among (gs ++ g ∷ [])) (list_any-append (same_group x) gs (g ∷ []))
-    ∙ ap (λ n. (if list_any (same_group x) gs || (same_group x g || false) then 0 else 1) + n) r
-    ∙ count_swap (list_any (same_group x) gs) (list_any (same_group g) gs) (same_group x g) k
-    (λ y. ap (λ z. list_any (same_group z) gs) (same_group_is x g y))
-    ∙ ap (λ (b : Bool). (if b || list_any (same_group g) gs then 0 else 1)
-    + ((if list_any (same_group x) gs then 0 else 1) + k)) (group_flips x g)
+-- the same series, the last one in front
+series_last : (gs : List Series) (g : Series) → series_among (gs ++ g ∷ []) ≡ series_among (g ∷ gs)
+series_last [] g = refl
+series_last (x ∷ gs) g =
+    let r = series_last gs g in
+    let k = series_among gs in
+    ap (λ (b : Bool). (if b then 0 else 1) + series_among (gs ++ g ∷ [])) (list_any-append (same_series x) gs (g ∷ []))
+    ∙ ap (λ n. (if list_any (same_series x) gs || (same_series x g || false) then 0 else 1) + n) r
+    ∙ count_swap (list_any (same_series x) gs) (list_any (same_series g) gs) (same_series x g) k
+    (λ y. ap (λ z. list_any (same_series z) gs) (same_series_is x g y))
+    ∙ ap (λ (b : Bool). (if b || list_any (same_series g) gs then 0 else 1)
+    + ((if list_any (same_series x) gs then 0 else 1) + k)) (series_flips x g)
 
 -- ---- a segment of a chain, by its bucket and opening moment
 
--- the group of a segment is that of its bucket and moment
-group_is : (p : PoolState) (n : ℕ) (u : Used) → segment_at p n ≡ Some u → group_of p n ≡ group_for u.bucket u.opened
-group_is p n u e = ap (λ o. group_for (option_map_or (λ (s : Used). s.bucket) o lasting)
+-- the series of a segment is that of its bucket and moment
+series_is : (p : PoolState) (n : ℕ) (u : Used) → segment_at p n ≡ Some u → series_of p n ≡ series_for u.bucket u.opened
+series_is p n u e = ap (λ o. series_for (option_map_or (λ (s : Used). s.bucket) o lasting)
     (option_map_or (λ (s : Used). s.opened) o 0)) e
 
 -- a segment is in the bucket that it was opened for
@@ -132,17 +132,17 @@ in_bucket_is p n c u e = ap (λ o. option_map_or (λ (s : Used). s.bucket == c) 
 pub opened_is : (p : PoolState) (n : ℕ) (u : Used) → segment_at p n ≡ Some u → opened_at p n ≡ u.opened
 opened_is p n u e = ap (λ o. option_map_or (λ (s : Used). s.opened) o 0) e
 
--- where moments count and are the same for the groups, they are the same
+-- where moments count and are the same for the series, they are the same
 moment_by : (l : Bool) (x y : ℕ) → (if l then 0 else x) ≡ (if l then 0 else y) → (l || (x == y)) ≡ true
 moment_by true x y e = refl
 moment_by false x y e = eq-eqb x y e
 
--- two segments of one group go together
-goes_from_group : (p : PoolState) (n m : ℕ) (u v : Used) → segment_at p n ≡ Some u → segment_at p m ≡ Some v
-    → same_group (group_of p n) (group_of p m) ≡ true → goes_with p u.bucket n m ≡ true
-goes_from_group p n m u v e f h =
-    let same : group_for u.bucket u.opened ≡ group_for v.bucket v.opened = sym (group_is p n u e)
-    ∙ same_group_is (group_of p n) (group_of p m) h ∙ group_is p m v f in
+-- two segments of one series go together
+goes_from_series : (p : PoolState) (n m : ℕ) (u v : Used) → segment_at p n ≡ Some u → segment_at p m ≡ Some v
+    → same_series (series_of p n) (series_of p m) ≡ true → goes_with p u.bucket n m ≡ true
+goes_from_series p n m u v e f h =
+    let same : series_for u.bucket u.opened ≡ series_for v.bucket v.opened = sym (series_is p n u e)
+    ∙ same_series_is (series_of p n) (series_of p m) h ∙ series_is p m v f in
     let buckets : u.bucket ≡ v.bucket = ap (λ g. g.bucket) same in
     let moments : (if u.bucket == lasting then 0 else u.opened) ≡ (if v.bucket == lasting then 0 else v.opened) =
     ap (λ g. g.opened) same in
@@ -163,20 +163,20 @@ abbrev pub AreUsed : PoolState → List ℕ → Type 0
 AreUsed p [] = Unit {0}
 AreUsed p (n ∷ later) = ((u : Used) × (segment_at p n ≡ Some u)) × AreUsed p later
 
--- where a later segment is of the same group, a later segment goes with this one
-any_group : (p : PoolState) (n : ℕ) (u : Used) (later : List ℕ) → segment_at p n ≡ Some u → AreUsed p later
-    → list_any (same_group (group_of p n)) (map (group_of p) later) ≡ true
+-- where a later segment is of the same series, a later segment goes with this one
+any_of_series : (p : PoolState) (n : ℕ) (u : Used) (later : List ℕ) → segment_at p n ≡ Some u → AreUsed p later
+    → list_any (same_series (series_of p n)) (map (series_of p) later) ≡ true
     → list_any (goes_with p u.bucket n) later ≡ true
-any_group p n u [] e used h = absurd (false≢true h)
-any_group p n u (m ∷ later) e used h =
-    elim (cases_Bool (same_group (group_of p n) (group_of p m))) [
-      | inl y ↦ or_left _ _ (goes_from_group p n m u used.0.0 e used.0.1 y)
+any_of_series p n u [] e used h = absurd (false≢true h)
+any_of_series p n u (m ∷ later) e used h =
+    elim (cases_Bool (same_series (series_of p n) (series_of p m))) [
+      | inl y ↦ or_left _ _ (goes_from_series p n m u used.0.0 e used.0.1 y)
       | inr f ↦
-          let rest : list_any (same_group (group_of p n)) (map (group_of p) later) ≡ true = rw f at h in
-          or_right (goes_with p u.bucket n m) _ (any_group p n u later e used.1 rest)
+          let rest : list_any (same_series (series_of p n)) (map (series_of p) later) ≡ true = rw f at h in
+          or_right (goes_with p u.bucket n m) _ (any_of_series p n u later e used.1 rest)
     ]
 
--- ---- an item's group: the last segment of it is its tail
+-- ---- an item's series: the last segment of it is its tail
 
 -- a segment of a bucket has that bucket
 pub bucket_of_in : (o : Option Used) (b : ℕ) → option_map_or (λ (s : Used). s.bucket == b) o false ≡ true
@@ -256,14 +256,14 @@ tail_filled p b t n u i s tail_is none e same moment =
     let held : held_in p n ≡ size_of_all u.items = ap (λ o. size_of_all (items_of o)) e in
     omega arith
 
--- a segment of the item's group holds so much: one that goes with it is after it, or it is the tail
-pub group_filled : (p : PoolState) (b t n : ℕ) (u : Used) (later : List ℕ) (o : Option ℕ) (i : Item)
+-- a segment of the item's series holds so much: one that goes with it is after it, or it is the tail
+pub series_filled : (p : PoolState) (b t n : ℕ) (u : Used) (later : List ℕ) (o : Option ℕ) (i : Item)
     → IsStorable (item_limit p.sizes) i → open_tail p b t (size_of_item i) ≡ None
     → last_or o (filter (in_bucket p.segments b) (n ∷ later)) ≡ tail p b → segment_at p n ≡ Some u → u.bucket ≡ b
     → ((b == lasting) || (u.opened == opening_moment p.eviction b t)) ≡ true
     → AreUsed p later → All (OpensNoLater p.eviction p n) later → All (IsOpenedBy p.eviction p t) later
     → ((c : ℕ) → IsTrue (list_any (goes_with p c n) later) → filled_size p < held_in p n) → filled_size p < held_in p n
-group_filled p b t n u later o i s none at e same moment used order past f =
+series_filled p b t n u later o i s none at e same moment used order past f =
     elim (cases_Bool (list_any (goes_with p b n) later)) [
       | inl y ↦ f b y
       | inr none_goes ↦
@@ -279,37 +279,37 @@ pub last_by : (c : Bool) (o : Option ℕ) (n : ℕ) (ys : List ℕ)
 last_by true o n ys = refl
 last_by false o n ys = refl
 
--- what the segments of chains hold, and a new one of the item's group with nothing
-with_new : PoolState → List ℕ → Group → List Held
-with_new p [] g = record { group = g; size = 0 } ∷ []
-with_new p (n ∷ numbers) g = record { group = group_of p n; size = held_in p n } ∷ with_new p numbers g
+-- what the segments of chains hold, and a new one of the item's series with nothing
+with_new : PoolState → List ℕ → Series → List Held
+with_new p [] g = record { series = g; size = 0 } ∷ []
+with_new p (n ∷ numbers) g = record { series = series_of p n; size = held_in p n } ∷ with_new p numbers g
 
--- the groups with a new one behind are those of the segments, and the new one
-new_groups : (p : PoolState) (numbers : List ℕ) (g : Group)
-    → groups_in (with_new p numbers g) ≡ map (group_of p) numbers ++ g ∷ []
+-- the series with a new one behind are those of the segments, and the new one
+series_with_new : (p : PoolState) (numbers : List ℕ) (g : Series)
+    → series_in (with_new p numbers g) ≡ map (series_of p) numbers ++ g ∷ []
 unfolding with_new
-new_groups p [] g = refl
-new_groups p (n ∷ numbers) g = ap (λ gs. group_of p n ∷ gs) (new_groups p numbers g)
+series_with_new p [] g = refl
+series_with_new p (n ∷ numbers) g = ap (λ gs. series_of p n ∷ gs) (series_with_new p numbers g)
 
--- the new group holds nothing
-new_sizes : (p : PoolState) (numbers : List ℕ) (g : Group) → sizes_in (with_new p numbers g) ≡ held_among p numbers
+-- the new series holds nothing
+new_sizes : (p : PoolState) (numbers : List ℕ) (g : Series) → sizes_in (with_new p numbers g) ≡ held_among p numbers
 unfolding with_new
 new_sizes p [] g = refl
 new_sizes p (n ∷ numbers) g = ap (λ k. held_in p n + k) (new_sizes p numbers g)
 
--- the new group counts as one more segment
-new_length : (p : PoolState) (numbers : List ℕ) (g : Group) → length (with_new p numbers g) ≡ suc (length numbers)
+-- the new series counts as one more segment
+new_length : (p : PoolState) (numbers : List ℕ) (g : Series) → length (with_new p numbers g) ≡ suc (length numbers)
 unfolding with_new
 new_length p [] g = refl
 new_length p (n ∷ numbers) g = ap suc (new_length p numbers g)
 
--- a segment of the group of a bucket and a moment is one of the bucket, and of the moment where that counts
-group_moment : (p : PoolState) (b t n : ℕ) (u : Used) → segment_at p n ≡ Some u
-    → same_group (group_of p n) (group_for b t) ≡ true
+-- a segment of the series of a bucket and a moment is one of the bucket, and of the moment where that counts
+series_moment : (p : PoolState) (b t n : ℕ) (u : Used) → segment_at p n ≡ Some u
+    → same_series (series_of p n) (series_for b t) ≡ true
     → (u.bucket ≡ b) × (((b == lasting) || (u.opened == t)) ≡ true)
-group_moment p b t n u e h =
-    let same : group_for u.bucket u.opened ≡ group_for b t =
-    sym (group_is p n u e) ∙ same_group_is (group_of p n) (group_for b t) h in
+series_moment p b t n u e h =
+    let same : series_for u.bucket u.opened ≡ series_for b t =
+    sym (series_is p n u e) ∙ same_series_is (series_of p n) (series_for b t) h in
     let buckets : u.bucket ≡ b = ap (λ g. g.bucket) same in
     let moments : (if u.bucket == lasting then 0 else u.opened) ≡ (if b == lasting then 0 else t) =
     ap (λ g. g.opened) same in
@@ -317,33 +317,33 @@ group_moment p b t n u e h =
     (λ (x : ℕ). if x == lasting then 0 else u.opened) (sym buckets) ∙ moments in
     (buckets, moment_by (b == lasting) u.opened t one)
 
--- where no tail takes an item, each segment is full or the last of its group, the item's own group among them
+-- where no tail takes an item, each segment is full or the last of its series, the item's own series among them
 full_by : (p : PoolState) (b t : ℕ) (i : Item) (numbers : List ℕ) (o : Option ℕ) → IsStorable (item_limit p.sizes) i
     → open_tail p b t (size_of_item i) ≡ None
     → last_or o (filter (in_bucket p.segments b) numbers) ≡ tail p b → AreUsed p numbers
     → AreInTime p.eviction p numbers → All (IsOpenedBy p.eviction p t) numbers → AreFilled p numbers
-    → AreFull (filled_size p) (with_new p numbers (group_for b (opening_moment p.eviction b t)))
+    → AreFull (filled_size p) (with_new p numbers (series_for b (opening_moment p.eviction b t)))
 unfolding with_new
 full_by p b t i [] o s none at used order past filled = (λ h. absurd (false≢true h), tt)
 full_by p b t i (n ∷ later) o s none at used order past filled =
     let k = opening_moment p.eviction b t in
-    let g = group_for b k in
+    let g = series_for b k in
     let rest = All-tail (IsOpenedBy p.eviction p t) n later past in (
-      λ h. (let split : (list_any (same_group (group_of p n)) (map (group_of p) later)
-          || (same_group (group_of p n) g || false)) ≡ true =
-          sym (list_any-append (same_group (group_of p n)) (map (group_of p) later) (g ∷ []))
-          ∙ ap (list_any (same_group (group_of p n))) (sym (new_groups p later g)) ∙ h in
-          elim (or_cases (list_any (same_group (group_of p n)) (map (group_of p) later))
-          (same_group (group_of p n) g || false) split) [
-            | inl y ↦ (let lt = filled.0 used.0.0.bucket (any_group p n used.0.0 later used.0.1 used.1 y) in
+      λ h. (let split : (list_any (same_series (series_of p n)) (map (series_of p) later)
+          || (same_series (series_of p n) g || false)) ≡ true =
+          sym (list_any-append (same_series (series_of p n)) (map (series_of p) later) (g ∷ []))
+          ∙ ap (list_any (same_series (series_of p n))) (sym (series_with_new p later g)) ∙ h in
+          elim (or_cases (list_any (same_series (series_of p n)) (map (series_of p) later))
+          (same_series (series_of p n) g || false) split) [
+            | inl y ↦ (let lt = filled.0 used.0.0.bucket (any_of_series p n used.0.0 later used.0.1 used.1 y) in
                 omega arith)
             | inr y ↦
-                let here : same_group (group_of p n) g ≡ true = elim (or_cases (same_group (group_of p n) g) false y) [
+                let here : same_series (series_of p n) g ≡ true = elim (or_cases (same_series (series_of p n) g) false y) [
                   | inl x ↦ x
                   | inr x ↦ absurd (false≢true x)
                 ] in
-                let m = group_moment p b k n used.0.0 used.0.1 here in
-                let lt = group_filled p b t n used.0.0 later o i s none at used.0.1 m.0 m.1 used.1 order.0 rest
+                let m = series_moment p b k n used.0.0 used.0.1 here in
+                let lt = series_filled p b t n used.0.0 later o i s none at used.0.1 m.0 m.1 used.1 order.0 rest
                 filled.0 in
                 omega arith
           ]),
@@ -403,20 +403,20 @@ too_much s d held gw pos a b = let e : suc s * d ≡ s * d + d = grind arith in 
 pub has_space : (p : PoolState) (b t : ℕ) (i : Item) → IsPool p → IsInTime p t → IsFilled p → HoldsLittle p b t
     → IsStorable (item_limit p.sizes) i → HasNoRoom p b t i → ⊥
 has_space p b t i k time filled little s none =
-    let g = group_for b (opening_moment p.eviction b t) in
+    let g = series_for b (opening_moment p.eviction b t) in
     let full = full_by p b t i p.order None s none.no_tail refl (order_used p k) time.order time.past filled in
     let c = count_full (filled_size p) (with_new p p.order g) full in
     let len : length (with_new p p.order g) ≡ suc p.sizes.segments =
     new_length p p.order g ∙ ap suc (full_length p k none.none_free) in
-    let groups : groups_among (groups_in (with_new p p.order g)) ≡ groups_with p b t =
-    ap groups_among (new_groups p p.order g)
-    ∙ groups_last (map (group_of p) p.order) g in
+    let series : series_among (series_in (with_new p p.order g)) ≡ series_with p b t =
+    ap series_among (series_with_new p p.order g)
+    ∙ series_last (map (series_of p) p.order) g in
     let held : sizes_in (with_new p p.order g) ≡ held_size p = new_sizes p p.order g in
     let large = k.geometry.smallest in
     let D = filled_size p in
-    let one : suc p.sizes.segments * D ≤ held_size p + groups_with p b t * D =
-    subst (λ x. suc p.sizes.segments * D ≤ held_size p + x * D) groups
-    (subst (λ x. suc p.sizes.segments * D ≤ x + groups_among (groups_in (with_new p p.order g)) * D) held
-    (subst (λ x. x * D ≤ sizes_in (with_new p p.order g) + groups_among (groups_in (with_new p p.order g)) * D)
+    let one : suc p.sizes.segments * D ≤ held_size p + series_with p b t * D =
+    subst (λ x. suc p.sizes.segments * D ≤ held_size p + x * D) series
+    (subst (λ x. suc p.sizes.segments * D ≤ x + series_among (series_in (with_new p p.order g)) * D) held
+    (subst (λ x. x * D ≤ sizes_in (with_new p p.order g) + series_among (series_in (with_new p p.order g)) * D)
     len c)) in
-    too_much p.sizes.segments D (held_size p) (groups_with p b t) (omega arith) one little
+    too_much p.sizes.segments D (held_size p) (series_with p b t) (omega arith) one little

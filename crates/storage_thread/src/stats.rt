@@ -1,4 +1,4 @@
-//! What a `stats` is told.
+//! What a `stats` shows.
 
 ghost use Rattle.std.specs.Prelude.{◌≡◌, ◌⊎◌, IfOk};
 ghost use Rattle.proto.specs.Tallies.{TellsCounts};
@@ -8,18 +8,18 @@ use exchange::StorageSignals;
 use proto::{Counts, Gauge, NoMemory, Reply, Request, StatsText, VERSION};
 use std::time::{Clock, Duration, Instant};
 
-/// By what a `stats` is told more than counts: the system's clock, when the thread began, and the signals.
+/// Where what a `stats` shows beside counts comes from: the system's clock, when the thread began, and the signals.
 #[derive(Clone, Copy)]
-pub struct Telling<'a, R> {
+pub struct StatsSource<'a, R> {
     rt: &'a R,
     // None if the clock couldn't be read.
     began: Option<Instant>,
     signals: &'a StorageSignals,
 }
 
-impl<'a, R: Clock> Telling<'a, R> {
-    pub fn new(rt: &'a R, signals: &'a StorageSignals) -> Telling<'a, R> {
-        Telling {
+impl<'a, R: Clock> StatsSource<'a, R> {
+    pub fn new(rt: &'a R, signals: &'a StorageSignals) -> StatsSource<'a, R> {
+        StatsSource {
             rt,
             began: Instant::now(rt).ok(),
             signals,
@@ -44,8 +44,8 @@ impl<'a, R: Clock> Telling<'a, R> {
             .raise_micros(Gauge::MergeLongest, self.passed(since));
     }
 
-    // Writes what is told beside counts into the gauges, this long after the thread began.
-    fn tell<S: StorageEngine>(&self, store: &S, worker: usize, passed: Duration) {
+    // Sets the gauges, this long after the thread began.
+    fn set_gauges<S: StorageEngine>(&self, store: &S, worker: usize, passed: Duration) {
         let gauges = self.signals.storage_gauges();
         gauges.set(Gauge::Pid, u64::from(libc::getpid().unsigned_abs()));
         gauges.set(Gauge::Uptime, passed.as_secs());
@@ -69,7 +69,7 @@ impl<'a, R: Clock> Telling<'a, R> {
         ensures { IfOk result (λ text. text ≡ counts.now) }
     {
         let passed = self.passed(self.began);
-        self.tell(store, worker, passed);
+        self.set_gauges(store, worker, passed);
         let text = StatsText::of(self.signals.allocator(), counts)?
             .with_word(b"version", VERSION.as_bytes())?
             .with_gauges(self.signals.storage_gauges())?;

@@ -17,7 +17,8 @@ use Rattle.worker_port.specs.Ports.{PortTrace}
 use Rattle.worker.specs.declared.run.WorkerReport.{WorkerReport}
 use Rattle.worker.specs.Reports.{IsSessionAnswered}
 use Rattle.group.specs.declared.report.GroupReport.{GroupReport}
-use Rattle.group.specs.Threads.{AreJoined, AreEach, HasSentNothing, ArePortsOf, IsPortAt, IsLeftByStorage, KeepsWorker, KeepsStorage}
+use Rattle.worker.specs.Starts.{IsPortAt, HasSentNothing}
+use Rattle.group.specs.Threads.{AreJoined, AreEach, ArePortsOf, IsLeftByStorage, KeepsWorker, KeepsStorage}
 use Rattle.group.specs.Threads.{ends_of, worker_of, workers_of}
 use Rattle.group.specs.Headline.{IsHistoryOf, IsWorkerOf, IsRun}
 use Rattle.group.proofs.Places.{at_map, at_mapped}
@@ -37,11 +38,11 @@ module _ {P : Type 0} (told : P → Option PortTrace) (leads_to : P → P → Ty
     pub together : AreTogether (ends_of reports) storage
     together = record {
       exchange = λ i v at. let r = at_mapped (λ (r : WorkerReport P). r.worker_end) reports i v at in
-          ap (λ (e : WorkerView). e.exchange) (sym r.2) ∙ (kept_at i r.0 r.1).1.over.exchange;
+          ap (λ (e : WorkerView). e.exchange) (sym r.2) ∙ (kept_at i r.0 r.1).1.bye.exchange;
       apart = λ i j v u at there same. let r = at_mapped (λ (r : WorkerReport P). r.worker_end) reports i v at in
           let q = at_mapped (λ (r : WorkerReport P). r.worker_end) reports j u there in
-          sym (kept_at i r.0 r.1).1.over.worker ∙ ap (λ (e : WorkerView). e.worker) r.2 ∙ same
-          ∙ ap (λ (e : WorkerView). e.worker) (sym q.2) ∙ (kept_at j q.0 q.1).1.over.worker;
+          sym (kept_at i r.0 r.1).1.bye.worker ∙ ap (λ (e : WorkerView). e.worker) r.2 ∙ same
+          ∙ ap (λ (e : WorkerView). e.worker) (sym q.2) ∙ (kept_at j q.0 q.1).1.bye.worker;
     }
 
   -- the reports of threads that were given the ports and the ends as they were made
@@ -66,8 +67,8 @@ module _ {P : Type 0} (told : P → Option PortTrace) (leads_to : P → P → Ty
       → AreCounted s r.worker_end (slice_index g.sent r.worker_end.worker) (slice_index g.back r.worker_end.worker)
       → IsWorkerOf told leads_to s.history g port w (worker_of r)
   worker_holds terms s g port w r kept counted =
-      let is : r.worker_end.worker ≡ w = kept.over.worker in
-      let all = counted.compared.all kept.over.said_bye in
+      let is : r.worker_end.worker ≡ w = kept.bye.worker in
+      let all = counted.compared.all kept.bye.said_bye in
       let sent : asked_posted (worker_share s.history r.worker_end.worker) ≡ r.worker_end.sent = all.1 in record {
         leads = kept.leads;
         tells = kept.tells;
@@ -81,7 +82,7 @@ module _ {P : Type 0} (told : P → Option PortTrace) (leads_to : P → P → Ty
               number = a.number;
               request = a.request;
             } in p))
-            ∙ ap length kept.over.all_back);
+            ∙ ap length kept.bye.all_back);
         strangers = kept.strangers;
         listed = λ trace tells. (kept.reported trace tells).listed;
         answered = λ trace tells t cause messages rest listed reads.

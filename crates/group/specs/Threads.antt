@@ -15,7 +15,7 @@ use Rattle.storage_thread.specs.declared.serving.StorageReport.{StorageReport}
 use Rattle.worker_port.specs.Ports.{PortTrace}
 use Rattle.worker_port.specs.Giving.{IsTraceOf}
 use Rattle.worker.specs.declared.run.WorkerReport.{WorkerReport}
-use Rattle.worker.specs.Reports.{IsReported, IsOver}
+use Rattle.worker.specs.Reports.{IsReported, HasSaidBye}
 use Rattle.group.specs.declared.start.Finished.{Finished}
 use Rattle.group.specs.declared.report.GroupWorker.{GroupWorker}
 use Rattle.group.specs.Headline.{IsHistoryOf}
@@ -26,7 +26,7 @@ pub record KeepsWorker {P : Type 0} (told : P → Option PortTrace) (leads_to : 
     (report : WorkerReport P) : Type 0 where
   pub leads : leads_to port report.port
   pub tells : is_some (told report.port) ≡ is_some (told port)
-  pub over : IsOver end report.worker_end
+  pub bye : HasSaidBye end report.worker_end
   pub strangers : report.strangers ≡ 0
   pub reported : (trace : PortTrace) → told report.port ≡ Some trace
       → IsReported trace.dialect trace.events report.worker_end report.sessions.items report.unopened
@@ -51,23 +51,12 @@ pub record IsFinished {T : Type 0} (id : ℕ) (keeps : T → Type 0) (finished :
   pub did_run : finished.told.value ≡ true → IsSome finished.ran
   pub kept : IfSome finished.ran keeps
 
--- an end that has sent nothing, and was told of nothing
-abbrev pub HasSentNothing : WorkerView → Type 0
-HasSentNothing end = (end.sent ≡ []) × (end.back ≡ []) × (end.said_bye ≡ false) × (end.seen ≡ [])
-
 -- the ports of workers 0, 1 and so on, of this exchange, by these terms and in this dialect, at which nothing has happened yet
 abbrev pub ArePortsOf : {P : Type 0} → (P → Option PortTrace) → ExchangeId → Terms → Dialect → List P → Type 0
 ArePortsOf {P} told exchange terms d ports =
     (w : ℕ) (port : P) → get_elem? ports w ≡ some port → (trace : PortTrace) → told port ≡ Some trace
     → (trace.worker ≡ w) × (trace.terms ≡ terms) × (trace.dialect ≡ d) × (trace.events ≡ []) × (trace.history ≡ [])
     × (trace.exchange ≡ exchange)
-
--- the port of this end's worker, at which nothing has happened yet, read in this dialect
-pub record IsPortAt {P : Type 0} (told : P → Option PortTrace) (d : Dialect) (port : P)
-    (end : WorkerView) : Type 0 where
-  pub silent : (trace : PortTrace) → told port ≡ Some trace → trace.events ≡ []
-  pub whose : (trace : PortTrace) → told port ≡ Some trace → IsTraceOf trace end
-  pub spelled : (trace : PortTrace) → told port ≡ Some trace → trace.dialect ≡ d
 
 -- a store by these terms that has no entry and was asked nothing, and a clock by them, which was asked nothing
 -- where it says what it starts from

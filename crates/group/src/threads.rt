@@ -5,7 +5,8 @@ ghost use Rattle.worker.specs.declared.run.WorkerReport.{WorkerReport};
 ghost use Rattle.storage_thread.specs.Serving.{IsUnused};
 ghost use Rattle.exchange.specs.Ends.{WorkerView};
 ghost use Rattle.group.specs.declared.fault.GroupFault.TheVariants.{NoThread};
-ghost use Rattle.group.specs.Threads.{IsFinished, HasSentNothing, StartsEmpty, IsPortAt};
+ghost use Rattle.worker.specs.Starts.{IsPortAt, HasSentNothing};
+ghost use Rattle.group.specs.Threads.{IsFinished, StartsEmpty};
 ghost use Rattle.group.specs.Threads.{KeepsWorker, KeepsStorage, AreEach};
 
 use crate::context::GroupContext;

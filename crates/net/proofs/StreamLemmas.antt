@@ -9,14 +9,14 @@ use Rattle.worker_port.specs.declared.events.PortRecord.{PortRecord}
 use Rattle.worker_port.specs.declared.events.PortRecord.TheVariants.{Opened, Data, EndOfInput, Gone, Accepted, Shut}
 use Rattle.worker_port.specs.declared.events.PortEvent.TheVariants as event
 use Rattle.worker_port.specs.Ports.{PortTrace, is_open}
-use Rattle.net.specs.Seen.{Seen, IsSet, fresh, then_received, then_over, then_sent, is_paused_stream, is_over}
+use Rattle.net.specs.Seen.{Seen, IsSet, fresh, then_received, then_input_ended, then_sent, is_paused_stream, has_input_ended}
 use Rattle.net.specs.Shown.{shown_stream, seen_of}
 use Rattle.net.specs.Ties.{Ties}
 use Rattle.net.specs.Traces.{whose_of, trace, trace_of, Tells, GoesOn}
 use Rattle.net.specs.declared.open_stream.OpenStream.{OpenStream}
 use Rattle.net.specs.declared.streams.Streams.{Streams}
-use Rattle.net.proofs.TieLemmas.{ties_opened, ties_fed, ties_over, ties_given, ties_gone, ties_shut}
-use Rattle.net.proofs.TraceLemmas.{tells_opened, tells_fed, tells_over, tells_gone}
+use Rattle.net.proofs.TieLemmas.{ties_opened, ties_fed, ties_input_ended, ties_given, ties_gone, ties_shut}
+use Rattle.net.proofs.TraceLemmas.{tells_opened, tells_fed, tells_input_ended, tells_gone}
 
 map_cond : (b : Bool) (x y : Option OpenStream) → option_map seen_of (cond b x y) ≡ cond b (option_map seen_of x) (option_map seen_of y)
 map_cond true x y = refl
@@ -69,10 +69,10 @@ module _ (old : Streams) (after : List (ℕ × OpenStream)) (s : ℕ) (told : Li
         (ties_fed before (shown_stream after) old.last old.last old.told.items old.has_ended s old.ties b is_open_now
         refl set)
 
-    pub agree_over : told ≡ old.told.items ++ EndOfInput s ∷ []
-        → IsSet s (option_map then_over (before s)) before (shown_stream after) → Agree
-    agree_over e set = subst (λ (k : List PortRecord). Ties (shown_stream after) old.last k old.has_ended) (sym e)
-        (ties_over before (shown_stream after) old.last old.last old.told.items old.has_ended s old.ties is_open_now
+    pub agree_input_ended : told ≡ old.told.items ++ EndOfInput s ∷ []
+        → IsSet s (option_map then_input_ended (before s)) before (shown_stream after) → Agree
+    agree_input_ended e set = subst (λ (k : List PortRecord). Ties (shown_stream after) old.last k old.has_ended) (sym e)
+        (ties_input_ended before (shown_stream after) old.last old.last old.told.items old.has_ended s old.ties is_open_now
         refl set)
 
     pub agree_given : (b : List ℕ) → told ≡ old.told.items ++ Accepted s b ∷ []
@@ -92,7 +92,7 @@ module _ (old : Streams) (after : List (ℕ × OpenStream)) (s : ℕ) (told : Li
         refl set)
 
     module _ (goes_on : GoesOn (trace_of old)) where
-      pub tell_fed : (b : List ℕ) → is_paused_stream (before s) ≡ false → is_over (before s) ≡ false → 0 < length b
+      pub tell_fed : (b : List ℕ) → is_paused_stream (before s) ≡ false → has_input_ended (before s) ≡ false → 0 < length b
           → length b ≤ 16384
           → told ≡ old.told.items ++ Data s b ∷ []
           → IsSet s (option_map (then_received b) (before s)) before (shown_stream after)
@@ -103,14 +103,14 @@ module _ (old : Streams) (after : List (ℕ × OpenStream)) (s : ℕ) (told : Li
           (tells_fed (whose_of old) before (shown_stream after) old.last old.told.items s
           (t.0, t.1, t.2, goes_on, t.4) b is_open_now ready more some fits set)
 
-      pub tell_over : is_paused_stream (before s) ≡ false → is_over (before s) ≡ false
+      pub tell_input_ended : is_paused_stream (before s) ≡ false → has_input_ended (before s) ≡ false
           → told ≡ old.told.items ++ EndOfInput s ∷ []
-          → IsSet s (option_map then_over (before s)) before (shown_stream after)
+          → IsSet s (option_map then_input_ended (before s)) before (shown_stream after)
           → Tells (trace_of old) (event.EndOfInput s) trace_after
-      tell_over ready more e set = let t = old.ties in
+      tell_input_ended ready more e set = let t = old.ties in
           subst (λ (k : List PortRecord). Tells (trace_of old) (event.EndOfInput s)
           (trace (whose_of old) (shown_stream after) k)) (sym e)
-          (tells_over (whose_of old) before (shown_stream after) old.last old.told.items s
+          (tells_input_ended (whose_of old) before (shown_stream after) old.last old.told.items s
           (t.0, t.1, t.2, goes_on, t.4) is_open_now ready more set)
 
       pub tell_gone : told ≡ old.told.items ++ Gone s ∷ [] → IsSet s None before (shown_stream after)

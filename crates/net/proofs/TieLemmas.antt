@@ -9,9 +9,9 @@ use Rattle.worker_port.specs.declared.events.PortRecord.{PortRecord}
 use Rattle.worker_port.specs.declared.events.PortRecord.TheVariants.{Opened, Data, EndOfInput, Gone, Ended, Accepted, Shut}
 use Rattle.worker_port.specs.Ports.{is_in, is_open, opened_count}
 use Rattle.worker_port.specs.PortFacts.{PortFacts, port_facts}
-use Rattle.worker_port.proofs.Facts.{about, elsewhere, facts_are, opened_here, fed_here, over_here, gone_here, shut_here, accepted_here}
+use Rattle.worker_port.proofs.Facts.{about, elsewhere, facts_are, opened_here, fed_here, input_ended_here, gone_here, shut_here, accepted_here}
 use Rattle.worker_port.proofs.Lists.{ended_same, ended_now, count_same, count_more}
-use Rattle.net.specs.Seen.{Seen, IsSet, fresh, then_received, then_sent, then_over, is_over, received_of, sent_of}
+use Rattle.net.specs.Seen.{Seen, IsSet, fresh, then_received, then_sent, then_input_ended, has_input_ended, received_of, sent_of}
 use Rattle.net.specs.Ties.{Ties, NoneBehind}
 
 -- what the list says of a session, against its stream
@@ -19,14 +19,14 @@ pub record At (now : Option Seen) (f : PortFacts) : Type 0 where
   pub opens : (f.opened && not (f.gone || f.shut)) ≡ is_some now
   pub fed : is_some now ≡ true → f.fed ≡ received_of now
   pub given : is_some now ≡ true → f.given ≡ sent_of now
-  pub over : is_some now ≡ true → f.over ≡ is_over now
+  pub input_ended : is_some now ≡ true → f.input_ended ≡ has_input_ended now
 
 abbrev no_facts : PortFacts
-no_facts = record { opened = false; over = false; gone = false; shut = false; fed = []; given = [] }
+no_facts = record { opened = false; input_ended = false; gone = false; shut = false; fed = []; given = [] }
 
 at_each : (streams : ℕ → Option Seen) (last : ℕ) (l : List PortRecord) (e : Bool) → Ties streams last l e
     → (s : ℕ) → At (streams s) (port_facts l s)
-at_each streams last l e t s = record { opens = t.0 s; fed = λ h. (t.1 s h).0; given = λ h. (t.1 s h).1; over = λ h. (t.1 s h).2 }
+at_each streams last l e t s = record { opens = t.0 s; fed = λ h. (t.1 s h).0; given = λ h. (t.1 s h).1; input_ended = λ h. (t.1 s h).2 }
 
 behind_facts : (last : ℕ) (l : List PortRecord) → NoneBehind last l → (s : ℕ) → last < s → port_facts l s ≡ no_facts
 behind_facts last l n s h = let b = n s h in facts_are l s no_facts b.0 b.1 b.2 b.3 b.4 b.5
@@ -35,10 +35,10 @@ ties_from : (streams : ℕ → Option Seen) (last : ℕ) (l : List PortRecord) (
     → ((s : ℕ) → last < s → port_facts l s ≡ no_facts) → is_in Ended l ≡ e → opened_count l ≡ last → Ties streams last l e
 ties_from streams last l e a n h count = (
   (λ s. (a s).opens),
-  (λ s o. ((a s).fed o, (a s).given o, (a s).over o)),
+  (λ s o. ((a s).fed o, (a s).given o, (a s).input_ended o)),
   (λ s b. let f = n s b in (
     ap (λ (x : PortFacts). x.opened) f,
-    ap (λ (x : PortFacts). x.over) f,
+    ap (λ (x : PortFacts). x.input_ended) f,
     ap (λ (x : PortFacts). x.gone) f,
     ap (λ (x : PortFacts). x.shut) f,
     ap (λ (x : PortFacts). x.fed) f,
@@ -87,7 +87,7 @@ at_opened socket f n = record {
   opens = subst (λ (g : PortFacts). (true && not (g.gone || g.shut)) ≡ true) (sym n) refl;
   fed = λ _. ap (λ (g : PortFacts). g.fed) n;
   given = λ _. ap (λ (g : PortFacts). g.given) n;
-  over = λ _. ap (λ (g : PortFacts). g.over) n;
+  input_ended = λ _. ap (λ (g : PortFacts). g.input_ended) n;
 }
 
 at_fed : (now : Option Seen) (f : PortFacts) (b : List ℕ) → At now f → At (option_map (then_received b) now) (record f { fed = f.fed ++ b })
@@ -95,27 +95,27 @@ at_fed None f b a = record {
   opens = a.opens;
   fed = λ h. absurd (both_ways false refl h);
   given = λ h. absurd (both_ways false refl h);
-  over = λ h. absurd (both_ways false refl h);
+  input_ended = λ h. absurd (both_ways false refl h);
 }
-at_fed (Some x) f b a = record { opens = a.opens; fed = λ h. ap (λ (y : List ℕ). y ++ b) (a.fed h); given = a.given; over = a.over }
+at_fed (Some x) f b a = record { opens = a.opens; fed = λ h. ap (λ (y : List ℕ). y ++ b) (a.fed h); given = a.given; input_ended = a.input_ended }
 
 at_given : (now : Option Seen) (f : PortFacts) (b : List ℕ) → At now f → At (option_map (then_sent b) now) (record f { given = f.given ++ b })
 at_given None f b a = record {
   opens = a.opens;
   fed = λ h. absurd (both_ways false refl h);
   given = λ h. absurd (both_ways false refl h);
-  over = λ h. absurd (both_ways false refl h);
+  input_ended = λ h. absurd (both_ways false refl h);
 }
-at_given (Some x) f b a = record { opens = a.opens; fed = a.fed; given = λ h. ap (λ (y : List ℕ). y ++ b) (a.given h); over = a.over }
+at_given (Some x) f b a = record { opens = a.opens; fed = a.fed; given = λ h. ap (λ (y : List ℕ). y ++ b) (a.given h); input_ended = a.input_ended }
 
-at_over : (now : Option Seen) (f : PortFacts) → At now f → At (option_map then_over now) (record f { over = true })
-at_over None f a = record {
+at_input_ended : (now : Option Seen) (f : PortFacts) → At now f → At (option_map then_input_ended now) (record f { input_ended = true })
+at_input_ended None f a = record {
   opens = a.opens;
   fed = λ h. absurd (both_ways false refl h);
   given = λ h. absurd (both_ways false refl h);
-  over = λ h. absurd (both_ways false refl h);
+  input_ended = λ h. absurd (both_ways false refl h);
 }
-at_over (Some x) f a = record { opens = a.opens; fed = a.fed; given = a.given; over = λ h. refl }
+at_input_ended (Some x) f a = record { opens = a.opens; fed = a.fed; given = a.given; input_ended = λ h. refl }
 
 and_none : (b : Bool) → (b && false) ≡ false
 and_none true = refl
@@ -130,7 +130,7 @@ at_gone f = record {
   opens = and_none f.opened;
   fed = λ h. absurd (both_ways false refl h);
   given = λ h. absurd (both_ways false refl h);
-  over = λ h. absurd (both_ways false refl h);
+  input_ended = λ h. absurd (both_ways false refl h);
 }
 
 at_shut : (f : PortFacts) → At None (record f { shut = true })
@@ -138,7 +138,7 @@ at_shut f = record {
   opens = ap (λ (b : Bool). f.opened && not b) (or_all f.gone) ∙ and_none f.opened;
   fed = λ h. absurd (both_ways false refl h);
   given = λ h. absurd (both_ways false refl h);
-  over = λ h. absurd (both_ways false refl h);
+  input_ended = λ h. absurd (both_ways false refl h);
 }
 
 -- ---- each entry
@@ -170,14 +170,14 @@ module _ (streams next : ℕ → Option Seen) (last after : ℕ) (l : List PortR
       (subst (λ (f : PortFacts). At (option_map (then_sent b) (streams s)) f) (sym (accepted_here l s b))
       (at_given (streams s) (port_facts l s) b (at_each streams last l e t s))) e t
 
-  pub ties_over : is_open s l ≡ true → after ≡ last → IsSet s (option_map then_over (streams s)) streams next
+  pub ties_input_ended : is_open s l ≡ true → after ≡ last → IsSet s (option_map then_input_ended (streams s)) streams next
       → Ties next after (l ++ EndOfInput s ∷ []) e
-  ties_over is_open_now a set =
-      ties_more streams next last l e s (option_map then_over (streams s)) (EndOfInput s) after set (λ o h. h) (omega arith)
+  ties_input_ended is_open_now a set =
+      ties_more streams next last l e s (option_map then_input_ended (streams s)) (EndOfInput s) after set (λ o h. h) (omega arith)
       (λ h. not_behind streams last l e t s is_open_now (omega arith))
       (ended_same l (EndOfInput s) refl ∙ t.3) (count_same l (EndOfInput s) refl ∙ t.4 ∙ sym a)
-      (subst (λ (f : PortFacts). At (option_map then_over (streams s)) f) (sym (over_here l s))
-      (at_over (streams s) (port_facts l s) (at_each streams last l e t s))) e t
+      (subst (λ (f : PortFacts). At (option_map then_input_ended (streams s)) f) (sym (input_ended_here l s))
+      (at_input_ended (streams s) (port_facts l s) (at_each streams last l e t s))) e t
 
   pub ties_gone : is_open s l ≡ true → after ≡ last → IsSet s None streams next → Ties next after (l ++ Gone s ∷ []) e
   ties_gone is_open_now a set =

@@ -9,8 +9,8 @@ use Rattle.worker_port.specs.declared.events.PortRecord.{PortRecord}
 use Rattle.worker_port.specs.declared.events.PortRecord.TheVariants.{Opened, Data, EndOfInput, Gone, Accepted, Shut}
 use Rattle.worker_port.specs.declared.events.PortEvent.TheVariants as event
 use Rattle.worker_port.specs.Ports.{PortTrace, then_told, with_pause, is_in, is_open}
-use Rattle.net.specs.Seen.{Seen, IsSet, fresh, then_received, then_sent, then_over, then_paused, is_paused_stream}
-use Rattle.net.specs.Seen.{is_over}
+use Rattle.net.specs.Seen.{Seen, IsSet, fresh, then_received, then_sent, then_input_ended, then_paused, is_paused_stream}
+use Rattle.net.specs.Seen.{has_input_ended}
 use Rattle.net.specs.Ties.{Ties}
 use Rattle.net.specs.Traces.{Whose, trace, Tells}
 use Rattle.proto.specs.declared.history.Answered.{Answered}
@@ -42,9 +42,9 @@ sent_pause : (n : Option Seen) (b : List ℕ) → is_paused_stream (option_map (
 sent_pause None b = refl
 sent_pause (Some x) b = refl
 
-over_pause : (n : Option Seen) → is_paused_stream (option_map then_over n) ≡ is_paused_stream n
-over_pause None = refl
-over_pause (Some x) = refl
+input_ended_pause : (n : Option Seen) → is_paused_stream (option_map then_input_ended n) ≡ is_paused_stream n
+input_ended_pause None = refl
+input_ended_pause (Some x) = refl
 
 set_pause : (n : Option Seen) (b : Bool) → is_some n ≡ true → is_paused_stream (option_map (then_paused b) n) ≡ b
 set_pause None b h = absurd (both_ways false refl h)
@@ -91,24 +91,24 @@ module _ (w : Whose) (streams next : ℕ → Option Seen) (last : ℕ) (l : List
       }
 
   -- no end of input was told of an open session of whose stream more may come
-  not_over : is_open s l ≡ true → is_over (streams s) ≡ false → is_in (EndOfInput s) l ≡ false
-  not_over is_open_now more = (t.1 s (sym (t.0 s) ∙ is_open_now)).2 ∙ more
+  input_not_ended : is_open s l ≡ true → has_input_ended (streams s) ≡ false → is_in (EndOfInput s) l ≡ false
+  input_not_ended is_open_now more = (t.1 s (sym (t.0 s) ∙ is_open_now)).2 ∙ more
 
-  pub tells_fed : (b : List ℕ) → is_open s l ≡ true → is_paused_stream (streams s) ≡ false → is_over (streams s) ≡ false
+  pub tells_fed : (b : List ℕ) → is_open s l ≡ true → is_paused_stream (streams s) ≡ false → has_input_ended (streams s) ≡ false
       → 0 < length b → length b ≤ 16384
       → IsSet s (option_map (then_received b) (streams s)) streams next → Tells (trace w streams l) (event.Data s b) (trace w next (l ++ Data s b ∷ []))
   tells_fed b is_open_now ready more some fits set = record {
     told = told_by w streams next l (Data s b ∷ []) (kept w streams next s (option_map (then_received b) (streams s)) set (received_pause (streams s) b));
-    may = ((is_open_now, ready, not_over is_open_now more, t.3), fits);
+    may = ((is_open_now, ready, input_not_ended is_open_now more, t.3), fits);
     orders = some;
   }
 
-  pub tells_over : is_open s l ≡ true → is_paused_stream (streams s) ≡ false → is_over (streams s) ≡ false
-      → IsSet s (option_map then_over (streams s)) streams next
+  pub tells_input_ended : is_open s l ≡ true → is_paused_stream (streams s) ≡ false → has_input_ended (streams s) ≡ false
+      → IsSet s (option_map then_input_ended (streams s)) streams next
       → Tells (trace w streams l) (event.EndOfInput s) (trace w next (l ++ EndOfInput s ∷ []))
-  tells_over is_open_now ready more set = record {
-    told = told_by w streams next l (EndOfInput s ∷ []) (kept w streams next s (option_map then_over (streams s)) set (over_pause (streams s)));
-    may = (is_open_now, ready, not_over is_open_now more, t.3);
+  tells_input_ended is_open_now ready more set = record {
+    told = told_by w streams next l (EndOfInput s ∷ []) (kept w streams next s (option_map then_input_ended (streams s)) set (input_ended_pause (streams s)));
+    may = (is_open_now, ready, input_not_ended is_open_now more, t.3);
     orders = tt;
   }
 

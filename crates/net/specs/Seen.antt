@@ -6,13 +6,13 @@ use Rattle.std.specs.Bool.{nat_eq}
 pub record Seen : Type 0 where
   pub socket : ℤ
   pub paused : Bool
-  pub over : Bool
+  pub input_ended : Bool
   pub received : List ℕ
   pub sent : List ℕ
 
 -- a stream over this socket that was just opened
 abbrev pub fresh : ℤ → Seen
-fresh socket = record { socket = socket; paused = false; over = false; received = []; sent = [] }
+fresh socket = record { socket = socket; paused = false; input_ended = false; received = []; sent = [] }
 
 -- these bytes were read from it, or it took them
 abbrev pub then_received : List ℕ → Seen → Seen
@@ -22,8 +22,8 @@ abbrev pub then_sent : List ℕ → Seen → Seen
 then_sent bytes x = record x { sent = x.sent ++ bytes }
 
 -- a read of no bytes came of it
-abbrev pub then_over : Seen → Seen
-then_over x = record x { over = true }
+abbrev pub then_input_ended : Seen → Seen
+then_input_ended x = record x { input_ended = true }
 
 -- it is paused from now on, or no longer
 abbrev pub then_paused : Bool → Seen → Seen
@@ -35,9 +35,9 @@ is_paused_stream None = false
 is_paused_stream (Some x) = x.paused
 
 -- whether it is open and no more comes of it
-abbrev pub is_over : Option Seen → Bool
-is_over None = false
-is_over (Some x) = x.over
+abbrev pub has_input_ended : Option Seen → Bool
+has_input_ended None = false
+has_input_ended (Some x) = x.input_ended
 
 -- what was read from it, and what it took
 abbrev pub received_of : Option Seen → List ℕ

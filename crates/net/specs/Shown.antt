@@ -3,7 +3,7 @@ use Rattle.std.specs.Prelude.{◌≡◌, ⊤, ℕ, ◌<◌, ◌≤◌, Bool, tru
 use Rattle.std.specs.Option.{option_map}
 use Rattle.std.specs.Map.{lookup}
 use Rattle.std.specs.Bool.{nat_eq}
-use Rattle.net.specs.Seen.{Seen, then_received, then_over}
+use Rattle.net.specs.Seen.{Seen, then_received, then_input_ended}
 use Rattle.net.specs.Sockets.{served_socket}
 use Rattle.net.specs.declared.open_stream.Input.{Input}
 use Rattle.net.specs.declared.open_stream.Input.TheVariants.{Waiting, Listed, Draining, Paused}
@@ -38,7 +38,7 @@ seen_of o =
     record {
       socket = served_socket o.stream;
       paused = is_paused_input o.input;
-      over = o.stream.has_ended;
+      input_ended = o.stream.has_ended;
       received = o.stream.received.items;
       sent = o.stream.sent.items;
     }
@@ -50,8 +50,8 @@ shown_stream streams session = option_map seen_of (lookup (nat_eq session) strea
 -- What a read of a stream leaves; while it is paused, and once its input has ended, nothing comes of it.
 abbrev pub Arrives : Seen → Reading → Seen → Type 0
 Arrives before (read.Bytes bytes) after =
-    (after ≡ then_received bytes before) × (before.over ≡ false) × (before.paused ≡ false)
+    (after ≡ then_received bytes before) × (before.input_ended ≡ false) × (before.paused ≡ false)
     × (0 < length bytes) × (length bytes ≤ 16384)
 Arrives before read.Nothing after = after ≡ before
-Arrives before read.Ended after = (after ≡ then_over before) × (before.over ≡ false) × (before.paused ≡ false)
+Arrives before read.Ended after = (after ≡ then_input_ended before) × (before.input_ended ≡ false) × (before.paused ≡ false)
 Arrives before read.Gone after = ⊤

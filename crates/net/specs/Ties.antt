@@ -3,7 +3,7 @@ use Rattle.std.specs.Prelude.{◌≡◌, ℕ, ℤ, ◌-◌, ◌<◌, Bool, true,
 use Rattle.worker_port.specs.declared.events.PortRecord.{PortRecord}
 use Rattle.worker_port.specs.declared.events.PortRecord.TheVariants as was
 use Rattle.worker_port.specs.Ports.{fed, given, is_in, is_open, opened_count}
-use Rattle.net.specs.Seen.{Seen, is_over, received_of, sent_of, open_socket}
+use Rattle.net.specs.Seen.{Seen, has_input_ended, received_of, sent_of, open_socket}
 
 -- a session is open in the list exactly where its stream is
 abbrev pub OpenAgrees : (ℕ → Option Seen) → List PortRecord → Type 0
@@ -15,7 +15,7 @@ abbrev pub BytesAgree : (ℕ → Option Seen) → List PortRecord → Type 0
 BytesAgree streams events =
     (s : ℕ) → is_some (streams s) ≡ true
     → (fed s events ≡ received_of (streams s)) × (given s events ≡ sent_of (streams s))
-    × (is_in (was.EndOfInput s) events ≡ is_over (streams s))
+    × (is_in (was.EndOfInput s) events ≡ has_input_ended (streams s))
 
 -- nothing was told of the numbers after the last
 abbrev pub NoneBehind : ℕ → List PortRecord → Type 0

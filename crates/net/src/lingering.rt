@@ -31,7 +31,7 @@ pub(crate) struct LingeringStream {
 #[derive(Clone, Copy)]
 enum Drained {
     /// The peer has ended it, or it has had its share.
-    Over,
+    Done,
     Empty,
     More,
 }
@@ -40,13 +40,13 @@ impl LingeringStream {
     fn drain(&mut self, scratch: &mut [u8]) -> Drained {
         for _ in 0..READS {
             match self.stream.drain(scratch) {
-                Ok(0) => return Drained::Over,
+                Ok(0) => return Drained::Done,
                 Ok(count) => self.left = self.left.saturating_sub(count),
                 Err(error) if error.kind() == ErrorKind::WouldBlock => return Drained::Empty,
-                Err(_) => return Drained::Over,
+                Err(_) => return Drained::Done,
             }
             if self.left == 0 {
-                return Drained::Over;
+                return Drained::Done;
             }
         }
         Drained::More
@@ -95,7 +95,7 @@ impl LingeringStreams {
             };
             if was_ready {
                 match lingering.drain(scratch) {
-                    Drained::Over => continue,
+                    Drained::Done => continue,
                     Drained::More => self.is_ready = true,
                     Drained::Empty => {}
                 }

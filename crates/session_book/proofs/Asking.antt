@@ -41,7 +41,7 @@ pub asks_none : (before after now : BookState) (session : ℕ) (s t x : SessionS
 asks_none before after now session s t x r result same asked none given why failed rest at =
     let h = same_session before after now session r s t x same asked at in
     let unsettled : after.unsettled ≡ before.unsettled = ap (λ (b : BookState). b.unsettled) rest in
-    let posted : after.posted ≡ before.posted = ap (λ (b : BookState). b.posted) rest in
+    let numbered : after.numbered ≡ before.numbered = ap (λ (b : BookState). b.numbered) rest in
     subst (λ (b : BookState). NextAsk b session x result after) same (record {
       messages = h.reads.messages;
       read = t;
@@ -51,7 +51,7 @@ asks_none before after now session s t x r result same asked none given why fail
       numbers = rw given refl;
       rest = rw (given, append-nil, add-zero) rest;
       room = omega (arith, ap length unsettled);
-      enough = omega (arith, posted);
+      enough = omega (arith, numbered);
       none = λ e. stops (h.reads.none (why e));
       refused = λ f e. h.reads.refused f (failed f e);
     })
@@ -60,22 +60,22 @@ asks_none before after now session s t x r result same asked none given why fail
 pub asks_given : (before after now : BookState) (session : ℕ) (s t x : SessionState) (q : Request)
     (r : Result (Option Request) NoMemory) → before ≡ now
     → Asked before after session r t s → r ≡ Ok (Some q) → length before.unsettled < WINDOW
-    → before.posted < MAX_POSTS
+    → before.numbered < MAX_POSTS
     → after ≡ record before {
       sessions = after.sessions;
-      posted = before.posted + 1;
-      unsettled = before.unsettled ++ record { number = before.posted + 1; session = session } ∷ [];
+      numbered = before.numbered + 1;
+      unsettled = before.unsettled ++ record { number = before.numbered + 1; session = session } ∷ [];
       looks = after.looks;
     }
-    → session_of now session ≡ Some x → NextAsk now session x (Ok (Some (q, before.posted + 1))) after
+    → session_of now session ≡ Some x → NextAsk now session x (Ok (Some (q, before.numbered + 1))) after
 asks_given before after now session s t x q r same asked r_is few below rest at =
     let h = same_session before after now session r s t x same asked at in
-    let given : Unsettled = record { number = before.posted + 1; session = session } in
+    let given : Unsettled = record { number = before.numbered + 1; session = session } in
     let unsettled : after.unsettled ≡ before.unsettled ++ given ∷ [] = ap (λ (b : BookState). b.unsettled) rest in
     let longer : length after.unsettled ≡ length before.unsettled + 1 =
     ap length unsettled ∙ length-append before.unsettled (given ∷ []) in
-    let posted : after.posted ≡ before.posted + 1 = ap (λ (b : BookState). b.posted) rest in
-    subst (λ (b : BookState). NextAsk b session x (Ok (Some (q, before.posted + 1))) after) same (record {
+    let numbered : after.numbered ≡ before.numbered + 1 = ap (λ (b : BookState). b.numbered) rest in
+    subst (λ (b : BookState). NextAsk b session x (Ok (Some (q, before.numbered + 1))) after) same (record {
       messages = h.reads.messages;
       read = t;
       reading = subst (λ (qs : List Request). ReadsUpTo x before.looks h.reads.messages qs t after.looks)
@@ -84,7 +84,7 @@ asks_given before after now session s t x q r same asked r_is few below rest at 
       numbers = refl;
       rest = rest;
       room = omega (arith, longer, few);
-      enough = omega (arith, posted, below);
+      enough = omega (arith, numbered, below);
       none = λ e. absurd cc;
       refused = λ f e. absurd cc;
     })

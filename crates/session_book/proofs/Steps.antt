@@ -60,7 +60,7 @@ reads_nothing s asked = record {
   out = rw (append-nil, said_stays s.queue asked, append-nil) refl;
   need = inl refl;
   held = refl;
-  over = refl;
+  input_ended = refl;
 }
 
 -- once a message was read, one byte is needed
@@ -106,7 +106,7 @@ reads_more before now after ms m h none t =
           ∙ ap (λ (q : List Message). said q []) grouped);
       need = inl (t.need ∙ sym (need_one before.need ms m));
       held = t.held ∙ h.held;
-      over = t.over ∙ h.over;
+      input_ended = t.input_ended ∙ h.input_ended;
     }
 
 -- the parser has found no further message
@@ -123,7 +123,7 @@ reads_no_more before now after ms h t = record {
   out = ap (λ (s : SessionState). s.out) t.rest ∙ h.out;
   need = inr (rw h.dialect at t.unfinished);
   held = ap (λ (s : SessionState). s.held) t.rest ∙ h.held;
-  over = ap (λ (s : SessionState). s.is_over) t.rest ∙ h.over;
+  input_ended = ap (λ (s : SessionState). s.input_ended) t.rest ∙ h.input_ended;
 }
 
 -- in front of messages of which only the last may be a request, one may stand that is none
@@ -182,7 +182,7 @@ read_found now view i seen left n m queue out ended same open_yet dialect_is unr
       out = out_is;
       need = ap (λ (x : InputState). x.need) taken;
       held = refl;
-      over = refl;
+      input_ended = refl;
     })
 
 -- the parser found none, and says what it needs
@@ -228,7 +228,7 @@ too_short before now looks looks_now h ready short =
 -- nor is one whose output waits
 too_much : (before now : SessionState) (looks looks_now : ℕ) → HasReadLocals before looks now looks_now → IsReady now
     → MAX_WAITING < length before.out → ⊥
-too_much before now looks looks_now h ready over =
+too_much before now looks looks_now h ready input_ended =
     let longer : length now.out ≡ length before.out + length (said (before.queue ++ h.messages) []) =
     ap length h.reads.out
     ∙ length-append before.out (said (before.queue ++ h.messages) []) in

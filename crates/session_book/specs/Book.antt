@@ -28,7 +28,7 @@ pub record BookState : Type 0 where
   pub worker : ℕ
   pub dialect : Dialect
   pub sessions : List (ℕ × SessionState)
-  pub posted : ℕ
+  pub numbered : ℕ
   pub unsettled : List Unsettled
   pub greatest : ℕ
   pub opened : ℕ
@@ -115,7 +115,7 @@ unsettled_of session a = record { number = a.1; session = session }
 -- why no request is given: the window is full, all numbers were given, or the session reads no further
 pub data GivesNone (before : BookState) (s : SessionState) : Type 0 where
   full : WINDOW ≤ length before.unsettled → GivesNone before s
-  spent : MAX_POSTS ≤ before.posted → GivesNone before s
+  spent : MAX_POSTS ≤ before.numbered → GivesNone before s
   stops : Stops s → GivesNone before s
 
 -- The session s is read up to the request that is given, with the worker's next number. Of the rest of the book
@@ -126,15 +126,15 @@ pub record NextAsk (before : BookState) (session : ℕ) (s : SessionState)
   pub read : SessionState
   pub reading : ReadsUpTo s before.looks messages (map (λ a. a.0) (given_in result)) read after.looks
   pub only_at : OnlyAt before after session (Some read)
-  pub numbers : map (λ a. a.1) (given_in result) ≡ map (λ a. before.posted + 1) (given_in result)
+  pub numbers : map (λ a. a.1) (given_in result) ≡ map (λ a. before.numbered + 1) (given_in result)
   pub rest : after ≡ record before {
     sessions = after.sessions;
-    posted = before.posted + length (given_in result);
+    numbered = before.numbered + length (given_in result);
     unsettled = before.unsettled ++ map (unsettled_of session) (given_in result);
     looks = after.looks;
   }
   pub room : length after.unsettled ≤ max WINDOW (length before.unsettled)
-  pub enough : after.posted ≤ max MAX_POSTS before.posted
+  pub enough : after.numbered ≤ max MAX_POSTS before.numbered
   pub none : result ≡ Ok None → GivesNone before read
   pub refused : (e : NoMemory) → result ≡ Err e → IsReady read
 

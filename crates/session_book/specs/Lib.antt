@@ -1,4 +1,5 @@
 pub mod Input
 pub mod Session
 pub mod Book
+pub mod BookInside
 pub mod Accounts

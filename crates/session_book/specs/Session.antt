@@ -31,11 +31,11 @@ pub record SessionState : Type 0 where
   pub ended : Option EndCause
   pub need : ℕ
   pub held : List ℕ
-  pub is_over : Bool
+  pub input_ended : Bool
 
 -- a session that was just opened
 abbrev pub new_session : Dialect → SessionState
-new_session d = record { dialect = d; unread = []; queue = []; out = []; ended = None; need = 1; held = []; is_over = false }
+new_session d = record { dialect = d; unread = []; queue = []; out = []; ended = None; need = 1; held = []; input_ended = false }
 
 -- the messages from the first request on for which no reply is left, where the requests use up the replies
 -- one after the other: those that `said` stops before
@@ -83,7 +83,7 @@ pub record ReadsMessages (before : SessionState) (ms : List Message) (after : Se
   pub out : after.out ≡ before.out ++ said (before.queue ++ ms) []
   pub need : (after.need ≡ need_after before.need ms) ⊎ IsUnfinished before.dialect after.unread after.need
   pub held : after.held ≡ before.held
-  pub over : after.is_over ≡ before.is_over
+  pub input_ended : after.input_ended ≡ before.input_ended
 
 -- The queue's first request gets its reply; then the messages before the next request leave the queue, and
 -- the answers go after the output.
@@ -95,14 +95,14 @@ abbrev pub gave : SessionState → ℕ → SessionState
 gave s n = record s { out = drop n s.out }
 
 -- no more input of the session comes
-abbrev pub once_over : SessionState → SessionState
-once_over s = record s { is_over = true }
+abbrev pub once_input_ended : SessionState → SessionState
+once_input_ended s = record s { input_ended = true }
 
--- what ends the session: a message; or its input is over, none of it is held, and no message is left in it
+-- what ends the session: a message; or its input has ended, none of it is held, and no message is left in it
 abbrev pub ending_of : SessionState → Option EndCause
 ending_of s =
     if is_some s.ended then s.ended
-    else if s.is_over && length s.held == 0 && nat_lt (length s.unread) s.need then Some causes.EndOfInput else None
+    else if s.input_ended && length s.held == 0 && nat_lt (length s.unread) s.need then Some causes.EndOfInput else None
 
 -- how the session has ended, once no request is unsettled and all output was given
 abbrev pub finished_by : SessionState → Option EndCause
@@ -177,7 +177,7 @@ pub record ReadsMessage (before : SessionState) (m : Message) (after : SessionSt
   pub out : after.out ≡ before.out ++ said (before.queue ++ m ∷ []) []
   pub need : after.need ≡ 1
   pub held : after.held ≡ before.held
-  pub over : after.is_over ≡ before.is_over
+  pub input_ended : after.input_ended ≡ before.input_ended
 
 -- the parser finds no message, and the session keeps what it needs
 pub record TakesNothing (before after : SessionState) : Type 0 where

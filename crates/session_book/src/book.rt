@@ -2,7 +2,7 @@
 
 ghost use Rattle.std.specs.Prelude.{ℕ, ◌≡◌, ◌⊎◌, ◌+◌, ◌≤◌, ◌<◌, ◌↔◌, [], length, is_some, option_map, slice_get};
 ghost use Rattle.std.specs.Prelude.{IfSome, IsSome, OnOk, OnErr};
-ghost use Rattle.session_book.specs.Session.{SessionState, IsEmptied, new_session, gave, finished_by, once_over};
+ghost use Rattle.session_book.specs.Session.{SessionState, IsEmptied, new_session, gave, finished_by, once_input_ended};
 ghost use Rattle.session_book.specs.Session.{HasReadAll};
 ghost use Rattle.session_book.specs.declared.book.TheConstants.{MAX_OUTPUT};
 ghost use Rattle.std.specs.Bool.{OnTrue, OnFalse, nat_eq};
@@ -12,8 +12,9 @@ ghost use Rattle.indexmap.specs.IndexMap.{index_map_len};
 ghost use Rattle.std.specs.Map.{lookup};
 
 use crate::causes::{EndCause, OpenFault, Received, Settled, Unsettled};
+use crate::ready_queues::Task;
 use crate::session::{MAX_WAITING, Offer, Session};
-use crate::upkeep::{Task, Upkeep};
+use crate::upkeep::Upkeep;
 use bytes::Bytes;
 use indexmap::IndexMap;
 use proto::{Answered, Dialect, Gauge, Gauges, MAX_POSTS, MAX_SESSIONS, NoMemory, Request, WINDOW};
@@ -47,7 +48,7 @@ pub struct Book {
     worker: usize,
     dialect: Dialect,
     sessions: IndexMap<u64, Session>,
-    posted: u64,
+    numbered: u64,
     unsettled: VecDeque<Unsettled>,
     greatest: u64,
     opened: u64,
@@ -56,31 +57,14 @@ pub struct Book {
 }
 
 impl Model for Book {
-    ghost use Rattle.session_book.specs.Book.{BookState, IsBook};
+    ghost use Rattle.session_book.specs.Book.{BookState};
+    ghost use Rattle.session_book.specs.BookInside.{state_of, IsBookKept};
 
     ghost Value = { BookState };
 
-    ghost view = { λ a. record {
-      worker = a.worker;
-      dialect = a.dialect;
-      sessions = a.sessions.entries;
-      posted = a.posted;
-      unsettled = a.unsettled.items;
-      greatest = a.greatest;
-      opened = a.opened;
-      looks = a.looks;
-    } };
+    ghost view = { state_of };
 
-    ghost invariant = { λ a. IsBook (record {
-      worker = a.worker;
-      dialect = a.dialect;
-      sessions = a.sessions.entries;
-      posted = a.posted;
-      unsettled = a.unsettled.items;
-      greatest = a.greatest;
-      opened = a.opened;
-      looks = a.looks;
-    }) };
+    ghost invariant = { IsBookKept };
 }
 
 impl Book {
@@ -94,7 +78,7 @@ impl Book {
           worker = worker;
           dialect = dialect;
           sessions = [];
-          posted = 0;
+          numbered = 0;
           unsettled = [];
           greatest = 0;
           opened = 0;
@@ -106,20 +90,13 @@ impl Book {
             worker,
             dialect,
             sessions: IndexMap::new(alloc),
-            posted: 0,
+            numbered: 0,
             unsettled: VecDeque::new(alloc),
             greatest: 0,
             opened: 0,
             looks: 0,
             upkeep: Upkeep::new(alloc),
         }
-    }
-
-    /// For tests alone: a worker asks its end.
-    pub fn worker(&self) -> usize
-        ensures { result ≡ self.now.worker }
-    {
-        self.worker
     }
 
     /// Opens a session. Numbers are above 0 and rise.
@@ -133,7 +110,7 @@ impl Book {
         if session <= self.greatest || self.opened >= MAX_SESSIONS {
             return Err(OpenFault::Known);
         }
-        if self.upkeep.reserve(self.sessions.len() + 1).is_err() {
+        if self.upkeep.ready.reserve(self.sessions.len() + 1).is_err() {
             return Err(OpenFault::NoMemory);
         }
         let new = Session::new(self.alloc, self.dialect);
@@ -150,7 +127,7 @@ impl Book {
     pub fn receive(&mut self, session: u64, piece: Bytes) -> Received
         ensures { Receives self.old session piece result self.new }
     {
-        let Some(place) = find(&self.sessions, session, &mut self.upkeep.place) else {
+        let Some(place) = find(&self.sessions, session, &mut self.upkeep.ready.place) else {
             return Received::Unknown;
         };
         let (_, open) = self.sessions.pair_mut(place);
@@ -161,7 +138,7 @@ impl Book {
     pub fn feed_held(&mut self, session: u64) -> Result<bool, NoMemory>
         ensures { FeedsHeldOf self.old session result self.new }
     {
-        let Some(place) = find(&self.sessions, session, &mut self.upkeep.place) else {
+        let Some(place) = find(&self.sessions, session, &mut self.upkeep.ready.place) else {
             return Ok(false);
         };
         let (_, open) = self.sessions.pair_mut(place);
@@ -184,21 +161,21 @@ impl Book {
         ensures open { (s : SessionState) → session_of self.old session ≡ Some s
             → NextAsk self.old session s result self.new }
     {
-        if self.is_full() || self.posted >= MAX_POSTS {
+        if self.is_full() || self.numbered >= MAX_POSTS {
             return Ok(None);
         }
-        let Some(place) = find(&self.sessions, session, &mut self.upkeep.place) else {
+        let Some(place) = find(&self.sessions, session, &mut self.upkeep.ready.place) else {
             return Ok(None);
         };
         let (_, open) = self.sessions.pair_mut(place);
         let read = open.next_ask(&mut self.unsettled, &mut self.looks, &mut self.upkeep);
-        open.join_queues(session, &mut self.upkeep);
+        open.join_queues(session, &mut self.upkeep.ready);
         let Some(mut request) = read? else {
             return Ok(None);
         };
         self.upkeep.asked(&mut request);
-        self.posted += 1;
-        let number = self.posted;
+        self.numbered += 1;
+        let number = self.numbered;
         self.unsettled.push_back(Unsettled { number, session })?;
         Ok(Some((request, number)))
     }
@@ -218,7 +195,7 @@ impl Book {
             return Settled::Stranger;
         }
         self.unsettled.pop_front();
-        let Some(place) = find(&self.sessions, session, &mut self.upkeep.place) else {
+        let Some(place) = find(&self.sessions, session, &mut self.upkeep.ready.place) else {
             self.upkeep.settled(answered, 0);
             return Settled::Dropped;
         };
@@ -240,26 +217,16 @@ impl Book {
         self.sessions.contains_key(&session)
     }
 
-    /// The output of a session that wasn't given yet. It serves tests and measurements alone: a worker asks for an offer.
-    pub fn out(&self, session: u64) -> &[u8]
-        ensures { result.now ≡ out_of (session_of self.now session) }
-    {
-        match self.sessions.get(&session) {
-            Some(state) => state.out(),
-            None => &[],
-        }
-    }
-
     /// The output of a session that is to be given now, and whether the session has finished.
     pub fn offer(&self, session: u64) -> Offer<'_>
         ensures out { (result.out.now ≡ []) ⊎ (result.out.now ≡ out_of (session_of self.now session)) }
         ensures finished { result.finished ≡ option_and_then finished_by (session_of self.now session) }
         ensures read { HasReadAll (session_of self.now session) result.finished }
     {
-        let mut place = self.upkeep.place;
+        let mut place = self.upkeep.ready.place;
         if let Some(place) = find(&self.sessions, session, &mut place) {
             if let Some((_, open)) = self.sessions.get_index(place) {
-                return open.offer(&self.upkeep);
+                return open.offer(&self.upkeep.ready);
             }
         }
         Offer {
@@ -270,7 +237,8 @@ impl Book {
 
     /// No more input of the session comes. It answers whether the session has finished with that.
     pub fn end_input(&mut self, session: u64) -> Option<EndCause>
-        ensures over { ChangesSession self.old self.new session (option_map once_over (session_of self.old session)) }
+        ensures input_ended { ChangesSession self.old self.new session
+            (option_map once_input_ended (session_of self.old session)) }
         ensures finished { result ≡ option_and_then finished_by (session_of self.new session) }
         ensures read { HasReadAll (session_of self.new session) result }
     {
@@ -289,7 +257,7 @@ impl Book {
         ensures finished { result ≡ option_and_then finished_by (session_of self.new session) }
         ensures read { HasReadAll (session_of self.new session) result }
     {
-        let place = find(&self.sessions, session, &mut self.upkeep.place)?;
+        let place = find(&self.sessions, session, &mut self.upkeep.ready.place)?;
         let (_, open) = self.sessions.pair_mut(place);
         open.gave(session, n, &mut self.upkeep)
     }
@@ -299,7 +267,7 @@ impl Book {
         ensures { ChangesSession self.old self.new session None }
     {
         if let Some(open) = self.sessions.swap_remove(&session) {
-            open.forget(&mut self.upkeep);
+            open.forget(&mut self.upkeep.load);
         }
     }
 
@@ -321,9 +289,9 @@ impl Book {
     pub fn ask_later(&mut self, session: u64)
         ensures { self.new ≡ self.old }
     {
-        if let Some(place) = find(&self.sessions, session, &mut self.upkeep.place) {
+        if let Some(place) = find(&self.sessions, session, &mut self.upkeep.ready.place) {
             let (_, open) = self.sessions.pair_mut(place);
-            open.ask_later(session, &mut self.upkeep);
+            open.ask_later(session, &mut self.upkeep.ready);
         }
     }
 
@@ -332,10 +300,10 @@ impl Book {
     pub fn put_off(&mut self, session: u64) -> bool
         ensures { self.new ≡ self.old }
     {
-        if self.upkeep.keys <= MANY_UNSETTLED {
+        if self.upkeep.load.keys() <= MANY_UNSETTLED {
             return false;
         }
-        let Some(place) = find(&self.sessions, session, &mut self.upkeep.place) else {
+        let Some(place) = find(&self.sessions, session, &mut self.upkeep.ready.place) else {
             return false;
         };
         let (_, open) = self.sessions.pair_mut(place);
@@ -348,7 +316,7 @@ impl Book {
         ensures above { IsSome result → MAX_OUTPUT < all_output self.now.sessions }
         ensures fullest { IfSome result (IsFullest self.now) }
     {
-        if self.upkeep.waiting <= MAX_OUTPUT {
+        if self.upkeep.load.output() <= MAX_OUTPUT {
             return None;
         }
         self.find_fullest()
@@ -382,7 +350,7 @@ impl Book {
 
     /// Whether the session that was asked last can be read further.
     pub fn reads_on(&self) -> bool {
-        self.upkeep.reads_on
+        self.upkeep.ready.reads_on()
     }
 
     /// Takes out the next session that is to be asked. One that was put off comes if no other is to be asked, or once as many
@@ -391,74 +359,69 @@ impl Book {
     pub fn next_to_ask(&mut self) -> Option<u64>
         ensures { self.new ≡ self.old }
     {
-        if self.ready(Task::AskLarge) == 0 {
-            self.upkeep.passed = 0;
-            return self.next_ready(Task::Ask);
-        }
-        if self.ready(Task::Ask) > 0 && self.upkeep.passed < WINDOW {
-            self.upkeep.passed = self.upkeep.passed.saturating_add(1);
-            return self.next_ready(Task::Ask);
-        }
-        if self.upkeep.keys > MANY_UNSETTLED {
-            return None;
-        }
-        self.upkeep.passed = 0;
-        self.next_ready(Task::AskLarge)
+        let has_room = self.upkeep.load.keys() <= MANY_UNSETTLED;
+        self.upkeep.ready.take_to_ask(has_room)
     }
 
     /// Takes out the next session that is to be taken up for the task.
     pub fn next_ready(&mut self, task: Task) -> Option<u64>
         ensures { self.new ≡ self.old }
     {
-        let queue = &mut self.upkeep.queues[task as usize];
-        let (session, place) = queue.sessions.pop_front()?;
-        queue.left = queue.left.saturating_add(1);
-        self.upkeep.place = place;
-        Some(session)
+        self.upkeep.ready.take(task)
     }
 
     /// How many sessions are to be taken up for the task.
     pub fn ready(&self, task: Task) -> usize {
-        self.upkeep.queues[task as usize].sessions.len()
+        self.upkeep.ready.count(task)
     }
 
     /// No session has anything to do.
     pub fn is_idle(&self) -> bool {
-        self.upkeep
-            .queues
-            .iter()
-            .all(|queue| queue.sessions.is_empty())
+        self.upkeep.ready.are_empty()
     }
 
     /// Whether more than 255 keys stand in unsettled requests, over all sessions. Its owner then asks for one request at a time: so
     /// the hits of the unsettled ones take 41,943,040 bytes at most, or in the strict dialect 167,772,160.
     pub fn is_crowded(&self) -> bool {
-        self.upkeep.keys > MAX_KEYS
+        self.upkeep.load.keys() > MAX_KEYS
     }
 
     /// Whether little output waits, over all sessions: then a turn of its owner is short.
     pub fn has_little_output(&self) -> bool {
-        self.upkeep.waiting <= MAX_WAITING
+        self.upkeep.load.output() <= MAX_WAITING
     }
 
     /// Leaves what it counted, and how much is unfinished.
     pub fn tell(&self, gauges: &Gauges) {
-        let counts = &self.upkeep.counts;
         gauges.set(Gauge::CurrConnections, self.sessions.len() as u64);
         gauges.set(Gauge::TotalConnections, self.opened);
-        gauges.set(Gauge::BytesRead, counts.read);
-        gauges.set(Gauge::BytesWritten, counts.written);
-        gauges.set(Gauge::InputBytes, counts.unread);
-        gauges.set(Gauge::OutputBytes, self.upkeep.waiting as u64);
         gauges.set(Gauge::RequestsInFlight, self.unsettled.len() as u64);
-        gauges.set(Gauge::StoreTooLarge, counts.too_large);
-        gauges.set(Gauge::UnknownCommands, counts.unknown);
-        gauges.set(Gauge::BadLines, counts.bad_lines);
-        gauges.set(Gauge::ClosedMalformed, counts.malformed);
-        gauges.set(Gauge::ClosedBinary, counts.binary);
+        self.upkeep.load.tell(gauges);
+    }
+}
+
+/// Calls for tests and measurements alone.
+impl Book {
+    ghost use Rattle.session_book.specs.Book.{session_of, out_of};
+
+    /// The worker's number, which a worker asks its end for.
+    pub fn worker(&self) -> usize
+        ensures { result ≡ self.now.worker }
+    {
+        self.worker
     }
 
-    /// How often the parser was called, for tests alone. The count stays at the greatest number.
+    /// The output of a session that wasn't given yet: a worker asks for an offer.
+    pub fn out(&self, session: u64) -> &[u8]
+        ensures { result.now ≡ out_of (session_of self.now session) }
+    {
+        match self.sessions.get(&session) {
+            Some(state) => state.out(),
+            None => &[],
+        }
+    }
+
+    /// How often the parser was called. The count stays at the greatest number.
     pub fn looks(&self) -> u64
         ensures { result ≡ self.now.looks }
     {

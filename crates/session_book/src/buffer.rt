@@ -114,7 +114,7 @@ impl Buffer {
         Ok(ByteString::behind(bytes, start + from))
     }
 
-    /// Puts an answer after the others, and counts its bytes as output that waits.
+    /// Puts an answer after the others, and counts its bytes as output that is to be given.
     pub fn show(
         &mut self,
         pending: &PendingAnswer,
@@ -130,7 +130,7 @@ impl Buffer {
         let before = self.bytes.len();
         pending.show(reply, &mut self.bytes)?;
         let shown = self.bytes.len().saturating_sub(before);
-        upkeep.waiting = upkeep.waiting.saturating_add(shown);
+        upkeep.load.showed_output(shown);
         Ok(())
     }
 

@@ -7,9 +7,11 @@ mod buffer;
 mod causes;
 mod input;
 pub mod laws;
+mod load;
+mod ready_queues;
 mod session;
 mod upkeep;
 
 pub use book::Book;
 pub use causes::{EndCause, OpenFault, Received, Settled};
-pub use upkeep::Task;
+pub use ready_queues::Task;

@@ -12,7 +12,9 @@ ghost use Rattle.proto.specs.Reading.{asks};
 use crate::buffer::{Buffer, Use};
 use crate::causes::{EndCause, Received, Unsettled};
 use crate::input::{Found, Input};
-use crate::upkeep::{Task, Tickets, Upkeep};
+use crate::load::Load;
+use crate::ready_queues::{ReadyQueues, Task, Tickets};
+use crate::upkeep::Upkeep;
 use bytes::Bytes;
 use proto::{Dialect, Message, NoMemory, PendingAnswer, Reply, Request};
 use std::alloc::Global;
@@ -54,7 +56,7 @@ pub struct Session {
     ended: Option<EndCause>,
     held: Option<Bytes>,
     /// No more input comes.
-    is_over: bool,
+    input_ended: bool,
     tickets: Tickets,
 }
 
@@ -72,7 +74,7 @@ impl Model for Session {
       ended = a.ended;
       need = a.input.need;
       held = unwrap_or a.held [];
-      is_over = a.is_over;
+      input_ended = a.input_ended;
     } };
 
     ghost invariant = { λ a. begins_asked a.queue.items ≡ true };
@@ -81,7 +83,7 @@ impl Model for Session {
 impl Session {
     ghost use Rattle.session_book.specs.Session.{new_session, IsInputFull, once_fed, TakesPiece, FeedsHeld};
     ghost use Rattle.session_book.specs.Session.{ReadsNext, ReadsAsk};
-    ghost use Rattle.session_book.specs.Session.{with_reply, gave, finished_by, once_over, HasReadAll, IsReady};
+    ghost use Rattle.session_book.specs.Session.{with_reply, gave, finished_by, once_input_ended, HasReadAll, IsReady};
     ghost use Rattle.session_book.specs.Session.{IsEmptied, Stops};
 
     pub fn new(alloc: Global, dialect: Dialect) -> Self
@@ -94,7 +96,7 @@ impl Session {
             output: Buffer::new(alloc),
             ended: None,
             held: None,
-            is_over: false,
+            input_ended: false,
             tickets: Tickets::none(),
         }
     }
@@ -103,7 +105,7 @@ impl Session {
     pub fn receive(&mut self, session: u64, piece: Bytes, upkeep: &mut Upkeep) -> Received
         ensures { TakesPiece self.old piece result self.new }
     {
-        upkeep.counts.read = upkeep.counts.read.wrapping_add(piece.len() as u64);
+        upkeep.load.received(piece.len());
         if self.held.is_some() {
             return Received::Refused;
         }
@@ -143,9 +145,9 @@ impl Session {
                 return Ok(false);
             }
             self.input.append(piece, &mut upkeep.spares)?;
-            upkeep.counts.unread = upkeep.counts.unread.wrapping_add(piece.len() as u64);
+            upkeep.load.fed(piece.len());
         }
-        upkeep.add(Task::Ask, session, &mut self.tickets.ask);
+        upkeep.ready.add(Task::Ask, session, &mut self.tickets.ask);
         Ok(true)
     }
 
@@ -162,7 +164,7 @@ impl Session {
             Found::Copied(message, length) => {
                 put_behind(&mut self.queue, &mut self.output, &message, upkeep)?;
                 self.input.take(length, &mut upkeep.spares);
-                upkeep.counts.count(&message, length);
+                upkeep.load.read(&message, length);
                 self.ended = cause_of(&message);
                 Ok(Some(message))
             }
@@ -170,7 +172,7 @@ impl Session {
                 let message = Message::Ask(request, noreply);
                 self.queue.push_back_reserved(PendingAnswer::of(&message));
                 let length = unread.saturating_sub(self.input.kept().len());
-                upkeep.counts.count(&message, length);
+                upkeep.load.read(&message, length);
                 Ok(Some(message))
             }
         }
@@ -205,16 +207,16 @@ impl Session {
     }
 
     /// After a read, queues the session for what it may need: feeding its held piece, sending output, or ending.
-    pub fn join_queues(&mut self, session: u64, upkeep: &mut Upkeep)
+    pub fn join_queues(&mut self, session: u64, ready: &mut ReadyQueues)
         ensures { self.new ≡ self.old }
     {
         if self.held.is_some() && self.has_room() {
-            upkeep.add(Task::Feed, session, &mut self.tickets.feed);
+            ready.add(Task::Feed, session, &mut self.tickets.feed);
         }
-        if self.output.len() > 0 || self.ended.is_some() || self.is_over {
-            upkeep.add(Task::Give, session, &mut self.tickets.give);
+        if self.output.len() > 0 || self.ended.is_some() || self.input_ended {
+            ready.add(Task::Give, session, &mut self.tickets.give);
         }
-        upkeep.reads_on = self.is_ready();
+        ready.set_reads_on(self.is_ready());
     }
 
     /// Whether the parser is to be called.
@@ -245,12 +247,14 @@ impl Session {
         let before = self.output.len();
         match answer_first(&mut self.queue, reply, &mut self.output, upkeep) {
             Ok(()) => {
-                upkeep.add(Task::Give, session, &mut self.tickets.give);
+                upkeep
+                    .ready
+                    .add(Task::Give, session, &mut self.tickets.give);
                 Ok(self.output.len().saturating_sub(before))
             }
             Err(NoMemory) => {
                 self.queue.clear();
-                self.forget(upkeep);
+                self.forget(&mut upkeep.load);
                 Err(NoMemory)
             }
         }
@@ -258,7 +262,7 @@ impl Session {
 
     /// The output that is to be given now, and whether the session has finished. Little output waits for the answers that are
     /// outstanding, and for the input that is left to be read.
-    pub fn offer(&self, upkeep: &Upkeep) -> Offer<'_>
+    pub fn offer(&self, ready: &ReadyQueues) -> Offer<'_>
         ensures out { (result.out.now ≡ []) ⊎ (result.out.now ≡ self.now.out) }
         ensures finished { result.finished ≡ finished_by self.now }
         ensures read { HasReadAll (Some self.now) result.finished }
@@ -270,7 +274,7 @@ impl Session {
                 finished: self.finished(),
             };
         }
-        let waits = !self.queue.is_empty() || upkeep.has(self.tickets.ask);
+        let waits = !self.queue.is_empty() || ready.has(self.tickets.ask);
         Offer {
             out: if waits && out.len() < WORTH_GIVING {
                 &[]
@@ -290,16 +294,19 @@ impl Session {
         ensures read { HasReadAll (Some self.new) result }
     {
         let left = self.output.discard(n, Use::Output, &mut upkeep.spares);
-        upkeep.waiting = upkeep.waiting.saturating_sub(n);
-        upkeep.counts.written = upkeep.counts.written.wrapping_add(n as u64);
+        upkeep.load.gave_output(n);
         if left.saturating_add(n) > MAX_WAITING {
-            upkeep.add(Task::Ask, session, &mut self.tickets.ask);
+            upkeep.ready.add(Task::Ask, session, &mut self.tickets.ask);
         }
         if n == 0 {
             self.output.trim(WORTH_GIVING);
-            upkeep.add(Task::RetryWrite, session, &mut self.tickets.give);
+            upkeep
+                .ready
+                .add(Task::RetryWrite, session, &mut self.tickets.give);
         } else if left > 0 {
-            upkeep.add(Task::Give, session, &mut self.tickets.give);
+            upkeep
+                .ready
+                .add(Task::Give, session, &mut self.tickets.give);
         }
         self.finished()
     }
@@ -315,38 +322,39 @@ impl Session {
         if self.ended.is_some() {
             return self.ended;
         }
-        if self.is_over && self.held().is_empty() && !self.input.has_enough() {
+        if self.input_ended && self.held().is_empty() && !self.input.has_enough() {
             return Some(EndCause::EndOfInput);
         }
         None
     }
 
     /// What is left of its input and its output counts no more: the session is closed.
-    pub fn forget(&self, upkeep: &mut Upkeep) {
-        upkeep.waiting = upkeep.waiting.saturating_sub(self.output.len());
-        upkeep.counts.unread = upkeep.counts.unread.wrapping_sub(self.input.len() as u64);
+    pub fn forget(&self, load: &mut Load) {
+        load.forget(self.input.len(), self.output.len());
     }
 
     /// No more input comes.
     pub fn end_input(&mut self)
-        ensures { self.new ≡ once_over self.old }
+        ensures { self.new ≡ once_input_ended self.old }
     {
-        self.is_over = true;
+        self.input_ended = true;
     }
 
-    pub fn ask_later(&mut self, session: u64, upkeep: &mut Upkeep)
+    pub fn ask_later(&mut self, session: u64, ready: &mut ReadyQueues)
         ensures { self.new ≡ self.old }
     {
-        upkeep.add(Task::Ask, session, &mut self.tickets.ask);
+        ready.add(Task::Ask, session, &mut self.tickets.ask);
     }
 
     /// Whether a `get` for so many keys is read next that its answer may be large: then the session is asked later.
     pub fn put_off(&mut self, session: u64, upkeep: &mut Upkeep) -> bool
         ensures { self.new ≡ self.old }
     {
-        let may_be_large = names_more_keys(self.input.kept(), upkeep.keys_before_large());
+        let may_be_large = names_more_keys(self.input.kept(), upkeep.load.keys_before_large());
         if may_be_large {
-            upkeep.add(Task::AskLarge, session, &mut self.tickets.ask);
+            upkeep
+                .ready
+                .add(Task::AskLarge, session, &mut self.tickets.ask);
         }
         may_be_large
     }

@@ -20,7 +20,7 @@ use Rattle.worker.specs.declared.worker.WorkerState.{WorkerState}
 use Rattle.worker.specs.Sessions.{RunView, facts, asked_by, AreFactsConsistent}
 use Rattle.worker_port.specs.PortFacts.{port_facts}
 use Rattle.worker.specs.EndCauses.{piece_of}
-use Rattle.worker.specs.Workers.{once_flushed, end_of, posted_by, unsettled_post, IsNumbered, IsSteady, IsTraceKnown}
+use Rattle.worker.specs.Workers.{once_flushed, end_of, numbered_by, unsettled_post, IsNumbered, IsSteady, IsTraceKnown}
 use Rattle.worker.specs.Workers.{run_view, IsWorkerServing}
 use Rattle.exchange.proofs.Fields.{told_longer}
 use Rattle.worker.proofs.Facts.{asked_here, asked_elsewhere}
@@ -46,11 +46,11 @@ goes_on_trans told a b c h k = record {
 
 -- ---- the session reads on
 
--- the requests of the messages read are those that were posted or are held
+-- the requests of the messages read are those that got numbers
 pub told_read : (v v' : RunView) (unopened : ℕ) (ended : Bool) (t : ℕ) (s read : SessionState) (ms : List Message)
     → IsTraceKnown v unopened ended
-    → session_of v.book t ≡ Some s → ReadsMessages s ms read → asked_by v'.posted t ≡ asked_by v.posted t ++ asks ms
-    → ((k : ℕ) → t ≢ k → asked_by v'.posted k ≡ asked_by v.posted k)
+    → session_of v.book t ≡ Some s → ReadsMessages s ms read → asked_by v'.numbered t ≡ asked_by v.numbered t ++ asks ms
+    → ((k : ℕ) → t ≢ k → asked_by v'.numbered k ≡ asked_by v.numbered k)
     → v'.dialect ≡ v.dialect → v'.events ≡ v.events → v'.back ≡ v.back → v'.sessions ≡ v.sessions
     → ((k : ℕ) → session_of v'.book k ≡ cond (k == t) (Some read) (session_of v.book k)) → v'.piece ≡ v.piece
     → IsTraceKnown v' unopened ended
@@ -60,13 +60,13 @@ told_read v v' unopened ended t s read ms h open_is reads here_asked other_asked
     let reads' : ReadsMessages run.running.s ms read =
     subst (λ (x : SessionState). ReadsMessages x ms read) (some_is s run.running.s (sym s_is)) reads in
     let served = served_read (facts v t) run.running.s read (v.piece t) ms reads' run.running.served in
-    let f' = record (facts v t) { asked = asked_by v.posted t ++ asks ms; state = Some read } in
+    let f' = record (facts v t) { asked = asked_by v.numbered t ++ asks ms; state = Some read } in
     let here : facts v' t ≡ f' = facts_equal (facts v' t) f' d (ap (λ l. port_facts l t) e) here_asked
     (λ i. (facts (record v { back = b i }) t).had)
     (λ i. (facts (record v { sessions = r i }) t).cause) (book t ∙ at_same t (Some read) (session_of v.book t))
     (λ i. piece i t) in
     let now : AreFactsConsistent f' =
-    runs_on (facts v t) (record (facts v t) { asked = asked_by v.posted t ++ asks ms }) read (v.piece t) run refl refl refl refl served in
+    runs_on (facts v t) (record (facts v t) { asked = asked_by v.numbered t ++ asks ms }) read (v.piece t) run refl refl refl refl served in
     let others : (k : ℕ) → t ≢ k → facts v' k ≡ facts v k =
     λ k ne. facts_equal (facts v' k) (facts v k) d (ap (λ l. port_facts l k) e) (other_asked k ne)
     (λ i. (facts (record v { back = b i }) k).had)
@@ -87,15 +87,15 @@ none_goes_on told old new t s result port end request sessions unopened stranger
     (a.reading.reads.held ∙ sym (ap held_of open_is)) in
     let no_asks : asks a.messages ≡ [] =
     a.reading.requests_are ∙ ap (λ (x : List (Request × ℕ)). map (λ (y : Request × ℕ). y.0) x) none in
-    let no_more : (k : ℕ) → asked_by (posted_by (end_of new) new.request) k
-    ≡ asked_by (posted_by (end_of old) old.request) k = λ k i. asked_by
-    (posted_by (end i) (request i)) k in
+    let no_more : (k : ℕ) → asked_by (numbered_by (end_of new) new.request) k
+    ≡ asked_by (numbered_by (end_of old) old.request) k = λ k i. asked_by
+    (numbered_by (end i) (request i)) k in
     steps_on told old new (λ trace. trace) (λ s q. q) (same_trace (told old.port) (told new.port) (ap told port)) (record {
       same_end = same_end old new end;
       later = later_is (end_of old) (end_of new) end;
       steady = subst (λ (y : WorkerView × Option Posted). IsSteady y.0 y.1 new.book) (λ i. (sym end i, sym request i))
           (steady_same (end_of old) old.request old.book new.book
-          (ap (λ (x : BookState). x.posted) a.rest ∙ ap (λ (x : List (Request × ℕ)). old.book.posted + length x) none
+          (ap (λ (x : BookState). x.numbered) a.rest ∙ ap (λ (x : List (Request × ℕ)). old.book.numbered + length x) none
           ∙ omega arith)
           (ap (λ (x : BookState). x.unsettled) a.rest
           ∙ ap (λ (x : List (Request × ℕ)). old.book.unsettled ++ map (unsettled_at t) x) none
@@ -108,8 +108,8 @@ none_goes_on told old new t s result port end request sessions unopened stranger
     (λ trace e was_so. (
       told_read (run_view trace old) (run_view trace new) old.unopened old.ended t s a.read a.messages was_so.0 open_is
           a.reading.reads
-          (no_more t ∙ sym (append-nil (asked_by (posted_by (end_of old) old.request) t))
-          ∙ ap (λ (x : List Request). asked_by (posted_by (end_of old) old.request) t ++ x) (sym no_asks))
+          (no_more t ∙ sym (append-nil (asked_by (numbered_by (end_of old) old.request) t))
+          ∙ ap (λ (x : List Request). asked_by (numbered_by (end_of old) old.request) t ++ x) (sym no_asks))
           (λ k ne. no_more k) refl refl
           (ap (λ (w : WorkerView). w.back) end) (λ i. (sessions i).items) a.only_at (λ i q. pieces q i),
       paused_kept trace trace (piece_of old.book) (piece_of new.book) pieces (λ q. refl) was_so.1,
@@ -143,28 +143,28 @@ one_goes_on told old new t s q n port end was_none request sessions unopened str
     let pieces = pieces_kept old.book new.book t (Some a.read) a.only_at
     (a.reading.reads.held ∙ sym (ap held_of open_is)) in
     let sent = (end_of old).sent in
-    let before : posted_by (end_of old) old.request ≡ sent =
-    (λ i. posted_by (end_of old) (was_none i)) ∙ append-nil sent in
-    let after : posted_by (end_of new) new.request ≡ sent ++ p ∷ [] = λ i. posted_by (end i) (request i) in
-    let more : asked_by (posted_by (end_of new) new.request) t
-    ≡ asked_by (posted_by (end_of old) old.request) t ++ asks a.messages =
+    let before : numbered_by (end_of old) old.request ≡ sent =
+    (λ i. numbered_by (end_of old) (was_none i)) ∙ append-nil sent in
+    let after : numbered_by (end_of new) new.request ≡ sent ++ p ∷ [] = λ i. numbered_by (end i) (request i) in
+    let more : asked_by (numbered_by (end_of new) new.request) t
+    ≡ asked_by (numbered_by (end_of old) old.request) t ++ asks a.messages =
     ap (λ l. asked_by l t) after ∙ asked_here sent p t refl ∙ ap (λ l. asked_by l t ++ q ∷ []) (sym before)
-    ∙ ap (λ (x : List Request). asked_by (posted_by (end_of old) old.request) t ++ x) (sym a.reading.requests_are) in
-    let others : (k : ℕ) → t ≢ k → asked_by (posted_by (end_of new) new.request) k
-    ≡ asked_by (posted_by (end_of old) old.request) k =
+    ∙ ap (λ (x : List Request). asked_by (numbered_by (end_of old) old.request) t ++ x) (sym a.reading.requests_are) in
+    let others : (k : ℕ) → t ≢ k → asked_by (numbered_by (end_of new) new.request) k
+    ≡ asked_by (numbered_by (end_of old) old.request) k =
     λ k ne. ap (λ l. asked_by l k) after ∙ asked_elsewhere sent p k ne ∙ ap (λ l. asked_by l k) (sym before) in
     let le = back_le (end_of old) h.steady.back in
-    let posted : old.book.posted ≡ length sent = h.steady.posted ∙ ap (length {A = Posted}) before in
-    let numbered : n ≡ old.book.posted + 1 = ap (λ (l : List ℕ). get_or l 0 0) a.numbers in
+    let numbered : old.book.numbered ≡ length sent = h.steady.numbered ∙ ap (length {A = Posted}) before in
+    let number : n ≡ old.book.numbered + 1 = ap (λ (l : List ℕ). get_or l 0 0) a.numbers in
     steps_on told old new (λ trace. trace) (λ s q. q) (same_trace (told old.port) (told new.port) (ap told port)) (record {
       same_end = same_end old new end;
       later = later_is (end_of old) (end_of new) end;
       steady = subst (λ (y : WorkerView × Option Posted). IsSteady y.0 y.1 new.book) (λ i. (sym end i, sym request i))
           (record {
             running = h.steady.running;
-            posted = ap (λ (x : BookState). x.posted) a.rest
-                ∙ (let len = length-append sent (p ∷ []) in omega (arith, posted));
-            numbered = omega (arith, numbered, posted);
+            numbered = ap (λ (x : BookState). x.numbered) a.rest
+                ∙ (let len = length-append sent (p ∷ []) in omega (arith, numbered));
+            held = omega (arith, number, numbered);
             unsettled = ap (λ (x : BookState). x.unsettled) a.rest
                 ∙ ap (λ (x : List Unsettled). x ++ unsettled_post p ∷ []) (h.steady.unsettled
                 ∙ ap (λ (l : List Posted). map unsettled_post (drop (length (end_of old).back) l)) before)
@@ -213,7 +213,7 @@ quiet_goes_on told old new t None o port end request sessions unopened strangers
       subst (λ (v : RunView). IsTraceKnown v old.unopened old.ended) (λ i. record {
         dialect = trace.dialect;
         events = trace.events;
-        posted = posted_by (sym end i)
+        numbered = numbered_by (sym end i)
             (sym request i);
         back = (sym end i).back;
         sessions = (sym sessions i).items;
@@ -224,15 +224,15 @@ quiet_goes_on told old new t None o port end request sessions unopened strangers
     ))
 
 -- the request that is held is sent, if there is one
-pub posted_goes_on : {P : Type 0} (told : P → Option PortTrace) (old : WorkerState P) (batch : WorkerBatchView)
+pub sent_goes_on : {P : Type 0} (told : P → Option PortTrace) (old : WorkerState P) (batch : WorkerBatchView)
     (request : Option Posted)
-    → request ≡ None → once_flushed batch ≡ record (end_of old) { sent = posted_by (end_of old) old.request }
+    → request ≡ None → once_flushed batch ≡ record (end_of old) { sent = numbered_by (end_of old) old.request }
     → IsWorkerServing told old
     → WorkerGoesOn told old (record old { batch = batch; request = request })
-posted_goes_on told old batch request taken sent h =
+sent_goes_on told old batch request taken sent h =
     let w = end_of old in let end = once_flushed batch in let new = record old { batch = batch; request = request } in
-    let all : posted_by end request ≡ posted_by w old.request =
-    (λ i. posted_by (sent i) (taken i)) ∙ append-nil (posted_by w old.request) in
+    let all : numbered_by end request ≡ numbered_by w old.request =
+    (λ i. numbered_by (sent i) (taken i)) ∙ append-nil (numbered_by w old.request) in
     let back : end.back ≡ w.back = ap (λ (x : WorkerView). x.back) sent in
     let le = back_le w h.steady.back in
     steps_on told old new (λ trace. trace) (λ s q. q) (same_trace (told old.port) (told old.port) refl) (record {
@@ -244,8 +244,8 @@ posted_goes_on told old batch request taken sent h =
           (ap (λ (x : WorkerView). x.terms) sent) (ap (λ (x : WorkerView). x.seen) sent);
       steady = record {
         running = ap (λ (x : WorkerView). x.said_bye) sent ∙ h.steady.running;
-        posted = h.steady.posted ∙ ap (length {A = Posted}) (sym all);
-        numbered = subst (λ (r : Option Posted). IsNumbered end r) (sym taken) tt;
+        numbered = h.steady.numbered ∙ ap (length {A = Posted}) (sym all);
+        held = subst (λ (r : Option Posted). IsNumbered end r) (sym taken) tt;
         unsettled = h.steady.unsettled ∙ (λ i. map unsettled_post (drop (length (sym back i)) (sym all i)));
         back = ap asked_posted back ∙ h.steady.back ∙ sym (take-append-le (length w.back) w.sent (option_to_list old.request) le)
             ∙ (λ i. take (length (sym back i)) ((sym sent i).sent));
@@ -258,7 +258,7 @@ posted_goes_on told old batch request taken sent h =
     }) h
     (λ trace e was_so. (
       subst (λ (v : RunView). IsTraceKnown v old.unopened old.ended)
-          (λ i. record (run_view trace old) { posted = sym all i; back = sym back i }) was_so.0,
+          (λ i. record (run_view trace old) { numbered = sym all i; back = sym back i }) was_so.0,
       was_so.1,
     ))
 

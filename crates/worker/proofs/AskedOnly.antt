@@ -13,7 +13,7 @@ use Rattle.worker_port.specs.Ports.{PortTrace}
 use Rattle.worker_port.specs.Giving.{HasAskedOnly, sent_for}
 use Rattle.worker.specs.declared.worker.WorkerState.{WorkerState}
 use Rattle.worker.specs.Sessions.{SessionFacts, facts, asked_by, AreFactsConsistent, IsKnownAs, BeginsWith}
-use Rattle.worker.specs.Workers.{IsWorkerServing, run_view, end_of, posted_by}
+use Rattle.worker.specs.Workers.{IsWorkerServing, run_view, end_of, numbered_by}
 use Rattle.worker.proofs.SessionSteps.{begins}
 use Rattle.worker.proofs.Readings.{first_of_reading}
 use Rattle.worker.proofs.GiveSteps.{asked_first}
@@ -48,7 +48,7 @@ pub has_asked_only : {P : Type 0} (told : P → Option PortTrace) (w : WorkerSta
 has_asked_only told w h trace e = let whose = (h.whose trace e).0 in
     let end : WorkerView = end_of w in
     let sent : List Posted = w.batch.end.sent in
-    let posts : List Posted = posted_by end w.request in
+    let posts : List Posted = numbered_by end w.request in
     let first : StartsWith posts sent = starts_trans posts end.sent sent
     (starts_longer end.sent end.sent _ (starts_self end.sent))
     (starts_longer sent sent w.batch.put (starts_self sent)) in record {

@@ -2,8 +2,8 @@
 use Rattle.std.proofs.Common.{◌≡◌, ap, append-nil, ◌∙◌, Option, None}
 use Rattle.proto.specs.declared.history.Posted.{Posted}
 use Rattle.exchange.specs.Ends.{WorkerView}
-use Rattle.worker.specs.Workers.{posted_by}
+use Rattle.worker.specs.Workers.{numbered_by}
 
--- where no request is held, the requests posted are those that were sent
-pub sent_posted : (end : WorkerView) (request : Option Posted) → request ≡ None → posted_by end request ≡ end.sent
-sent_posted end request e = ap (posted_by end) e ∙ append-nil end.sent
+-- where no request is held, the requests with numbers are those that were sent
+pub numbered_are_sent : (end : WorkerView) (request : Option Posted) → request ≡ None → numbered_by end request ≡ end.sent
+numbered_are_sent end request e = ap (numbered_by end) e ∙ append-nil end.sent

@@ -22,7 +22,7 @@ use Rattle.session_book.specs.Book.{session_of}
 use Rattle.worker_port.specs.Ports.{fed, given}
 use Rattle.worker_port.specs.Giving.{MayBeSent}
 use Rattle.worker.specs.Sessions.{RunView, facts, asked_by, had_by, AreFactsConsistent, IsSessionServed}
-use Rattle.worker.specs.Workers.{posted_by}
+use Rattle.worker.specs.Workers.{numbered_by}
 use Rattle.worker.proofs.SessionSteps.{runs, begins}
 use Rattle.worker.proofs.Answering.{said_more, said_further, begins_on}
 use Rattle.worker.proofs.Readings.{first_of_reading}
@@ -51,10 +51,10 @@ had_first all first s h = (
 
 -- the output of an open session may be given
 pub may_be_given : (v : RunView) (end : WorkerView) (request : Option Posted) (t : ℕ) (s : SessionState)
-    → AreFactsConsistent (facts v t) → session_of v.book t ≡ Some s → v.posted ≡ posted_by end request
+    → AreFactsConsistent (facts v t) → session_of v.book t ≡ Some s → v.numbered ≡ numbered_by end request
     → v.back ≡ end.back → WasTold end
     → MayBeSent end.terms v.dialect end.worker end.seen t (fed t v.events) (given t v.events) s.out
-may_be_given v end request t s h open_is posted back told =
+may_be_given v end request t s h open_is numbered back told =
     let run = runs (facts v t) s h open_is in
     let same : run.running.s ≡ s = some_is run.running.s s (sym run.running.state ∙ open_is) in
     let served : IsSessionServed (v.piece t) (facts v t) s =
@@ -69,8 +69,8 @@ may_be_given v end request t s h open_is posted back told =
     let replies : StartsWith (had_by (worker_share hist end.worker) t) (had_by v.back t) =
     had_first (worker_share hist end.worker) v.back t
     (subst (λ l. StartsWith (worker_share hist end.worker) l) (sym back) told.back) in
-    let sent : StartsWith v.posted (asked_posted (worker_share hist end.worker)) =
-    subst (λ l. StartsWith l (asked_posted (worker_share hist end.worker))) (sym posted)
+    let sent : StartsWith v.numbered (asked_posted (worker_share hist end.worker)) =
+    subst (λ l. StartsWith l (asked_posted (worker_share hist end.worker))) (sym numbered)
     (starts_longer end.sent (asked_posted (worker_share hist end.worker)) (option_to_list request)
     (subst (λ l. StartsWith end.sent l) (sym told.asked) (starts_take end.sent (length (worker_share hist end.worker))))) in
     let now : StartsWith (said ms (had_by v.back t)) (given t v.events ++ s.out) =
@@ -84,7 +84,7 @@ may_be_given v end request t s h open_is posted back told =
           let asks_on : StartsWith (asks messages) (asks ms) = (asks m.0, ap asks m.1 ∙ asks-append ms m.0) in
           let asked_on : StartsWith (asks ms) (asked_by (asked_posted (worker_share hist end.worker)) t) =
           subst (λ l. StartsWith l (asked_by (asked_posted (worker_share hist end.worker)) t)) served.asked
-          (asked_first v.posted (asked_posted (worker_share hist end.worker)) t sent) in
+          (asked_first v.numbered (asked_posted (worker_share hist end.worker)) t sent) in
           let more : StartsWith (said ms (had_by (worker_share hist end.worker) t)) (said ms (had_by v.back t)) =
           subst (λ (rs : List Reply). StartsWith (said ms rs) (said ms (had_by v.back t))) (sym replies.1)
           (said_more ms (had_by v.back t) replies.0) in

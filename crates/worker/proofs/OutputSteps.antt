@@ -20,7 +20,7 @@ use Rattle.worker_port.specs.Ports.{PortTrace, then_gave, with_pause, is_open, i
 use Rattle.worker.specs.Sessions.{RunView, facts, AreFactsConsistent, IsSessionServed}
 use Rattle.worker_port.specs.PortFacts.{port_facts}
 use Rattle.worker.specs.EndCauses.{CausesRiseFrom, piece_of}
-use Rattle.worker.specs.Workers.{end_of, posted_by, IsTraceKnown, run_view, IsWorkerServing, IsTraceBy, Closes, LeavesWorker}
+use Rattle.worker.specs.Workers.{end_of, numbered_by, IsTraceKnown, run_view, IsWorkerServing, IsTraceBy, Closes, LeavesWorker}
 use Rattle.worker_port.proofs.Facts.{elsewhere, accepted_here}
 use Rattle.worker.proofs.SessionSteps.{runs, served_fed, served_holding, served_gave}
 use Rattle.worker.proofs.RunViews.{AreSessionsCounted, facts_equal, change_at, at_other, at_same}
@@ -47,19 +47,19 @@ told_within v v' unopened ended h e r each = record {
 }
 
 -- where nothing changes but the book and the held piece of one session, what is known of the others stays
-pub others_within : (v v' : RunView) (t : ℕ) → v'.dialect ≡ v.dialect → v'.events ≡ v.events → v'.posted ≡ v.posted → v'.back ≡ v.back
+pub others_within : (v v' : RunView) (t : ℕ) → v'.dialect ≡ v.dialect → v'.events ≡ v.events → v'.numbered ≡ v.numbered → v'.back ≡ v.back
     → v'.sessions ≡ v.sessions
     → ((s : ℕ) → t ≢ s → session_of v'.book s ≡ session_of v.book s) → ((s : ℕ) → t ≢ s → v'.piece s ≡ v.piece s)
     → (s : ℕ) → t ≢ s → facts v' s ≡ facts v s
 others_within v v' t d e p b r book piece s ne =
-    facts_equal (facts v' s) (facts v s) d (ap (λ l. port_facts l s) e) (λ i. (facts (record v { posted = p i }) s).asked)
+    facts_equal (facts v' s) (facts v s) d (ap (λ l. port_facts l s) e) (λ i. (facts (record v { numbered = p i }) s).asked)
     (λ i. (facts (record v { back = b i }) s).had) (λ i. (facts (record v { sessions = r i }) s).cause) (book s ne)
     (piece s ne)
 
 -- all that is known stays true where an open session is fed its held piece
 pub told_refed : (v v' : RunView) (unopened : ℕ) (ended : Bool) (t : ℕ) (s : SessionState)
     → IsTraceKnown v unopened ended → session_of v.book t ≡ Some s
-    → v.piece t ≡ s.held → v'.dialect ≡ v.dialect → v'.events ≡ v.events → v'.posted ≡ v.posted
+    → v.piece t ≡ s.held → v'.dialect ≡ v.dialect → v'.events ≡ v.events → v'.numbered ≡ v.numbered
     → v'.back ≡ v.back → v'.sessions ≡ v.sessions
     → ((k : ℕ) → session_of v'.book k ≡ cond (k == t) (Some (held_fed s)) (session_of v.book k))
     → ((k : ℕ) → v'.piece k ≡ cond (k == t) [] (v.piece k)) → IsTraceKnown v' unopened ended
@@ -84,7 +84,7 @@ told_refed v v' unopened ended t s h open_is held d e p b r book piece =
 pub within_goes_on : {P : Type 0} (told : P → Option PortTrace) (old new : WorkerState P) (f : PortTrace → PortTrace)
     → LeavesWorker old new
     → ((trace : PortTrace) → IsTraceBy trace (end_of old) old.book → IsTraceBy (f trace) (end_of old) old.book)
-    → told new.port ≡ option_map f (told old.port) → new.book.posted ≡ old.book.posted
+    → told new.port ≡ option_map f (told old.port) → new.book.numbered ≡ old.book.numbered
     → new.book.unsettled ≡ old.book.unsettled → new.book.dialect ≡ old.book.dialect → IsWorkerServing told old
     → ((trace : PortTrace) → TraceFacts trace old old.unopened old.ended
     → TraceFacts (f trace) new old.unopened old.ended) → WorkerGoesOn told old new
@@ -142,7 +142,7 @@ gave_list l t n out opened =
 -- all that is known stays true where n bytes of an open session's output are given
 pub told_gave : (v v' : RunView) (unopened : ℕ) (ended : Bool) (t n : ℕ) (s : SessionState)
     → IsTraceKnown v unopened ended → session_of v.book t ≡ Some s
-    → v'.dialect ≡ v.dialect → v'.events ≡ v.events ++ accepted t n s.out → v'.posted ≡ v.posted → v'.back ≡ v.back
+    → v'.dialect ≡ v.dialect → v'.events ≡ v.events ++ accepted t n s.out → v'.numbered ≡ v.numbered → v'.back ≡ v.back
     → v'.sessions ≡ v.sessions
     → ((k : ℕ) → session_of v'.book k ≡ cond (k == t)
     (option_map (λ (x : SessionState). gave x n) (session_of v.book t)) (session_of v.book k))
@@ -167,7 +167,7 @@ told_gave v v' unopened ended t n s h open_is d e p b r book piece =
     let now = running_on (facts v t) port (gave st n) (v.piece t) run refl refl refl served in
     let others : (k : ℕ) → t ≢ k → facts v' k ≡ facts v k =
     λ k ne. facts_equal (facts v' k) (facts v k) d (ap (λ m. port_facts m k) e ∙ gave_elsewhere l t n s.out k ne)
-    (λ i. (facts (record v { posted = p i }) k).asked) (λ i. (facts (record v { back = b i }) k).had)
+    (λ i. (facts (record v { numbered = p i }) k).asked) (λ i. (facts (record v { back = b i }) k).had)
     (λ i. (facts (record v { sessions = r i }) k).cause) (book k ∙ at_other t k
     (option_map (λ (x : SessionState). gave x n) (session_of v.book t)) (session_of v.book k) ne) (λ i. piece i k) in
     record {
@@ -257,13 +257,13 @@ refed_goes_on told old new t rest port h k =
     subst (λ (x : SessionState). OnlyAt old.book new.book t (Some x)) k.changes.1 k.only.only_at in
     let pieces = pieces_at old.book new.book t (Some (held_fed k.s)) only in
     within_goes_on told old new (with_pause t false) rest (λ s q. q) port
-    (ap (λ (b : BookState). b.posted) k.only.rest) (ap (λ (b : BookState). b.unsettled) k.only.rest)
+    (ap (λ (b : BookState). b.numbered) k.only.rest) (ap (λ (b : BookState). b.unsettled) k.only.rest)
     (ap (λ (b : BookState). b.dialect) k.only.rest) h
     (λ trace was_so. (
       told_refed (run_view trace old)
           (run_view (with_pause t false trace) new) old.unopened old.ended t k.s was_so.0 k.was_open
           (ap held_of k.was_open) refl refl
-          (λ i. posted_by (rest.end i) (rest.request i))
+          (λ i. numbered_by (rest.end i) (rest.request i))
           (ap (λ (w : WorkerView). w.back) rest.end) rest.sessions only pieces,
       paused_but trace (with_pause t false trace) t (piece_of old.book) (piece_of new.book) pieces
           (λ q ne. at_other t q false (trace.paused q) ne) was_so.1,

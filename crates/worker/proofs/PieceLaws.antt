@@ -2,7 +2,7 @@
 use Rattle.std.proofs.Common.{◌≡◌, ◌≢◌, ℕ, ◌==◌, Bool, true, false, cond, eq-eqb}
 use Rattle.std.proofs.Common.{List, [], ◌++◌, refl, sym, ap, ◌∙◌, Option, Some, None, is_some}
 use Rattle.std.specs.Option.{option_map}
-use Rattle.session_book.specs.Session.{SessionState, once_fed, once_over, gave}
+use Rattle.session_book.specs.Session.{SessionState, once_fed, once_input_ended, gave}
 use Rattle.session_book.specs.Book.{BookState, session_of, held_of, OnlyAt}
 use Rattle.worker.specs.EndCauses.{piece_of}
 use Rattle.worker.proofs.RunViews.{at_other}
@@ -53,9 +53,9 @@ fed_piece None b = refl
 fed_piece (Some s) b = fed_if (is_some s.ended) s b
 
 -- a session whose input has ended keeps its held piece
-pub over_piece : (o : Option SessionState) → held_of (option_map once_over o) ≡ held_of o
-over_piece None = refl
-over_piece (Some s) = refl
+pub input_ended_piece : (o : Option SessionState) → held_of (option_map once_input_ended o) ≡ held_of o
+input_ended_piece None = refl
+input_ended_piece (Some s) = refl
 
 -- a session that gives some of its output keeps its held piece
 pub gave_piece : (o : Option SessionState) (n : ℕ) → held_of (option_map (λ (s : SessionState). gave s n) o) ≡ held_of o

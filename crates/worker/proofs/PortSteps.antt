@@ -11,7 +11,7 @@ use Rattle.proto.proofs.Options.{some_is}
 use Rattle.exchange.specs.Ends.{WorkerView}
 use Rattle.session_book.specs.declared.causes.EndCause.{EndCause}
 use Rattle.session_book.specs.declared.causes.EndCause.TheVariants as causes
-use Rattle.session_book.specs.Session.{SessionState, new_session, once_fed, once_over, holding, ending_of, finished_by, HasReadAll}
+use Rattle.session_book.specs.Session.{SessionState, new_session, once_fed, once_input_ended, holding, ending_of, finished_by, HasReadAll}
 use Rattle.session_book.specs.Book.{BookState, session_of, held_of, ChangesSession}
 use Rattle.worker_port.specs.declared.events.PortRecord.{PortRecord}
 use Rattle.worker_port.specs.declared.events.PortRecord.TheVariants as was
@@ -20,7 +20,7 @@ use Rattle.worker_port.specs.Ports.{PortTrace, then_told, with_pause, is_open, i
 use Rattle.worker.specs.Sessions.{RunView, facts, cause_of, AreFactsConsistent}
 use Rattle.worker_port.specs.PortFacts.{PortFacts, port_facts}
 use Rattle.worker.specs.EndCauses.{CausesRiseFrom, piece_of}
-use Rattle.worker.specs.Workers.{end_of, posted_by, IsSteady, IsTraceKnown, run_view, IsWorkerServing, Closes, Shuts}
+use Rattle.worker.specs.Workers.{end_of, numbered_by, IsSteady, IsTraceKnown, run_view, IsWorkerServing, Closes, Shuts}
 use Rattle.worker.specs.Workers.{HandlesData, feeds, holds, shuts, drops, Admits, Refuses, SameRest}
 use Rattle.worker.proofs.EndCauseLemmas.{rises_more, rises_with, length-with, cause_more, cause_new}
 use Rattle.worker_port.proofs.Facts.{elsewhere, opened_here, fed_here, shut_here}
@@ -30,10 +30,10 @@ use Rattle.worker.proofs.RunViews.{AreSessionsCounted, facts_equal, change_at, a
 use Rattle.worker_port.proofs.Lists.{AcceptsOnlyOpen, ended_same, ended_now, count_same, count_more, accepts_more}
 use Rattle.worker.proofs.RunViews.{shuts_here, close_all, apart_shut}
 use Rattle.worker.proofs.TraceLaws.{told_before, two_calls, paused_elsewhere, paused_kept, paused_but, paused_more, resumed_holds_none}
-use Rattle.worker.proofs.PieceLaws.{pieces_at, pieces_kept, fed_piece, over_piece}
+use Rattle.worker.proofs.PieceLaws.{pieces_at, pieces_kept, fed_piece, input_ended_piece}
 use Rattle.worker.proofs.WorkerSteps.{WorkerGoesOn, OwnFacts, TraceFacts, steps, steps_on, steady_same, same_end, later_is}
 use Rattle.worker.proofs.WorkerSteps.{told_finished, told_gone, closes_in, own_closed, own_within, shut_goes_on}
-use Rattle.worker.proofs.WorkerSteps.{told_fed, told_over, told_held, open_here, open_at}
+use Rattle.worker.proofs.WorkerSteps.{told_fed, told_input_ended, told_held, open_here, open_at}
 use Rattle.proto.proofs.CountLemmas.{either_way}
 
 -- a truth value that can't be true is false
@@ -79,16 +79,16 @@ ending_by None false c e = absurd (cc)
 -- a session ends so
 ends_by : (s : SessionState) (c : EndCause) → ending_of s ≡ Some c → HasReadAll (Some s) (Some c) → Ends s c
 ends_by s c e read =
-    let over : Bool = s.is_over in let unheld : Bool = length s.held == 0 in
+    let input_ended : Bool = s.input_ended in let unheld : Bool = length s.held == 0 in
     let short : Bool = nat_lt (length s.unread) s.need in
-    elim (ending_by s.ended (over && unheld && short) c e) [
+    elim (ending_by s.ended (input_ended && unheld && short) c e) [
       | inl ended ↦ inl ended
       | inr out ↦
-          let p = and_parts (over && unheld) short out.1 in let q = and_parts over unheld p.0 in
+          let p = and_parts (input_ended && unheld) short out.1 in let q = and_parts input_ended unheld p.0 in
           inr (record {
             is = out.2;
             open_yet = out.0;
-            over = q.0;
+            input_ended = q.0;
             held = no_length s.held q.1;
             none = read (ap Some out.2) s refl out.0;
           })
@@ -131,7 +131,7 @@ fresh l t may = bool_false (is_in (was.Opened t) l) (λ e. let lt = may.1 t e in
 -- all that is known stays true where a session is opened and gets an entry in the report and in the book
 pub told_admitted : (v v' : RunView) (unopened : ℕ) (ended : Bool) (t : ℕ) → IsTraceKnown v unopened ended
     → MayOpen v.events t
-    → v'.dialect ≡ v.dialect → v'.events ≡ v.events ++ was.Opened t ∷ [] → v'.posted ≡ v.posted → v'.back ≡ v.back
+    → v'.dialect ≡ v.dialect → v'.events ≡ v.events ++ was.Opened t ∷ [] → v'.numbered ≡ v.numbered → v'.back ≡ v.back
     → v'.sessions ≡ v.sessions ++ (t, causes.Drained) ∷ []
     → ((s : ℕ) → session_of v'.book s ≡ cond (s == t) (Some (new_session v.dialect)) (session_of v.book s)) → v'.piece ≡ v.piece
     → IsTraceKnown v' unopened ended
@@ -142,11 +142,11 @@ told_admitted v v' unopened ended t h may d e p k r book piece =
     let f' = record (facts v t) { port = port; cause = Some causes.Drained; state = Some (new_session v.dialect) } in
     let here : facts v' t ≡ f' =
     facts_equal (facts v' t) f' d (ap (λ y. port_facts y t) e ∙ opened_here l t)
-    (λ i. (facts (record v { posted = p i }) t).asked)
+    (λ i. (facts (record v { numbered = p i }) t).asked)
     (λ i. (facts (record v { back = k i }) t).had)
     (ap (λ y. cause_of y t) r ∙ cause_new v.sessions t causes.Drained u.1)
     (book t ∙ at_same t (Some (new_session v.dialect)) (session_of v.book t)) (λ i. piece i t) in
-    let served = served_new f' u.0.fed u.0.given u.0.had u.0.asked u.0.piece u.0.over in
+    let served = served_new f' u.0.fed u.0.given u.0.had u.0.asked u.0.piece u.0.input_ended in
     let now = is_running f' refl refl (record {
       gone = u.0.gone;
       shut = u.0.shut;
@@ -157,7 +157,7 @@ told_admitted v v' unopened ended t h may d e p k r book piece =
     let others : (s : ℕ) → t ≢ s → facts v' s ≡ facts v s =
     λ s ne.
     facts_equal (facts v' s) (facts v s) d (ap (λ y. port_facts y s) e ∙ elsewhere l x s (ne_eqb t s ne))
-    (λ i. (facts (record v { posted = p i }) s).asked) (λ i. (facts (record v { back = k i }) s).had)
+    (λ i. (facts (record v { numbered = p i }) s).asked) (λ i. (facts (record v { back = k i }) s).had)
     (ap (λ y. cause_of y s) r ∙ cause_more v.sessions s t causes.Drained ne)
     (book s ∙ at_other t s (Some (new_session v.dialect)) (session_of v.book s) ne)
     (λ i. piece i s) in
@@ -176,7 +176,7 @@ told_admitted v v' unopened ended t h may d e p k r book piece =
 -- all that is known stays true where a session is opened, shut at once, and counted as unopened
 pub told_refused : (v v' : RunView) (unopened : ℕ) (ended : Bool) (t : ℕ) → IsTraceKnown v unopened ended
     → MayOpen v.events t
-    → v'.dialect ≡ v.dialect → v'.events ≡ (v.events ++ was.Opened t ∷ []) ++ was.Shut t ∷ [] → v'.posted ≡ v.posted → v'.back ≡ v.back
+    → v'.dialect ≡ v.dialect → v'.events ≡ (v.events ++ was.Opened t ∷ []) ++ was.Shut t ∷ [] → v'.numbered ≡ v.numbered → v'.back ≡ v.back
     → v'.sessions ≡ v.sessions
     → v'.book ≡ v.book → v'.piece ≡ v.piece → IsTraceKnown v' (min (unopened + 1) (2 ^ 64 - 1)) ended
 told_refused v v' unopened ended t h may d e p k r book piece =
@@ -187,7 +187,7 @@ told_refused v v' unopened ended t h may d e p k r book piece =
     let here : facts v' t ≡ f' =
     facts_equal (facts v' t) f' d (ap (λ z. port_facts z t) e ∙ shut_here m t
     ∙ ap (λ (q : PortFacts). record q { shut = true }) (opened_here l t))
-    (λ i. (facts (record v { posted = p i }) t).asked) (λ i. (facts (record v { back = k i }) t).had)
+    (λ i. (facts (record v { numbered = p i }) t).asked) (λ i. (facts (record v { back = k i }) t).had)
     (ap (λ z. cause_of z t) r)
     (ap (λ z. session_of z t) book) (λ i. piece i t) in
     let now = is_unopened f' refl u.1 (record {
@@ -200,7 +200,7 @@ told_refused v v' unopened ended t h may d e p k r book piece =
     λ s ne.
     facts_equal (facts v' s) (facts v s) d
     (ap (λ z. port_facts z s) e ∙ elsewhere m y s (ne_eqb t s ne) ∙ elsewhere l x s (ne_eqb t s ne))
-    (λ i. (facts (record v { posted = p i }) s).asked) (λ i. (facts (record v { back = k i }) s).had)
+    (λ i. (facts (record v { numbered = p i }) s).asked) (λ i. (facts (record v { back = k i }) s).had)
     (ap (λ z. cause_of z s) r)
     (ap (λ z. session_of z s) book) (λ i. piece i s) in
     let more = count_more l t in let same = count_same m y refl in record {
@@ -248,7 +248,7 @@ admit_goes_on told old new port t opens rest h k =
     (sym (h.whose trace e).1) k.book in (
       told_admitted (run_view trace old) (run_view (f trace) new) old.unopened old.ended t was_so.0
           (opens.may trace e) refl refl
-          (λ i. posted_by (rest.end i) (rest.request i)) (ap (λ (w : WorkerView). w.back) rest.end) k.sessions book
+          (λ i. numbered_by (rest.end i) (rest.request i)) (ap (λ (w : WorkerView). w.back) rest.end) k.sessions book
           (λ i s. pieces s i),
       paused_kept trace (f trace) (piece_of old.book) (piece_of new.book) pieces (λ s. refl) was_so.1,
     ))
@@ -274,7 +274,7 @@ refuse_goes_on told old new port t opens rest h k =
           (λ i. (sym k.unopened i, sym rest.ended i))
           (told_refused (run_view trace old) (run_view (g (f trace)) new) old.unopened old.ended t was_so.0
           (opens.may trace e) refl refl
-          (λ i. posted_by (rest.end i) (rest.request i)) (ap (λ (w : WorkerView). w.back) rest.end) k.sessions k.book
+          (λ i. numbered_by (rest.end i) (rest.request i)) (ap (λ (w : WorkerView). w.back) rest.end) k.sessions k.book
           (ap piece_of k.book)),
       paused_but trace (g (f trace)) t (piece_of old.book) (piece_of new.book)
           (λ s. ap (λ p. piece_of p s) k.book ∙ still_none t s (piece_of old.book) none)
@@ -397,14 +397,14 @@ received_goes_on told old new port t b came h (feeds none book port_is rest) =
     (option_map (λ (s : SessionState). once_fed s b) (session_of old.book t)) book.only_at
     (fed_piece (session_of old.book t) b) in
     steps_on told old new f (λ s q. q) (ap told port_is ∙ came.told_is) (own_within told old new port rest (
-      ap (λ (x : BookState). x.posted) book.rest,
+      ap (λ (x : BookState). x.numbered) book.rest,
       ap (λ (x : BookState). x.unsettled) book.rest,
       ap (λ (x : BookState). x.dialect) book.rest,
     ) h) h
     (λ trace e was_so. (
       told_fed (run_view trace old) (run_view (f trace) new) old.unopened old.ended t b was_so.0
           (came.opened trace e) none refl refl
-          (λ i. posted_by (rest.end i) (rest.request i))
+          (λ i. numbered_by (rest.end i) (rest.request i))
           (ap (λ (w : WorkerView). w.back) rest.end) rest.sessions book.only_at pieces,
       paused_kept trace (f trace) (piece_of old.book) (piece_of new.book) pieces (λ s. refl) was_so.1,
     ))
@@ -413,7 +413,7 @@ received_goes_on told old new port t b came h (holds none k) =
     steps_on told old new (λ trace. g (f trace)) (λ s q. q)
     (two_calls f g (told old.port) (told port) (told new.port) came.told_is k.port)
     (own_within told old new port k.leaves (
-      ap (λ (x : BookState). x.posted) k.book.rest,
+      ap (λ (x : BookState). x.numbered) k.book.rest,
       ap (λ (x : BookState). x.unsettled) k.book.rest,
       ap (λ (x : BookState). x.dialect) k.book.rest,
     ) h) h
@@ -426,7 +426,7 @@ received_goes_on told old new port t b came h (holds none k) =
     ∙ ap (λ (x : Option SessionState). cond (s == t) (held_of (held x)) (piece_of old.book s)) run.running.state in (
       told_held (run_view trace old) (run_view (g (f trace)) new) old.unopened old.ended t b was_so.0
           (came.opened trace e) none refl refl
-          (λ i. posted_by (k.leaves.end i) (k.leaves.request i))
+          (λ i. numbered_by (k.leaves.end i) (k.leaves.request i))
           (ap (λ (w : WorkerView). w.back) k.leaves.end) k.leaves.sessions k.book.only_at pieces,
       paused_more trace (g (f trace)) t b (piece_of old.book) (piece_of new.book) pieces
           (at_same t true (trace.paused t))
@@ -449,7 +449,7 @@ received_goes_on told old new port t b came h (shuts why k) =
 received_goes_on told old new port t b came h (drops none book port_is rest) =
     let f = then_told (was.Data t b ∷ []) in
     steps_on told old new f (λ s q. q) (ap told port_is ∙ came.told_is) (own_within told old new port rest (
-      ap (λ (x : BookState). x.posted) book,
+      ap (λ (x : BookState). x.numbered) book,
       ap (λ (x : BookState). x.unsettled) book,
       ap (λ (x : BookState). x.dialect) book,
     ) h) h
@@ -461,22 +461,22 @@ pub record EndsAt {P : Type 0} (told : P → Option PortTrace) (old port : P) (t
   pub opened : (trace : PortTrace) → told old ≡ Some trace → is_open t trace.events ≡ true
 
 -- the book notes it
-pub over_goes_on : {P : Type 0} (told : P → Option PortTrace) (old : WorkerState P) (port : P) (book : BookState) (t : ℕ)
+pub input_ended_goes_on : {P : Type 0} (told : P → Option PortTrace) (old : WorkerState P) (port : P) (book : BookState) (t : ℕ)
     → EndsAt told old.port port t → IsWorkerServing told old
-    → ChangesSession old.book book t (option_map once_over (session_of old.book t))
+    → ChangesSession old.book book t (option_map once_input_ended (session_of old.book t))
     → WorkerGoesOn told old (record old { port = port; book = book })
-over_goes_on told old port book t came h k =
+input_ended_goes_on told old port book t came h k =
     let f = then_told (was.EndOfInput t ∷ []) in let new = record old { port = port; book = book } in
-    let pieces = pieces_kept old.book book t (option_map once_over (session_of old.book t)) k.only_at
-    (over_piece (session_of old.book t)) in
+    let pieces = pieces_kept old.book book t (option_map once_input_ended (session_of old.book t)) k.only_at
+    (input_ended_piece (session_of old.book t)) in
     steps_on told old new f (λ s q. q) came.told_is (own_within told old new port
     (record { end = refl; request = refl; sessions = refl; unopened = refl; strangers = refl; ended = refl }) (
-      ap (λ (x : BookState). x.posted) k.rest,
+      ap (λ (x : BookState). x.numbered) k.rest,
       ap (λ (x : BookState). x.unsettled) k.rest,
       ap (λ (x : BookState). x.dialect) k.rest,
     ) h) h
     (λ trace e was_so. (
-      told_over (run_view trace old) (run_view (f trace) new) old.unopened old.ended t was_so.0 (came.opened trace e)
+      told_input_ended (run_view trace old) (run_view (f trace) new) old.unopened old.ended t was_so.0 (came.opened trace e)
           refl refl refl refl refl k.only_at pieces,
       paused_kept trace (f trace) (piece_of old.book) (piece_of book) pieces (λ s. refl) was_so.1,
     ))

@@ -73,9 +73,9 @@ same_count [] = refl
 same_count (e ∷ l) = let h = same_count l in omega arith
 
 -- where each posted request came back, a session has as many replies as requests
-pub as_many : (back : List Answered) (posted : List Posted) (s : ℕ) → asked_posted back ≡ posted
-    → length (asked_by posted s) ≡ length (had_by back s)
-as_many back posted s e = ap (λ (p : List Posted). length (asked_by p s)) (sym e)
+pub as_many : (back : List Answered) (numbered : List Posted) (s : ℕ) → asked_posted back ≡ numbered
+    → length (asked_by numbered s) ≡ length (had_by back s)
+as_many back numbered s e = ap (λ (p : List Posted). length (asked_by p s)) (sym e)
     ∙ ap (length {A = Request}) (sym (asked_from back s))
     ∙ same_count (filter (λ (x : Answered). x.session == s) back)
 
@@ -132,21 +132,21 @@ is_fatal (Fatal kind) e = (kind, refl)
 -- a session's requests are the first of its messages', and the bytes given are a beginning of their answers; both are complete
 -- but where it has gone or memory was refused; and the cause is one of it
 record IsFinal (v : RunView) (s : ℕ) (cause : EndCause) (messages : List Message) : Type 0 where
-  first : StartsWith (asks messages) (asked_by v.posted s)
+  first : StartsWith (asks messages) (asked_by v.numbered s)
   beginning : StartsWith (said messages (had_by v.back s)) (given s v.events)
-  complete : cause ≢ causes.Gone → cause ≢ causes.NoMemory → (asked_by v.posted s ≡ asks messages)
+  complete : cause ≢ causes.Gone → cause ≢ causes.NoMemory → (asked_by v.numbered s ≡ asks messages)
       × (given s v.events ≡ said messages (had_by v.back s))
   caused : IsCauseOf v.events s messages cause
 
 -- where all of the messages were read, asked and answered
 final_whole : (v : RunView) (s : ℕ) (cause : EndCause) (messages read : List Message) → messages ≡ read
-    → asked_by v.posted s ≡ asks read
+    → asked_by v.numbered s ≡ asks read
     → given s v.events ≡ said read (had_by v.back s) → IsCauseOf v.events s read cause → IsFinal v s cause messages
 final_whole v s cause messages read same asked_is given_is caused =
-    let a : asked_by v.posted s ≡ asks messages = asked_is ∙ ap asks (sym same) in
+    let a : asked_by v.numbered s ≡ asks messages = asked_is ∙ ap asks (sym same) in
     let b : given s v.events ≡ said messages (had_by v.back s) =
     given_is ∙ ap (λ (ms : List Message). said ms (had_by v.back s)) (sym same) in record {
-      first = ([], sym a ∙ sym (append-nil (asked_by v.posted s)));
+      first = ([], sym a ∙ sym (append-nil (asked_by v.numbered s)));
       beginning = ([], sym b ∙ sym (append-nil (given s v.events)));
       complete = λ not_gone enough. (a, b);
       caused = subst (λ (ms : List Message). IsCauseOf v.events s ms cause) (sym same) caused;
@@ -154,7 +154,7 @@ final_whole v s cause messages read same asked_is given_is caused =
 
 -- where only the first were
 final_begun : (v : RunView) (s : ℕ) (cause : EndCause) (messages read more : List Message) → messages ≡ read ++ more
-    → asked_by v.posted s ≡ asks read → StartsWith (said read (had_by v.back s)) (given s v.events)
+    → asked_by v.numbered s ≡ asks read → StartsWith (said read (had_by v.back s)) (given s v.events)
     → (cause ≡ causes.Gone) ⊎ (cause ≡ causes.NoMemory)
     → IsCauseOf v.events s messages cause → IsFinal v s cause messages
 final_begun v s cause messages read more split asked_is said_is partial caused =
@@ -185,7 +185,7 @@ final_closed : (v : RunView) (s : ℕ) (c : EndCause) (messages : List Message) 
 final_closed v s causes.Drained messages rest h reads = absurd h.caused
 final_closed v s causes.EndOfInput messages rest h reads = let w = h.caused in
     final_whole v s causes.EndOfInput messages h.messages (same_reading v.dialect (fed s v.events) h.rest rest h.messages messages
-    h.read (λ goes_on. w.none) reads) h.asked w.whole.0 (w.over, w.shut, none_ends h.messages w.whole.2)
+    h.read (λ goes_on. w.none) reads) h.asked w.whole.0 (w.input_ended, w.shut, none_ends h.messages w.whole.2)
 final_closed v s causes.Quit messages rest h reads = let w = h.caused.1 in
     let last = by_last v.dialect h.read.read None h.messages causes.Quit h.read.reads w.2 in
     final_whole v s causes.Quit messages h.messages (whole_read v s causes.Quit messages rest h reads w.2) h.asked w.0
@@ -211,11 +211,11 @@ ended_none s q o e = none_first s.ended _ (sym (λ i. cond ((length (q i) == 0) 
     none_first (Some c) x e = absurd cc
 
 -- nor has its input ended
-not_over : (s : SessionState) → s.queue ≡ [] → IsEmptied s → s.ended ≡ None → s.is_over ≡ false
-not_over s q h none =
+input_not_ended : (s : SessionState) → s.queue ≡ [] → IsEmptied s → s.ended ≡ None → s.input_ended ≡ false
+input_not_ended s q h none =
     let short : nat_lt (length s.unread) s.need ≡ true = lt-ltb (length s.unread) s.need (too_short s h.out none h.stops) in
-    untaken s.is_over (sym (λ i. cond ((length (q i) == 0) && (length (h.out i) == 0))
-    (cond (is_some (none i)) (none i) (cond (s.is_over && (length (h.held i) == 0) && short i) (Some causes.EndOfInput) None)) None)
+    untaken s.input_ended (sym (λ i. cond ((length (q i) == 0) && (length (h.out i) == 0))
+    (cond (is_some (none i)) (none i) (cond (s.input_ended && (length (h.held i) == 0) && short i) (Some causes.EndOfInput) None)) None)
     ∙ h.unfinished)
   where
     too_short : (s : SessionState) → s.out ≡ [] → s.ended ≡ None → Stops s → length s.unread < s.need
@@ -236,13 +236,13 @@ no_more s o e (no_message h none) = none
 -- a running session that is emptied, and has as many replies as requests, is final with the cause Drained
 final_drained : (v : RunView) (s : ℕ) (messages : List Message) (rest : List ℕ) → (run : IsRunning (facts v s))
     → v.piece s ≡ held_of (session_of v.book s) → IsEmptied run.s
-    → length (asked_by v.posted s) ≡ length (had_by v.back s) → Reads v.dialect (fed s v.events) messages rest
+    → length (asked_by v.numbered s) ≡ length (had_by v.back s) → Reads v.dialect (fed s v.events) messages rest
     → IsFinal v s causes.Drained messages
 final_drained v s messages rest run held emptied many reads =
     let st = run.s in
     let none : v.piece s ≡ [] = held ∙ ap held_of run.state ∙ emptied.held in
     let r : IsSessionServed [] (facts v s) st = subst (λ q. IsSessionServed q (facts v s) st) none run.served in
-    let asked_len : length (asked_by v.posted s) ≡ length (asks r.messages) = ap (length {A = Request}) r.asked in
+    let asked_len : length (asked_by v.numbered s) ≡ length (asks r.messages) = ap (length {A = Request}) r.asked in
     let no_asks : length (asks st.queue) ≡ 0 = omega (arith, r.has_said.replied, many, asked_len) in
     let queue : st.queue ≡ [] = r.has_said.queue ∙ left_none r.messages (had_by v.back s)
     (ap (λ (ms : List Message). length (asks ms)) (sym r.has_said.queue) ∙ no_asks) in
@@ -260,7 +260,7 @@ final_drained v s messages rest run held emptied many reads =
     final_whole v s causes.Drained messages r.messages same r.asked
     (sym (append-nil (given s v.events)) ∙ ap (λ (x : List ℕ). given s v.events ++ x) (sym emptied.out)
     ∙ r.has_said.whole)
-    (sym r.over ∙ not_over st queue emptied ends, run.gone, run.shut, none_ends r.messages (sym r.has_read.ended ∙ ends))
+    (sym r.input_ended ∙ input_not_ended st queue emptied ends, run.gone, run.shut, none_ends r.messages (sym r.has_read.ended ∙ ends))
 
 -- a session with an entry in the report is final, where it has as many replies as requests and, if it is still open,
 -- is emptied
@@ -268,7 +268,7 @@ final_placed : (v : RunView) (s : ℕ) (c : EndCause) (messages : List Message) 
     → IsReportedAs (facts v s) (Some c)
     → v.piece s ≡ held_of (session_of v.book s)
     → (c ≡ causes.Drained → (st : SessionState) → session_of v.book s ≡ Some st → IsEmptied st)
-    → length (asked_by v.posted s) ≡ length (had_by v.back s) → Reads v.dialect (fed s v.events) messages rest
+    → length (asked_by v.numbered s) ≡ length (had_by v.back s) → Reads v.dialect (fed s v.events) messages rest
     → IsFinal v s c messages
 final_placed v s causes.Drained messages rest h none emptied many reads =
     final_drained v s messages rest h none (emptied refl h.s h.state) many reads
@@ -339,13 +339,13 @@ split_at (y ∷ xs) (suc k) d low = let t = split_at xs k d (omega arith) in (y 
 
 -- the report is right where the port has ended and all is known, each request came back, and each session that is still
 -- open is emptied
-pub reported : (v : RunView) (end : WorkerView) (unopened : ℕ) → IsTraceKnown v unopened true → v.posted ≡ end.sent
+pub reported : (v : RunView) (end : WorkerView) (unopened : ℕ) → IsTraceKnown v unopened true → v.numbered ≡ end.sent
     → v.back ≡ end.back
     → asked_posted end.back ≡ end.sent → ((s : ℕ) → v.piece s ≡ held_of (session_of v.book s))
     → ((s : ℕ) → cause_of v.sessions s ≡ Some causes.Drained → (st : SessionState) → session_of v.book s ≡ Some st
     → IsEmptied st)
     → IsReported v.dialect v.events end v.sessions unopened
-reported v end unopened h posted back all none emptied = record {
+reported v end unopened h numbered back all none emptied = record {
   listed = record {
     ended = h.at_end;
     once = rises_strictly 0 v.sessions h.rising;
@@ -357,19 +357,19 @@ reported v end unopened h posted back all none emptied = record {
     placed = λ k d low.
         let p = slice_index_or end.sent k d in let t = split_at end.sent k d low in
         is_there (cause_of v.sessions p.session)
-        (λ e. asked_some t.0 t.1 p (ap (λ (l : List Posted). asked_by l p.session) (sym t.2 ∙ sym posted)
+        (λ e. asked_some t.0 t.1 p (ap (λ (l : List Posted). asked_by l p.session) (sym t.2 ∙ sym numbered)
         ∙ (unplaced_given (facts v p.session) (facts v p.session).port.opened (facts v p.session).cause
         (h.each p.session).known e).1));
   };
   answered = λ history share asks_all s c messages rest e reads.
-      let many : length (asked_by v.posted s) ≡ length (had_by v.back s) =
-      as_many v.back v.posted s (ap asked_posted back ∙ all ∙ sym posted) in
+      let many : length (asked_by v.numbered s) ≡ length (had_by v.back s) =
+      as_many v.back v.numbered s (ap asked_posted back ∙ all ∙ sym numbered) in
       let placed = placed_as (facts v s) c (facts v s).port.opened (facts v s).cause (h.each s).known e in
       let k = final_placed v s c messages rest placed (none s) (λ d. emptied s (e ∙ ap Some d)) many reads in
-      let qa : asked (session_share history end.worker s) ≡ asked_by v.posted s =
+      let qa : asked (session_share history end.worker s) ≡ asked_by v.numbered s =
       ap asked (share_of history end.worker s)
       ∙ asked_from (worker_share history end.worker) s
-      ∙ ap (λ (l : List Posted). asked_by l s) (asks_all ∙ sym posted) in
+      ∙ ap (λ (l : List Posted). asked_by l s) (asks_all ∙ sym numbered) in
       let qh : had (session_share history end.worker s) ≡ had_by v.back s = ap had (share_of history end.worker s)
       ∙ ap (λ (l : List Answered). had_by l s) (share ∙ sym back) in record {
         answers = record {

@@ -45,7 +45,7 @@ at_same t x y = ap (λ b. cond b x y) (eq-eqb t t refl)
 pub record ClosesIn (w w' : RunView) (t : ℕ) (cause : EndCause) (x : PortRecord) : Type 0 where
   pub dialect : w'.dialect ≡ w.dialect
   pub events : w'.events ≡ w.events ++ x ∷ []
-  pub posted : w'.posted ≡ w.posted
+  pub numbered : w'.numbered ≡ w.numbered
   pub back : w'.back ≡ w.back
   pub sessions : w'.sessions ≡ with_cause w.sessions t cause
   pub book : (s : ℕ) → session_of w'.book s ≡ cond (s == t) None (session_of w.book s)
@@ -58,7 +58,7 @@ pub closes_elsewhere : (w w' : RunView) (t : ℕ) (c : EndCause) (x : PortRecord
 closes_elsewhere w w' t c x h other s ne =
     facts_equal (facts w' s) (facts w s) h.dialect
     (ap (λ l. port_facts l s) h.events ∙ elsewhere w.events x s (other s ne))
-    (ap (λ l. asked_by l s) h.posted) (ap (λ l. had_by l s) h.back)
+    (ap (λ l. asked_by l s) h.numbered) (ap (λ l. had_by l s) h.back)
     (ap (λ l. cause_of l s) h.sessions ∙ cause_apart w.sessions s t c ne)
     (h.book s ∙ at_other t s None (session_of w.book s) ne)
     (h.piece s ∙ at_other t s [] (w.piece s) ne)
@@ -79,7 +79,7 @@ closes_here : (w w' : RunView) (t : ℕ) (c old : EndCause) (x : PortRecord) (po
 closes_here w w' t c old x port h p e = record {
   dialect = h.dialect;
   port_is = ap (λ l. port_facts l t) h.events ∙ p;
-  asked = ap (λ l. asked_by l t) h.posted;
+  asked = ap (λ l. asked_by l t) h.numbered;
   had = ap (λ l. had_by l t) h.back;
   cause_is = ap (λ l. cause_of l t) h.sessions ∙ cause_here w.sessions t c old e;
   state = h.book t ∙ at_same t None (session_of w.book t);

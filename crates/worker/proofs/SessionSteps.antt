@@ -14,7 +14,7 @@ use Rattle.proto.specs.Answers.{said}
 use Rattle.exchange.specs.Beginnings.{StartsWith}
 use Rattle.session_book.specs.declared.causes.EndCause.{EndCause}
 use Rattle.session_book.specs.declared.causes.EndCause.TheVariants as causes
-use Rattle.session_book.specs.Session.{SessionState, ended_by, new_session, once_fed, once_over, holding, ReadsMessages}
+use Rattle.session_book.specs.Session.{SessionState, ended_by, new_session, once_fed, once_input_ended, holding, ReadsMessages}
 use Rattle.session_book.specs.Session.{with_reply, gave}
 use Rattle.session_book.specs.Accounts.{HasRead, HasSaid}
 use Rattle.worker.specs.Sessions.{SessionFacts, IsUntouched, IsUnopened, IsSessionServed, IsRunning, BeginsWith, IsWhole, IsCaused, IsClosed, IsReportedAs}
@@ -108,7 +108,7 @@ runs_on f g s held r opened gone shut cause served =
         has_read = served.has_read;
         has_said = served.has_said;
         asked = served.asked;
-        over = served.over;
+        input_ended = served.input_ended;
       };
     })
 
@@ -140,7 +140,7 @@ is_unopened f o e h = record {
 
 -- a session of which nothing came, and for which nothing was asked, had or given, is served in the state of a new one
 pub served_new : (f : SessionFacts) → f.port.fed ≡ [] → f.port.given ≡ [] → f.had ≡ [] → f.asked ≡ [] → f.piece ≡ []
-    → f.port.over ≡ false → IsSessionServed f.piece f (new_session f.dialect)
+    → f.port.input_ended ≡ false → IsSessionServed f.piece f (new_session f.dialect)
 served_new f fed_is given_is had_is asked_is piece_is goes_on = record {
   bytes = [];
   messages = [];
@@ -149,7 +149,7 @@ served_new f fed_is given_is had_is asked_is piece_is goes_on = record {
   has_said = subst (λ (x : List Reply × List ℕ). HasSaid [] x.0 x.1 (new_session f.dialect))
       (λ i. (sym had_is i, sym given_is i)) (starts_accounts f.dialect).1;
   asked = asked_is;
-  over = sym goes_on;
+  input_ended = sym goes_on;
 }
 
 -- bytes came, which are held at first
@@ -162,14 +162,14 @@ served_came f s held more h = record {
   has_read = h.has_read;
   has_said = h.has_said;
   asked = h.asked;
-  over = h.over;
+  input_ended = h.input_ended;
 }
 
 -- what a session is fed leaves whether its input has ended
-fed_over : (ended : Bool) (s : SessionState) (b : List ℕ)
-    → (cond ended s (record s { unread = s.unread ++ b })).is_over ≡ s.is_over
-fed_over true s b = refl
-fed_over false s b = refl
+fed_input_ended : (ended : Bool) (s : SessionState) (b : List ℕ)
+    → (cond ended s (record s { unread = s.unread ++ b })).input_ended ≡ s.input_ended
+fed_input_ended true s b = refl
+fed_input_ended false s b = refl
 
 -- held bytes are fed
 pub served_fed : (f : SessionFacts) (s : SessionState) (held : List ℕ) → IsSessionServed held f s
@@ -182,7 +182,7 @@ served_fed f s held h =
       has_read = k.0;
       has_said = k.1;
       asked = h.asked;
-      over = fed_over (is_some s.ended) s held ∙ h.over;
+      input_ended = fed_input_ended (is_some s.ended) s held ∙ h.input_ended;
     }
 
 -- a piece is held, or no longer
@@ -203,13 +203,13 @@ served_holding f s held piece h = record {
   };
   has_said = record { whole = h.has_said.whole; queue = h.has_said.queue; replied = h.has_said.replied };
   asked = h.asked;
-  over = h.over;
+  input_ended = h.input_ended;
 }
 
 -- the input has ended
-pub served_over : (f : SessionFacts) (s : SessionState) (held : List ℕ) → IsSessionServed held f s
-    → IsSessionServed held (record f { port = record f.port { over = true } }) (once_over s)
-served_over f s held h = record {
+pub served_input_ended : (f : SessionFacts) (s : SessionState) (held : List ℕ) → IsSessionServed held f s
+    → IsSessionServed held (record f { port = record f.port { input_ended = true } }) (once_input_ended s)
+served_input_ended f s held h = record {
   bytes = h.bytes;
   messages = h.messages;
   fed = h.fed;
@@ -224,7 +224,7 @@ served_over f s held h = record {
   };
   has_said = record { whole = h.has_said.whole; queue = h.has_said.queue; replied = h.has_said.replied };
   asked = h.asked;
-  over = refl;
+  input_ended = refl;
 }
 
 -- messages are read, and their requests asked
@@ -239,7 +239,7 @@ served_read f s after held more r h =
       has_read = k.0;
       has_said = k.1;
       asked = ap (λ (x : List Request). x ++ asks more) h.asked ∙ sym (asks-append h.messages more);
-      over = r.over ∙ h.over;
+      input_ended = r.input_ended ∙ h.input_ended;
     }
 
 -- a reply is settled
@@ -254,7 +254,7 @@ served_settled f s held r some h =
       has_read = k.0;
       has_said = k.1;
       asked = h.asked;
-      over = h.over;
+      input_ended = h.input_ended;
     }
 
 -- output is given
@@ -268,7 +268,7 @@ served_gave f s held n h =
       has_read = k.0;
       has_said = k.1;
       asked = h.asked;
-      over = h.over;
+      input_ended = h.input_ended;
     }
 
 -- ---- closing
@@ -300,7 +300,7 @@ closed_as : (f g : SessionFacts) (s : SessionState) (held : List ℕ) (c : EndCa
     → Stays f g → IsCaused g h.messages ((s.unread ++ h.has_read.dropped) ++ held) c
     → (g.port.gone ≡ true) ⊎ (g.port.shut ≡ true) → IsClosed g c
 unfolding begins
-closed_as f g s held c h k caused over =
+closed_as f g s held c h k caused closed =
     let b = begins f.dialect h.bytes held g.port.fed h.messages s (k.fed ∙ h.fed) h.has_read in record {
       messages = h.messages;
       rest = b.0;
@@ -308,7 +308,7 @@ closed_as f g s held c h k caused over =
       asked = k.asked ∙ h.asked;
       said = (s.out, ap (said h.messages) k.had ∙ sym h.has_said.whole ∙ ap (λ (x : List ℕ). x ++ s.out) (sym k.given));
       caused = caused;
-      over = over;
+      closed = closed;
       state = k.state;
     }
 
@@ -337,7 +337,7 @@ closed_starved f g s held r h k shut =
       asked = k.asked ∙ h.asked;
       said = (more.0, ap (said h.messages) k.had ∙ more.1 ∙ ap (λ (x : List ℕ). x ++ more.0) (sym k.given));
       caused = shut;
-      over = inr shut;
+      closed = inr shut;
       state = k.state;
     }
 
@@ -395,7 +395,7 @@ caused_by g ms rest causes.NoMemory (inr (inr e)) shut w = cc
 pub record RunsOut (s : SessionState) (c : EndCause) : Type 0 where
   pub is : c ≡ causes.EndOfInput
   pub open_yet : s.ended ≡ None
-  pub over : s.is_over ≡ true
+  pub input_ended : s.input_ended ≡ true
   pub held : s.held ≡ []
   pub none : SpellsNone s.dialect s.unread
 
@@ -405,7 +405,7 @@ Ends s c = (s.ended ≡ Some c) ⊎ RunsOut s c
 
 -- a served session without queue and output that was shut is closed with what has ended it
 pub closed_finished : (f g : SessionFacts) (s : SessionState) (held : List ℕ) (c : EndCause) → IsSessionServed held f s
-    → Stays f g → s.queue ≡ [] → s.out ≡ [] → held ≡ s.held → g.port.over ≡ f.port.over → Ends s c
+    → Stays f g → s.queue ≡ [] → s.out ≡ [] → held ≡ s.held → g.port.input_ended ≡ f.port.input_ended → Ends s c
     → g.port.shut ≡ true → IsClosed g c
 closed_finished f g s held c h k queue out holds same (inl ended) shut =
     let is : IsEnding (Some c) = subst IsEnding (sym h.has_read.ended ∙ ended) (ending None h.messages (inl refl)) in
@@ -418,7 +418,7 @@ closed_finished f g s held c h k queue out holds same (inr o) shut =
     ∙ ap (λ (x : List ℕ). s.unread ++ x) (h.has_read.nothing_dropped o.open_yet) ∙ append-nil s.unread in
     let dialect : s.dialect ≡ g.dialect = h.has_read.dialect ∙ sym k.dialect in
     closed_as f g s held c h k (subst (λ (x : EndCause). IsCaused g h.messages behind x) (sym o.is) (record {
-      over = same ∙ sym h.over ∙ o.over;
+      input_ended = same ∙ sym h.input_ended ∙ o.input_ended;
       shut = shut;
       none = subst (λ (y : Dialect × List ℕ). SpellsNone y.0 y.1) (λ i. (dialect i, sym behind_is i)) o.none;
       whole = whole_as f g s held None h k queue out o.open_yet;
@@ -431,7 +431,7 @@ caused_more : (f : SessionFacts) (r : Reply) (ms : List Message) (rest : List �
     → IsCaused (record f { had = f.had ++ r ∷ [] }) ms rest c
 caused_more f r ms rest causes.Drained h = h
 caused_more f r ms rest causes.EndOfInput h = record {
-  over = h.over;
+  input_ended = h.input_ended;
   shut = h.shut;
   none = h.none;
   whole = (
@@ -462,7 +462,7 @@ closed_dropped f r c h = record {
   said = begins_on f.port.given (said h.messages f.had) (said h.messages (f.had ++ r ∷ [])) h.said
       (said_more h.messages f.had (r ∷ []));
   caused = caused_more f r h.messages h.rest c h.caused;
-  over = h.over;
+  closed = h.closed;
   state = h.state;
 }
 

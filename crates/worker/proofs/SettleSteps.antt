@@ -27,7 +27,7 @@ use Rattle.worker.specs.Sessions.{RunView, facts, asked_by, had_by, cause_of, Ar
 use Rattle.worker_port.specs.PortFacts.{PortFacts, port_facts}
 use Rattle.worker_port.specs.Ports.{PortTrace, then_told, is_in}
 use Rattle.worker.specs.EndCauses.{CausesRiseFrom, piece_of}
-use Rattle.worker.specs.Workers.{once_flushed, end_of, posted_by, unsettled_post, IsNumbered}
+use Rattle.worker.specs.Workers.{once_flushed, end_of, numbered_by, unsettled_post, IsNumbered}
 use Rattle.worker.specs.Workers.{IsSteady, IsTraceKnown, run_view, IsWorkerServing}
 use Rattle.worker.specs.Workers.{TakesNone, TakesBack, Shuts}
 use Rattle.worker.proofs.Facts.{had_here, had_elsewhere}
@@ -93,7 +93,7 @@ at_append (y ∷ l) m (suc n) x e = at_append l m n x e
 -- a request has its place among those sent also where the held one is counted with them
 pub at_posted : (end : WorkerView) (request : Option Posted) (a : Answered)
     → get_elem? end.sent (length end.back) ≡ some (posted_of a)
-    → get_elem? (posted_by end request) (length end.back) ≡ some (posted_of a)
+    → get_elem? (numbered_by end request) (length end.back) ≡ some (posted_of a)
 at_posted end request a e = at_append end.sent (option_to_list request) (length end.back) (posted_of a) e
 
 -- the answer is that of the book's oldest unsettled request
@@ -101,9 +101,9 @@ pub oldest_first : (end : WorkerView) (request : Option Posted) (book : BookStat
     → IsSteady end request book
     → get_elem? end.sent (length end.back) ≡ some (posted_of a)
     → book.unsettled ≡ unsettled_post (posted_of a) ∷ map unsettled_post
-    (drop (suc (length end.back)) (posted_by end request))
+    (drop (suc (length end.back)) (numbered_by end request))
 oldest_first end request book a h e = h.unsettled ∙ ap (map unsettled_post)
-    (rest_at (posted_by end request) (length end.back) (posted_of a) (at_posted end request a e))
+    (rest_at (numbered_by end request) (length end.back) (posted_of a) (at_posted end request a e))
 
 -- an answer to the first request that hadn't come back is that of the book's oldest unsettled request
 pub is_oldest : (end : WorkerView) (request : Option Posted) (book : BookState) (a : Answered)
@@ -114,18 +114,18 @@ is_oldest end request book a h e = ap (λ (l : List Unsettled). slice_get l 0) (
 -- the end and the book agree still once the end took back an answer and the book's oldest request is no longer unsettled
 pub steady_taken : (end end' : WorkerView) (request : Option Posted) (book book' : BookState) (a : Answered)
     → IsSteady end request book
-    → TakesBack end end' a → book'.posted ≡ book.posted → book'.unsettled ≡ drop 1 book.unsettled
+    → TakesBack end end' a → book'.numbered ≡ book.numbered → book'.unsettled ≡ drop 1 book.unsettled
     → IsSteady end' request book'
 steady_taken end end' request book book' a h k p u =
     let len : length end'.back ≡ suc (length end.back) =
     ap (length {A = Answered}) k.back ∙ (let x = length-append end.back (a ∷ []) in omega arith) in
-    let posted : posted_by end' request ≡ posted_by end request =
+    let numbered : numbered_by end' request ≡ numbered_by end request =
     ap (λ (l : List Posted). l ++ option_to_list request) k.sent in record {
       running = k.running ∙ h.running;
-      posted = p ∙ h.posted ∙ ap (length {A = Posted}) (sym posted);
-      numbered = numbered_as end end' request (ap (length {A = Posted}) k.sent) h.numbered;
+      numbered = p ∙ h.numbered ∙ ap (length {A = Posted}) (sym numbered);
+      held = numbered_as end end' request (ap (length {A = Posted}) k.sent) h.held;
       unsettled = u ∙ ap (drop 1) (oldest_first end request book a h k.own)
-          ∙ (λ i. map unsettled_post (drop (sym len i) (sym posted i)));
+          ∙ (λ i. map unsettled_post (drop (sym len i) (sym numbered i)));
       back = ap asked_posted k.back ∙ asked_more end.back a ∙ ap (λ (l : List Posted). l ++ posted_of a ∷ []) h.back
           ∙ sym (take_more end.sent (length end.back) (posted_of a) k.own) ∙ (λ i. take (sym len i) (sym k.sent i));
       told = k.told h.told;
@@ -137,7 +137,7 @@ steady_taken end end' request book book' a h k p u =
 record TakesIn (v v' : RunView) (a : Answered) (st : Option SessionState) : Type 0 where
   dialect : v'.dialect ≡ v.dialect
   events : v'.events ≡ v.events
-  posted : v'.posted ≡ v.posted
+  numbered : v'.numbered ≡ v.numbered
   back : v'.back ≡ v.back ++ a ∷ []
   sessions : v'.sessions ≡ v.sessions
   book : (k : ℕ) → session_of v'.book k ≡ cond (k == a.session) st (session_of v.book k)
@@ -148,7 +148,7 @@ taken_elsewhere : (v v' : RunView) (a : Answered) (st : Option SessionState) →
     → a.session ≢ k → facts v' k ≡ facts v k
 taken_elsewhere v v' a st h k ne =
     facts_equal (facts v' k) (facts v k) h.dialect (ap (λ l. port_facts l k) h.events)
-    (λ i. (facts (record v { posted = h.posted i }) k).asked)
+    (λ i. (facts (record v { numbered = h.numbered i }) k).asked)
     (ap (λ l. had_by l k) h.back ∙ had_elsewhere v.back a k ne)
     (λ i. (facts (record v { sessions = h.sessions i }) k).cause)
     (h.book k ∙ at_other a.session k st (session_of v.book k) ne) (λ i. h.piece i k)
@@ -160,7 +160,7 @@ taken_here v v' a st h =
     let t = a.session in
     facts_equal (facts v' t) (record (facts v t) { had = had_by v.back t ++ a.reply ∷ []; state = st }) h.dialect
     (ap (λ l. port_facts l t) h.events)
-    (λ i. (facts (record v { posted = h.posted i }) t).asked) (ap (λ l. had_by l t) h.back ∙ had_here v.back a t refl)
+    (λ i. (facts (record v { numbered = h.numbered i }) t).asked) (ap (λ l. had_by l t) h.back ∙ had_here v.back a t refl)
     (λ i. (facts (record v { sessions = h.sessions i }) t).cause) (h.book t ∙ at_same t st (session_of v.book t))
     (λ i. h.piece i t)
 
@@ -187,7 +187,7 @@ told_kept v v' unopened ended a s h open_is has k =
 -- all is known still once an answer came back for a session that is no longer open and has asked something
 told_dropped : (v v' : RunView) (unopened : ℕ) (ended : Bool) (a : Answered) → IsTraceKnown v unopened ended
     → session_of v.book a.session ≡ None
-    → (asked_by v.posted a.session ≡ [] → ⊥) → TakesIn v v' a None → IsTraceKnown v' unopened ended
+    → (asked_by v.numbered a.session ≡ [] → ⊥) → TakesIn v v' a None → IsTraceKnown v' unopened ended
 told_dropped v v' unopened ended a h closed has k =
     let t = a.session in
     let now = dropped (facts v t) a.reply closed has (h.each t) in
@@ -218,7 +218,7 @@ taken_in : {P : Type 0} (trace : PortTrace) (old new : WorkerState P) (a : Answe
 taken_in trace old new a st k b book = record {
   dialect = refl;
   events = refl;
-  posted = λ i. b.sent i ++ option_to_list (k.request i);
+  numbered = λ i. b.sent i ++ option_to_list (k.request i);
   back = b.back;
   sessions = λ i. (k.sessions i).items;
   book = book;
@@ -228,7 +228,7 @@ taken_in trace old new a st k b book = record {
 -- a worker that took back an answer goes on, where the book's oldest request is no longer unsettled, the held pieces stay, and
 -- all is known still
 answer_goes_on : {P : Type 0} (told : P → Option PortTrace) (old new : WorkerState P) (a : Answered) → KeepsRest old new
-    → TakesBack (end_of old) (end_of new) a → IsWorkerServing told old → new.book.posted ≡ old.book.posted
+    → TakesBack (end_of old) (end_of new) a → IsWorkerServing told old → new.book.numbered ≡ old.book.numbered
     → new.book.unsettled ≡ drop 1 old.book.unsettled → new.book.dialect ≡ old.book.dialect
     → ((s : ℕ) → piece_of new.book s ≡ piece_of old.book s)
     → ((trace : PortTrace) → IsTraceKnown (run_view trace old) old.unopened old.ended
@@ -257,12 +257,12 @@ steady_still : (end end' : WorkerView) (request : Option Posted) (book : BookSta
     → IsSteady end request book
     → IsSteady end' request book
 steady_still end end' request book k h =
-    let posted : posted_by end' request ≡ posted_by end request =
+    let numbered : numbered_by end' request ≡ numbered_by end request =
     ap (λ (l : List Posted). l ++ option_to_list request) k.sent in record {
       running = k.running ∙ h.running;
-      posted = h.posted ∙ ap (length {A = Posted}) (sym posted);
-      numbered = numbered_as end end' request (ap (length {A = Posted}) k.sent) h.numbered;
-      unsettled = h.unsettled ∙ (λ i. map unsettled_post (drop (length (sym k.back i)) (sym posted i)));
+      numbered = h.numbered ∙ ap (length {A = Posted}) (sym numbered);
+      held = numbered_as end end' request (ap (length {A = Posted}) k.sent) h.held;
+      unsettled = h.unsettled ∙ (λ i. map unsettled_post (drop (length (sym k.back i)) (sym numbered i)));
       back = ap asked_posted k.back ∙ h.back ∙ (λ i. take (length (sym k.back i)) (sym k.sent i));
       told = k.told h.told;
     }
@@ -285,7 +285,7 @@ none_taken_goes_on told old batch k h =
     (λ trace e was_so. (
       subst (λ (v : RunView). IsTraceKnown v old.unopened old.ended)
           (λ i. record (run_view trace old) {
-            posted = sym k.sent i ++ option_to_list old.request;
+            numbered = sym k.sent i ++ option_to_list old.request;
             back = sym k.back i;
           }) was_so.0,
       was_so.1,
@@ -312,7 +312,7 @@ pub kept_goes_on : {P : Type 0} (told : P → Option PortTrace) (old new : Worke
     → TakesBack (end_of old) (end_of new) a → IsWorkerServing told old → SettlesReply old.book new.book a
     → WorkerGoesOn told old new
 kept_goes_on told old new a k b h r =
-    answer_goes_on told old new a k b h (ap (λ (x : BookState). x.posted) r.settles.rest)
+    answer_goes_on told old new a k b h (ap (λ (x : BookState). x.numbered) r.settles.rest)
     (ap (λ (x : BookState). x.unsettled) r.settles.rest) (ap (λ (x : BookState). x.dialect) r.settles.rest)
     (pieces_kept old.book new.book a.session (Some (with_reply r.s a.reply)) r.settles.only_at
     (sym (ap held_of r.was_open)))
@@ -326,13 +326,13 @@ pub dropped_goes_on : {P : Type 0} (told : P → Option PortTrace) (old new : Wo
     → SettlesOldest old.book new.book a None
     → WorkerGoesOn told old new
 dropped_goes_on told old new a k b h closed r =
-    answer_goes_on told old new a k b h (ap (λ (x : BookState). x.posted) r.rest)
+    answer_goes_on told old new a k b h (ap (λ (x : BookState). x.numbered) r.rest)
     (ap (λ (x : BookState). x.unsettled) r.rest) (ap (λ (x : BookState). x.dialect) r.rest)
     (pieces_kept old.book new.book a.session None r.only_at (sym (ap held_of closed)))
     (λ trace was_told.
     told_dropped (run_view trace old) (record (run_view trace new) { piece = piece_of old.book }) old.unopened old.ended
     a was_told closed
-    (some_asked (posted_by (end_of old) old.request) (length (end_of old).back) a.session (posted_of a)
+    (some_asked (numbered_by (end_of old) old.request) (length (end_of old).back) a.session (posted_of a)
     (at_posted (end_of old) old.request a b.own) refl) (taken_in trace old new a None k b r.only_at))
 
 -- all is known still once a reply came back that found no memory, and its session was shut
@@ -351,7 +351,7 @@ told_starved v u v' unopened ended a s h open_is k c =
       dialect = here.dialect ∙ k.dialect;
       fed = ap (λ (p : PortFacts). p.fed) here.port_is ∙ ap (λ (p : PortFacts). p.fed) port_same;
       given = ap (λ (p : PortFacts). p.given) here.port_is ∙ ap (λ (p : PortFacts). p.given) port_same;
-      asked = here.asked ∙ (λ i. asked_by (k.posted i) t);
+      asked = here.asked ∙ (λ i. asked_by (k.numbered i) t);
       had = here.had ∙ ap (λ l. had_by l t) k.back ∙ had_here v.back a t refl;
       state = here.state;
     } in
@@ -385,7 +385,7 @@ starved_goes_on {P} told old mid new a s k b h open_is r c =
     let steady : IsSteady (end_of mid) mid.request mid.book =
     subst (λ (q : Option Posted). IsSteady (end_of mid) q mid.book) (sym k.request)
     (steady_taken (end_of old) (end_of mid) old.request old.book mid.book a h.steady b
-    (ap (λ (x : BookState). x.posted) r.rest)
+    (ap (λ (x : BookState). x.numbered) r.rest)
     (ap (λ (x : BookState). x.unsettled) r.rest)) in
     let same = same_end mid new c.closes.end in let f = then_told (was.Shut a.session ∷ []) in
     steps_on told old new f (λ s q. q) (c.port ∙ ap (λ (p : P). option_map f (told p)) k.port) (record {
@@ -408,7 +408,7 @@ starved_goes_on {P} told old mid new a s k b h open_is r c =
           (taken_in trace old mid a None k b r.only_at) (record {
             dialect = closes.dialect;
             events = closes.events;
-            posted = closes.posted;
+            numbered = closes.numbered;
             back = closes.back;
             sessions = closes.sessions;
             book = closes.book;

@@ -7,7 +7,7 @@ use Rattle.proto.specs.declared.history.Posted.{Posted}
 use Rattle.exchange.specs.Ends.{WorkerView}
 use Rattle.session_book.specs.declared.causes.EndCause.{EndCause}
 use Rattle.session_book.specs.declared.causes.EndCause.TheVariants as causes
-use Rattle.session_book.specs.Session.{SessionState, once_fed, once_over, holding}
+use Rattle.session_book.specs.Session.{SessionState, once_fed, once_input_ended, holding}
 use Rattle.session_book.specs.Book.{BookState, session_of}
 use Rattle.worker_port.specs.declared.events.PortRecord.{PortRecord}
 use Rattle.worker_port.specs.declared.events.PortRecord.TheVariants as was
@@ -17,14 +17,14 @@ use Rattle.worker.specs.Sessions.{SessionFacts, RunView, facts, asked_by, had_by
 use Rattle.worker_port.specs.PortFacts.{PortFacts, port_facts}
 use Rattle.worker.specs.Sessions.{IsClosed}
 use Rattle.worker.specs.EndCauses.{CausesRiseFrom, piece_of}
-use Rattle.worker.specs.Workers.{end_of, posted_by, IsSteady, IsTraceKnown, run_view, ArePaused, IsWorkerServing, IsSameEnd, IsLaterEnd}
+use Rattle.worker.specs.Workers.{end_of, numbered_by, IsSteady, IsTraceKnown, run_view, ArePaused, IsWorkerServing, IsSameEnd, IsLaterEnd}
 use Rattle.worker_port.specs.Giving.{IsTraceOf}
 use Rattle.exchange.proofs.Lists.{starts_trans}
 use Rattle.worker.specs.Workers.{Continues, Closes, Shuts, LeavesWorker, IsTraceBy}
 use Rattle.worker.proofs.EndCauseLemmas.{rises_with, length-with}
-use Rattle.worker_port.proofs.Facts.{about, elsewhere, fed_here, over_here}
+use Rattle.worker_port.proofs.Facts.{about, elsewhere, fed_here, input_ended_here}
 use Rattle.worker.proofs.SessionSteps.{Runs, runs, runs_at_port, runs_on, Ends, closed_gone, closed_no_memory, closed_finished, served_came, served_fed}
-use Rattle.worker.proofs.SessionSteps.{served_holding, served_over}
+use Rattle.worker.proofs.SessionSteps.{served_holding, served_input_ended}
 use Rattle.worker.proofs.TraceLaws.{told_before, tells_as, paused_but, paused_elsewhere}
 use Rattle.worker.proofs.PieceLaws.{pieces_at}
 use Rattle.worker.proofs.RunViews.{facts_equal, change_at, at_other, at_same, ClosesIn, shuts_here, goes_here, stays}
@@ -75,13 +75,13 @@ open_parts false g s e = absurd (true≢false (sym e))
 pub open_of : (o g s : Bool) → o ≡ true → g ≡ false → s ≡ false → (o && not (g || s)) ≡ true
 open_of o g s a b c = ap (λ (x : Bool × Bool × Bool). x.0 && not (x.1 || x.2)) (λ i. (a i, b i, c i))
 
--- the end agrees with each book that has as many requests posted, and the same ones unsettled
-pub steady_same : (end : WorkerView) (request : Option Posted) (book book' : BookState) → book'.posted ≡ book.posted
+-- the end agrees with each book that gave as many numbers, and has the same requests unsettled
+pub steady_same : (end : WorkerView) (request : Option Posted) (book book' : BookState) → book'.numbered ≡ book.numbered
     → book'.unsettled ≡ book.unsettled → IsSteady end request book → IsSteady end request book'
 steady_same end request book book' p u h = record {
   running = h.running;
-  posted = p ∙ h.posted;
-  numbered = h.numbered;
+  numbered = p ∙ h.numbered;
+  held = h.held;
   unsettled = u
       ∙ h.unsettled;
   back = h.back;
@@ -154,7 +154,7 @@ told_finished v v' unopened ended t c h k r queue out held ends =
     let port = record (port_facts v.events t) { shut = true } in
     let st = stays (facts v t) (facts v' t) port c here refl refl in
     told_shut v v' unopened ended t c h k r (closed_finished (facts v t) (facts v' t) r.running.s
-    (facts v t).piece c r.running.served st queue out held (ap (λ (p : PortFacts). p.over) here.port_is) ends
+    (facts v t).piece c r.running.served st queue out held (ap (λ (p : PortFacts). p.input_ended) here.port_is) ends
     (ap (λ (p : PortFacts). p.shut) here.port_is))
 
 -- what a closing of the worker makes of its view
@@ -165,7 +165,7 @@ pub closes_in : {P : Type 0} (trace : PortTrace) (old new : WorkerState P) (t : 
 closes_in trace old new t c x k rises = record {
   dialect = refl;
   events = refl;
-  posted = λ i. posted_by (k.end i) (k.request i);
+  numbered = λ i. numbered_by (k.end i) (k.request i);
   back = ap (λ (w : WorkerView). w.back) k.end;
   sessions = k.sessions rises;
   book = k.book.only_at;
@@ -178,7 +178,7 @@ pub steady_closed : {P : Type 0} (old new : WorkerState P) (t : ℕ) (c : EndCau
     → IsSteady (end_of new) new.request new.book
 steady_closed old new t c k h =
     subst (λ (y : WorkerView × Option Posted). IsSteady y.0 y.1 new.book) (λ i. (sym k.end i, sym k.request i))
-    (steady_same (end_of old) old.request old.book new.book (ap (λ (b : BookState). b.posted) k.book.rest)
+    (steady_same (end_of old) old.request old.book new.book (ap (λ (b : BookState). b.numbered) k.book.rest)
     (ap (λ (b : BookState). b.unsettled) k.book.rest) h)
 
 -- an end that hasn't changed is the same end
@@ -240,10 +240,10 @@ own_closed told old new port t c k h = record {
   ended = k.ended;
 }
 
--- where the port and the book changed, which posted nothing
+-- where the port and the book changed, which gave no number
 pub own_within : {P : Type 0} (told : P → Option PortTrace) (old new : WorkerState P) (port : P)
     → LeavesWorker (record old { port = port }) new
-    → (new.book.posted ≡ old.book.posted) × (new.book.unsettled ≡ old.book.unsettled)
+    → (new.book.numbered ≡ old.book.numbered) × (new.book.unsettled ≡ old.book.unsettled)
     × (new.book.dialect ≡ old.book.dialect) → IsWorkerServing told old → OwnFacts old new
 own_within told old new port rest b h = record {
   same_end = same_end old new rest.end;
@@ -356,7 +356,7 @@ pub open_at : {P : Type 0} (told : P → Option PortTrace) (w : WorkerState P) (
 open_at told w t s h e = λ trace q. told_open (run_view trace w) w.unopened w.ended t s (h.known trace q) e
 
 -- the other facts stay where only the port's list, the book and a piece change at one session
-pub others_same : (v v' : RunView) (t : ℕ) (x : PortRecord) → v'.dialect ≡ v.dialect → v'.events ≡ v.events ++ x ∷ [] → v'.posted ≡ v.posted
+pub others_same : (v v' : RunView) (t : ℕ) (x : PortRecord) → v'.dialect ≡ v.dialect → v'.events ≡ v.events ++ x ∷ [] → v'.numbered ≡ v.numbered
     → v'.back ≡ v.back
     → v'.sessions ≡ v.sessions → ((s : ℕ) → t ≢ s → about s x ≡ false)
     → ((s : ℕ) → t ≢ s → session_of v'.book s ≡ session_of v.book s)
@@ -386,7 +386,7 @@ told_same v v' unopened ended x h e r same count proper each = record {
 -- the facts of the session at which something came
 pub fact_at : (v v' : RunView) (t : ℕ) (port : PortFacts) (st : Option SessionState) (q : List ℕ)
     → v'.dialect ≡ v.dialect → port_facts v'.events t ≡ port
-    → v'.posted ≡ v.posted → v'.back ≡ v.back → v'.sessions ≡ v.sessions → session_of v'.book t ≡ st → v'.piece t ≡ q
+    → v'.numbered ≡ v.numbered → v'.back ≡ v.back → v'.sessions ≡ v.sessions → session_of v'.book t ≡ st → v'.piece t ≡ q
     → facts v' t ≡ record (facts v t) { port = port; state = st; piece = q }
 fact_at v v' t port st q d e p b r s k = facts_equal (facts v' t)
     (record (facts v t) { port = port; state = st; piece = q }) d e
@@ -403,7 +403,7 @@ running_on f port s q r o g h served =
 -- bytes came and were fed
 pub told_fed : (v v' : RunView) (unopened : ℕ) (ended : Bool) (t : ℕ) (b : List ℕ) → IsTraceKnown v unopened ended
     → is_open t v.events ≡ true
-    → v.piece t ≡ [] → v'.dialect ≡ v.dialect → v'.events ≡ v.events ++ was.Data t b ∷ [] → v'.posted ≡ v.posted → v'.back ≡ v.back
+    → v.piece t ≡ [] → v'.dialect ≡ v.dialect → v'.events ≡ v.events ++ was.Data t b ∷ [] → v'.numbered ≡ v.numbered → v'.back ≡ v.back
     → v'.sessions ≡ v.sessions
     → ((s : ℕ) → session_of v'.book s ≡ cond (s == t)
     (option_map (λ (x : SessionState). once_fed x b) (session_of v.book t)) (session_of v.book s))
@@ -432,34 +432,34 @@ told_fed v v' unopened ended t b h opened none d e p k r book piece =
     (λ s ne. piece s)) (subst AreFactsConsistent (sym here) now) (λ s ne. h.each s))
 
 -- the input has ended
-pub told_over : (v v' : RunView) (unopened : ℕ) (ended : Bool) (t : ℕ) → IsTraceKnown v unopened ended
+pub told_input_ended : (v v' : RunView) (unopened : ℕ) (ended : Bool) (t : ℕ) → IsTraceKnown v unopened ended
     → is_open t v.events ≡ true
-    → v'.dialect ≡ v.dialect → v'.events ≡ v.events ++ was.EndOfInput t ∷ [] → v'.posted ≡ v.posted → v'.back ≡ v.back
+    → v'.dialect ≡ v.dialect → v'.events ≡ v.events ++ was.EndOfInput t ∷ [] → v'.numbered ≡ v.numbered → v'.back ≡ v.back
     → v'.sessions ≡ v.sessions
-    → ((s : ℕ) → session_of v'.book s ≡ cond (s == t) (option_map once_over (session_of v.book t)) (session_of v.book s))
+    → ((s : ℕ) → session_of v'.book s ≡ cond (s == t) (option_map once_input_ended (session_of v.book t)) (session_of v.book s))
     → ((s : ℕ) → v'.piece s ≡ v.piece s) → IsTraceKnown v' unopened ended
-told_over v v' unopened ended t h opened d e p k r book piece =
+told_input_ended v v' unopened ended t h opened d e p k r book piece =
     let o = open_here v.events t opened in
     let run = runs_at_port (facts v t) (h.each t) o.0 o.1 o.2 in
     let s = run.running.s in
-    let port = record (port_facts v.events t) { over = true } in
-    let served = served_over (facts v t) s (v.piece t) run.running.served in
-    let state : session_of v'.book t ≡ Some (once_over s) =
-    book t ∙ at_same t (option_map once_over (session_of v.book t)) (session_of v.book t)
-    ∙ ap (option_map once_over) run.running.state in
-    let here = fact_at v v' t port (Some (once_over s)) (v.piece t) d
-    (ap (λ l. port_facts l t) e ∙ over_here v.events t) p k r state (piece t) in
-    let now = running_on (facts v t) port (once_over s) (v.piece t) run refl refl refl served in
+    let port = record (port_facts v.events t) { input_ended = true } in
+    let served = served_input_ended (facts v t) s (v.piece t) run.running.served in
+    let state : session_of v'.book t ≡ Some (once_input_ended s) =
+    book t ∙ at_same t (option_map once_input_ended (session_of v.book t)) (session_of v.book t)
+    ∙ ap (option_map once_input_ended) run.running.state in
+    let here = fact_at v v' t port (Some (once_input_ended s)) (v.piece t) d
+    (ap (λ l. port_facts l t) e ∙ input_ended_here v.events t) p k r state (piece t) in
+    let now = running_on (facts v t) port (once_input_ended s) (v.piece t) run refl refl refl served in
     told_same v v' unopened ended (was.EndOfInput t) h e r (ended_same v.events (was.EndOfInput t) refl)
     (count_same v.events (was.EndOfInput t) refl) tt
     (change_at t v v' (others_same v v' t (was.EndOfInput t) d e p k r (λ s ne. ne_eqb t s ne)
-    (λ s ne. book s ∙ at_other t s (option_map once_over (session_of v.book t)) (session_of v.book s) ne)
+    (λ s ne. book s ∙ at_other t s (option_map once_input_ended (session_of v.book t)) (session_of v.book s) ne)
     (λ s ne. piece s)) (subst AreFactsConsistent (sym here) now) (λ s ne. h.each s))
 
 -- bytes came and are held
 pub told_held : (v v' : RunView) (unopened : ℕ) (ended : Bool) (t : ℕ) (b : List ℕ) → IsTraceKnown v unopened ended
     → is_open t v.events ≡ true
-    → v.piece t ≡ [] → v'.dialect ≡ v.dialect → v'.events ≡ v.events ++ was.Data t b ∷ [] → v'.posted ≡ v.posted → v'.back ≡ v.back
+    → v.piece t ≡ [] → v'.dialect ≡ v.dialect → v'.events ≡ v.events ++ was.Data t b ∷ [] → v'.numbered ≡ v.numbered → v'.back ≡ v.back
     → v'.sessions ≡ v.sessions
     → ((s : ℕ) → session_of v'.book s ≡ cond (s == t)
     (option_map (λ (x : SessionState). holding x b) (session_of v.book t)) (session_of v.book s))

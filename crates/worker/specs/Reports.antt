@@ -70,7 +70,7 @@ pub record IsReported (d : Dialect) (events : List PortRecord) (end : WorkerView
       → Reads d (fed s events) messages rest → IsSessionAnswered events history end.worker s cause messages
 
 -- the end has said bye, and nothing is outstanding
-pub record IsOver (old new : WorkerView) : Type 0 where
+pub record HasSaidBye (old new : WorkerView) : Type 0 where
   pub exchange : new.exchange ≡ old.exchange
   pub worker : new.worker ≡ old.worker
   pub said_bye : new.said_bye ≡ true

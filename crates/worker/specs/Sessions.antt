@@ -19,9 +19,9 @@ use Rattle.session_book.specs.Accounts.{HasRead, HasSaid}
 use Rattle.worker_port.specs.declared.events.PortRecord.{PortRecord}
 use Rattle.worker_port.specs.PortFacts.{PortFacts, port_facts}
 
--- the requests that were posted for a session
+-- the requests of a session, of those that got numbers
 abbrev pub asked_by : List Posted → ℕ → List Request
-asked_by posted s = map (λ (p : Posted). p.request) (filter (λ (p : Posted). p.session == s) posted)
+asked_by numbered s = map (λ (p : Posted). p.request) (filter (λ (p : Posted). p.session == s) numbered)
 
 -- the replies that came back for a session
 abbrev pub had_by : List Answered → ℕ → List Reply
@@ -32,8 +32,8 @@ abbrev pub cause_of : List (ℕ × EndCause) → ℕ → Option EndCause
 cause_of [] s = None
 cause_of (e ∷ sessions) s = if e.0 == s then Some e.1 else cause_of sessions s
 
--- What is known of a session: the dialect of its lines; what the port's list says of it; the requests that were posted for it, or are
--- held to be; the replies that came back; its entry in the report; its state in the book, while it is open;
+-- What is known of a session: the dialect of its lines; what the port's list says of it; the requests that got
+-- numbers for it; the replies that came back; its entry in the report; its state in the book, while it is open;
 -- and the piece of input that is held until it fits.
 pub record SessionFacts : Type 0 where
   pub dialect : Dialect
@@ -48,7 +48,7 @@ pub record SessionFacts : Type 0 where
 pub record IsUntouched (f : SessionFacts) : Type 0 where
   pub fed : f.port.fed ≡ []
   pub given : f.port.given ≡ []
-  pub over : f.port.over ≡ false
+  pub input_ended : f.port.input_ended ≡ false
   pub gone : f.port.gone ≡ false
   pub shut : f.port.shut ≡ false
   pub asked : f.asked ≡ []
@@ -72,7 +72,7 @@ pub record IsSessionServed (held : List ℕ) (f : SessionFacts) (s : SessionStat
   pub has_read : HasRead f.dialect bytes messages s
   pub has_said : HasSaid messages f.had f.port.given s
   pub asked : f.asked ≡ asks messages
-  pub over : s.is_over ≡ f.port.over
+  pub input_ended : s.input_ended ≡ f.port.input_ended
 
 -- the session is open at the port and in the book
 pub record IsRunning (f : SessionFacts) : Type 0 where
@@ -96,7 +96,7 @@ IsWhole f messages ended =
 
 -- the session was shut as its input had ended: no beginning of the rest spells a message, and all was answered and given
 pub record HasRunOut (f : SessionFacts) (messages : List Message) (rest : List ℕ) : Type 0 where
-  pub over : f.port.over ≡ true
+  pub input_ended : f.port.input_ended ≡ true
   pub shut : f.port.shut ≡ true
   pub none : SpellsNone f.dialect rest
   pub whole : IsWhole f messages None
@@ -118,7 +118,7 @@ pub record IsClosed (f : SessionFacts) (cause : EndCause) : Type 0 where
   pub asked : f.asked ≡ asks messages
   pub said : StartsWith (said messages f.had) f.port.given
   pub caused : IsCaused f messages rest cause
-  pub over : (f.port.gone ≡ true) ⊎ (f.port.shut ≡ true)
+  pub closed : (f.port.gone ≡ true) ⊎ (f.port.shut ≡ true)
   pub state : f.state ≡ None
 
 -- what is known of a session, by whether it was opened and by its entry in the report
@@ -138,12 +138,12 @@ IsKnownAs true cause f = IsReportedAs f cause
 pub record AreFactsConsistent (f : SessionFacts) : Type 0 where
   pub known : IsKnownAs f.port.opened f.cause f
 
--- What the facts of all sessions are read from: the dialect, the port's list, the requests posted, or held to be, the answers
+-- What the facts of all sessions are read from: the dialect, the port's list, the requests that got numbers, the answers
 -- that came back, the report, the book, and the pieces of input that are held.
 pub record RunView : Type 0 where
   pub dialect : Dialect
   pub events : List PortRecord
-  pub posted : List Posted
+  pub numbered : List Posted
   pub back : List Answered
   pub sessions : List (ℕ × EndCause)
   pub book : BookState
@@ -155,7 +155,7 @@ facts v s =
     record {
       dialect = v.dialect;
       port = port_facts v.events s;
-      asked = asked_by v.posted s;
+      asked = asked_by v.numbered s;
       had = had_by v.back s;
       cause = cause_of v.sessions s;
       state = session_of v.book s;

@@ -30,9 +30,9 @@ once_flushed batch = (with_put_sent batch).end
 abbrev pub end_of : {P : Type 0} → WorkerState P → WorkerView
 end_of w = once_flushed w.batch
 
--- the requests that were sent, and the one that is held
-abbrev pub posted_by : WorkerView → Option Posted → List Posted
-posted_by end request = end.sent ++ option_to_list request
+-- the requests that got numbers: those that were sent, and the one that is held
+abbrev pub numbered_by : WorkerView → Option Posted → List Posted
+numbered_by end request = end.sent ++ option_to_list request
 
 -- a held request has the number after those that were sent
 abbrev pub IsNumbered : WorkerView → Option Posted → Type 0
@@ -42,12 +42,12 @@ IsNumbered end (Some p) = p.number ≡ length end.sent + 1
 abbrev pub unsettled_post : Posted → Unsettled
 unsettled_post p = record { number = p.number; session = p.session }
 
--- The end and the book agree: the book's unsettled requests are those posted that didn't come back.
+-- The end and the book agree: the book's unsettled requests are those with numbers that didn't come back.
 pub record IsSteady (end : WorkerView) (request : Option Posted) (book : BookState) : Type 0 where
   pub running : end.said_bye ≡ false
-  pub posted : book.posted ≡ length (posted_by end request)
-  pub numbered : IsNumbered end request
-  pub unsettled : book.unsettled ≡ map unsettled_post (drop (length end.back) (posted_by end request))
+  pub numbered : book.numbered ≡ length (numbered_by end request)
+  pub held : IsNumbered end request
+  pub unsettled : book.unsettled ≡ map unsettled_post (drop (length end.back) (numbered_by end request))
   pub back : asked_posted end.back ≡ take (length end.back) end.sent
   pub told : WasTold end
 
@@ -66,7 +66,7 @@ run_view trace w =
     record {
       dialect = trace.dialect;
       events = trace.events;
-      posted = posted_by (end_of w) w.request;
+      numbered = numbered_by (end_of w) w.request;
       back = (end_of w).back;
       sessions = w.sessions.items;
       book = w.book;
@@ -150,7 +150,7 @@ pub record Admits {P : Type 0} (told : P → Option PortTrace) (old new : Worker
   pub port : new.port ≡ old.port
   pub sessions : new.sessions.items ≡ old.sessions.items ++ (session, causes.Drained) ∷ []
   pub book : OnlyAt old.book new.book session (Some (new_session old.book.dialect))
-  pub counts : (new.book.posted ≡ old.book.posted) × (new.book.unsettled ≡ old.book.unsettled)
+  pub counts : (new.book.numbered ≡ old.book.numbered) × (new.book.unsettled ≡ old.book.unsettled)
   pub dialect : new.book.dialect ≡ old.book.dialect
   pub unopened : new.unopened ≡ old.unopened
 

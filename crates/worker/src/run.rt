@@ -1,15 +1,16 @@
 //! The loop of a worker.
 
-ghost use Rattle.std.specs.Prelude.{◌≡◌, ◌<◌, [], length, true, false, None, is_some};
+ghost use Rattle.std.specs.Prelude.{◌≡◌, ◌<◌, length, true, false, None, is_some};
 ghost use Rattle.worker.specs.Workers.{end_of, once_flushed, Continues, IsDrained};
 ghost use Rattle.worker_port.specs.Ports.{PortTrace};
 ghost use Rattle.worker_port.specs.Giving.{IsTraceOf};
-ghost use Rattle.worker.specs.Reports.{IsReported, IsOver};
+ghost use Rattle.worker.specs.Reports.{IsReported, HasSaidBye};
+ghost use Rattle.worker.specs.Starts.{IsPortAt, HasSentNothing};
 
 use crate::gate::Gate;
 use crate::pauses::Pauses;
 use crate::session_list::SessionList;
-use crate::worker::{Worker, WorkerState};
+use crate::worker::{AskAgain, Worker, WorkerState};
 use exchange::{StorageSignals, Waits, WorkerBatch, WorkerEnd};
 use proto::{Dialect, WINDOW};
 use session_book::Task;
@@ -45,7 +46,7 @@ pub struct WorkerReport<P> {
     pub strangers: u64,
 }
 
-/// Takes one event. The time for which the port may wait isn't busy.
+/// Takes one event. The time for which the port may wait isn't busy. True if there was one.
 fn take_event<P: Port, R: Clock>(rt: &R, worker: &mut Worker<P>, pauses: &mut Pauses) -> bool
     ensures { Continues P.told P.leads_to worker.old worker.new }
 {
@@ -61,7 +62,7 @@ fn take_event<P: Port, R: Clock>(rt: &R, worker: &mut Worker<P>, pauses: &mut Pa
 
 /// Takes a few events. After each it reads the requests that the event brought, so a session's requests are read before the
 /// event that its client has gone. If a session has requests that can't be read now, few events are taken, and storage
-/// doesn't wait for them.
+/// doesn't wait for them. True if something was done.
 fn take_events<P: Port, G: Gate, R: Clock>(
     rt: &R,
     worker: &mut Worker<P>,
@@ -88,7 +89,7 @@ fn take_events<P: Port, G: Gate, R: Clock>(
     moved
 }
 
-/// Feeds each held piece that may fit by now.
+/// Feeds each held piece that may fit by now. True if something was done.
 fn feed_pieces<P: Port>(worker: &mut Worker<P>) -> bool
     ensures { Continues P.told P.leads_to worker.old worker.new }
 {
@@ -115,14 +116,15 @@ fn ask_session<P: Port, G: Gate>(
         ASKS_IN_A_ROW
     };
     for _ in 0..most {
-        if !worker.ask_and_post(session, gate, storage) {
-            return;
+        match worker.ask_and_put(session, gate, storage) {
+            AskAgain::Now => {}
+            AskAgain::Later => return,
         }
     }
     worker.state.book.ask_later(session);
 }
 
-/// Asks the sessions in turn, as long as requests can be asked. False if none was asked.
+/// Asks the sessions in turn, as long as requests can be asked. True if something was done.
 fn ask_sessions<P: Port, G: Gate>(
     worker: &mut Worker<P>,
     gate: &G,
@@ -149,7 +151,7 @@ fn ask_sessions<P: Port, G: Gate>(
     moved
 }
 
-/// Takes and settles all answers that are there.
+/// Takes and settles all answers that are there. True if something was done.
 fn settle_answers<P: Port, G: Gate>(worker: &mut Worker<P>, gate: &G) -> bool
     ensures { Continues P.told P.leads_to worker.old worker.new }
 {
@@ -164,6 +166,7 @@ fn settle_answers<P: Port, G: Gate>(worker: &mut Worker<P>, gate: &G) -> bool
 }
 
 /// Gives the output of the sessions that are to be taken up for the task, of `most` at most, and shuts those that have finished.
+/// True if something was done.
 fn give_output<P: Port>(worker: &mut Worker<P>, task: Task, most: usize) -> bool
     ensures { Continues P.told P.leads_to worker.old worker.new }
 {
@@ -174,7 +177,7 @@ fn give_output<P: Port>(worker: &mut Worker<P>, task: Task, most: usize) -> bool
     moved
 }
 
-/// Shuts the sessions that have the most output, until that of all is within its limit.
+/// Shuts the sessions that have the most output, until that of all is within its limit. True if something was done.
 fn limit_output<P: Port>(worker: &mut Worker<P>) -> bool
     ensures { Continues P.told P.leads_to worker.old worker.new }
 {
@@ -188,8 +191,8 @@ fn limit_output<P: Port>(worker: &mut Worker<P>) -> bool
     moved
 }
 
-/// One turn. False if there was nothing to do. It posts the held request, then what has come and what fits by now. Storage
-/// knows of all of it before the answers are looked for, so nothing is kept back while the worker waits.
+/// One turn. True if something was done. It puts the held request, then what has come and what fits by now. Storage knows of
+/// all of it before the answers are looked for, so nothing is kept back while the worker waits.
 fn take_turn<P: Port, G: Gate, R: Clock>(
     rt: &R,
     worker: &mut Worker<P>,
@@ -199,7 +202,7 @@ fn take_turn<P: Port, G: Gate, R: Clock>(
 ) -> bool
     ensures { Continues P.told P.leads_to worker.old worker.new }
 {
-    let held = worker.post(gate, storage);
+    let held = worker.put_held(gate, storage);
     let came = take_events(rt, worker, pauses, gate, storage);
     let fed = feed_pieces(worker);
     let asked = ask_sessions(worker, gate, storage);
@@ -247,14 +250,11 @@ pub fn run_worker<P: Port, G: Gate, R: Wait + Clock>(
     gate: &G,
     storage: &StorageSignals,
 ) -> WorkerReport<P>
-    requires port { (trace : PortTrace) → P.told port ≡ Some trace → trace.events ≡ [] }
-    requires whose { (trace : PortTrace) → P.told port ≡ Some trace → IsTraceOf trace worker_end }
-    requires spelled { (trace : PortTrace) → P.told port ≡ Some trace → trace.dialect ≡ dialect }
-    requires fresh { (worker_end.sent ≡ []) × (worker_end.back ≡ []) × (worker_end.said_bye ≡ false) }
-    requires untold { worker_end.seen ≡ [] }
+    requires port { IsPortAt P.told dialect port worker_end }
+    requires fresh { HasSentNothing worker_end }
     ensures leads { P.leads_to port result.port }
     ensures tells { is_some (P.told result.port) ≡ is_some (P.told port) }
-    ensures over { IsOver worker_end result.worker_end }
+    ensures bye { HasSaidBye worker_end result.worker_end }
     ensures strangers { result.strangers ≡ 0 }
     ensures reported { (trace : PortTrace) → P.told result.port ≡ Some trace
         → IsReported trace.dialect trace.events result.worker_end result.sessions.items result.unopened }
@@ -282,7 +282,7 @@ pub fn run_worker<P: Port, G: Gate, R: Wait + Clock>(
 fn leave<P: Port>(worker: Worker<P>, storage: &StorageSignals) -> WorkerReport<P>
     requires { IsDrained worker }
     ensures port { result.port ≡ worker.port }
-    ensures over { IsOver (end_of worker) result.worker_end }
+    ensures bye { HasSaidBye (end_of worker) result.worker_end }
     ensures strangers { result.strangers ≡ 0 }
     ensures reported { (trace : PortTrace) → P.told result.port ≡ Some trace
         → IsReported trace.dialect trace.events result.worker_end result.sessions.items result.unopened }

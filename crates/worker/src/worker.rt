@@ -5,8 +5,8 @@ ghost use Rattle.std.specs.Option.{option_and_then};
 ghost use Rattle.session_book.specs.Session.{finished_by, HasReadAll};
 ghost use Rattle.session_book.specs.Book.{session_of};
 ghost use Rattle.worker_port.specs.Ports.{PortTrace, is_open};
-ghost use Rattle.worker_port.specs.Giving.{IsTraceOf};
 ghost use Rattle.worker.specs.EndCauses.{piece_of};
+ghost use Rattle.worker.specs.Starts.{IsPortAt, HasSentNothing};
 ghost use Rattle.worker.specs.Workers.{end_of, once_flushed, Continues, TakesNone, TakesBack};
 ghost use Rattle.worker.specs.Workers.{Closes, Shuts, Admits, Refuses, SameRest, HandlesData};
 
@@ -20,6 +20,33 @@ use std::alloc::Global;
 use std::marker::Model;
 use worker_port::{Gone, Port, PortEvent};
 
+/// What asking a session brought.
+#[derive(Clone, Copy)]
+pub(crate) enum Asked {
+    /// Its next request, which is held, and whether the session can be read further.
+    Request { reads_on: bool },
+    /// None: there is none for now, or out of memory, and the session was shut.
+    Nothing,
+}
+
+/// When a session that was asked may be asked again.
+#[derive(Clone, Copy)]
+pub(crate) enum AskAgain {
+    /// Now: there may be another request, and it can be put.
+    Now,
+    /// Once it stands in a queue of those to be asked, as it may do already.
+    Later,
+}
+
+/// What an offer of output came to.
+#[derive(Clone, Copy)]
+pub(crate) struct Offered {
+    /// Something was done: bytes were accepted, or the session was closed.
+    pub(crate) moved: bool,
+    /// How the session has finished, if it has.
+    pub(crate) finished: Option<EndCause>,
+}
+
 /// What a worker holds. While it takes a step, these parts needn't agree.
 #[derive(Drop)]
 pub(crate) struct WorkerState<P> {
@@ -27,7 +54,7 @@ pub(crate) struct WorkerState<P> {
     /// The worker's end of its lane.
     pub(crate) batch: WorkerBatch,
     pub(crate) book: Book,
-    /// A request that has its number and isn't posted yet.
+    /// A request that has its number and isn't in its slot yet.
     pub(crate) request: Option<Posted>,
     pub(crate) sessions: SessionList,
     pub(crate) unopened: u64,
@@ -124,11 +151,8 @@ impl<P: Port> Model for Worker<P> {
 impl<P: Port> Worker<P> {
     /// A worker whose end has sent nothing yet, over a port that has told nothing.
     pub(crate) fn new(alloc: Global, port: P, worker_end: WorkerEnd, dialect: Dialect) -> Worker<P>
-        requires port { (trace : PortTrace) → P.told port ≡ Some trace → trace.events ≡ [] }
-        requires whose { (trace : PortTrace) → P.told port ≡ Some trace → IsTraceOf trace worker_end }
-        requires spelled { (trace : PortTrace) → P.told port ≡ Some trace → trace.dialect ≡ dialect }
-        requires fresh { (worker_end.sent ≡ []) × (worker_end.back ≡ []) × (worker_end.said_bye ≡ false) }
-        requires untold { worker_end.seen ≡ [] }
+        requires port { IsPortAt P.told dialect port worker_end }
+        requires fresh { HasSentNothing worker_end }
         ensures port { result.port ≡ port }
         ensures end { end_of result ≡ worker_end }
         ensures dialect { result.book.dialect ≡ dialect }
@@ -155,7 +179,7 @@ impl<P: Port> Worker<P> {
             && self.state.book.is_idle()
     }
 
-    /// One event of the port, for which it may wait or not, unless it has ended. False if there was no event.
+    /// Takes one event of the port, for which it may wait or not, unless it has ended. True if there was one.
     pub(crate) fn take_event(&mut self, may_wait: bool) -> bool
         ensures { Continues P.told P.leads_to self.old self.new }
     {
@@ -176,7 +200,7 @@ impl<P: Port> Worker<P> {
         true
     }
 
-    /// Feeds the next held piece that may fit by now, if it does.
+    /// Feeds the next held piece that may fit by now, if it does. True if something was done.
     pub(crate) fn feed_next(&mut self) -> bool
         ensures { Continues P.told P.leads_to self.old self.new }
     {
@@ -196,8 +220,8 @@ impl<P: Port> Worker<P> {
         }
     }
 
-    /// Reads up to the session's next request, which is held until it is posted. True if none is left for now.
-    fn ask(&mut self, session: u64) -> bool
+    /// Reads up to the session's next request, which is held until it is put.
+    fn ask(&mut self, session: u64) -> Asked
         requires { self.old.request ≡ None }
         ensures { Continues P.told P.leads_to self.old self.new }
     {
@@ -208,12 +232,14 @@ impl<P: Port> Worker<P> {
                     number,
                     request,
                 });
-                false
+                Asked::Request {
+                    reads_on: self.state.book.reads_on(),
+                }
             }
-            Ok(None) => true,
+            Ok(None) => Asked::Nothing,
             Err(_) => {
                 self.state.shut(session, EndCause::NoMemory);
-                false
+                Asked::Nothing
             }
         }
     }
@@ -228,53 +254,56 @@ impl<P: Port> Worker<P> {
             || (self.state.batch.outstanding() > 0 && self.state.book.is_crowded())
     }
 
-    /// Reads the session's next request and posts it, unless it is put off. True if another one may be asked now. If there
-    /// may be one that can't be asked now, the session is asked again later.
-    pub(crate) fn ask_and_post<G: Gate>(
+    /// Reads the session's next request and puts it, unless it is put off. If there may be another one that can't be asked
+    /// now, the session is put into the queue of those to be asked.
+    pub(crate) fn ask_and_put<G: Gate>(
         &mut self,
         session: u64,
         gate: &G,
         storage: &StorageSignals,
-    ) -> bool
+    ) -> AskAgain
         requires { self.old.request ≡ None }
         ensures goes_on { Continues P.told P.leads_to self.old self.new }
-        ensures goes_further { result ≡ true → self.new.request ≡ None }
+        ensures now { result ≡ AskAgain.Now → self.new.request ≡ None }
     {
-        if self.state.book.put_off(session) || self.ask(session) {
-            return false;
+        if self.state.book.put_off(session) {
+            return AskAgain::Later;
         }
-        self.post(gate, storage);
-        if !self.state.book.reads_on() {
-            return false;
+        let Asked::Request { reads_on } = self.ask(session) else {
+            return AskAgain::Later;
+        };
+        self.put_held(gate, storage);
+        if !reads_on {
+            return AskAgain::Later;
         }
         if self.is_busy() {
             self.state.book.ask_later(session);
-            return false;
+            return AskAgain::Later;
         }
-        true
+        AskAgain::Now
     }
 
-    /// Posts the held request, if the gate lets it and there is room. The next flush tells storage of it. A hint of the key is
-    /// left for it.
-    pub(crate) fn post<G: Gate>(&mut self, gate: &G, storage: &StorageSignals) -> bool
+    /// Puts the held request into its slot, if the gate lets it and there is room. True if something was done. The next flush
+    /// tells storage of it. A hint of the key is left for it.
+    pub(crate) fn put_held<G: Gate>(&mut self, gate: &G, storage: &StorageSignals) -> bool
         ensures goes_on { Continues P.told P.leads_to self.old self.new }
-        ensures posted { result ≡ true → self.new.request ≡ None }
+        ensures put { result ≡ true → self.new.request ≡ None }
     {
         let worker = self.state.batch.worker();
-        let Some(posted) = self.state.request.take() else {
+        let Some(held) = self.state.request.take() else {
             return false;
         };
-        if !gate.may_post(worker, posted.number) {
-            self.state.request = Some(posted);
+        if !gate.may_post(worker, held.number) {
+            self.state.request = Some(held);
             return false;
         }
-        if let Some(key) = posted.request.first_key() {
-            storage.leave_hint(worker, posted.number - 1, key);
+        if let Some(key) = held.request.first_key() {
+            storage.leave_hint(worker, held.number - 1, key);
         }
-        match self.state.batch.put(posted) {
+        match self.state.batch.put(held) {
             Ok(()) => true,
-            Err(posted) => {
-                self.state.request = Some(posted);
+            Err(held) => {
+                self.state.request = Some(held);
                 false
             }
         }
@@ -288,7 +317,7 @@ impl<P: Port> Worker<P> {
         }
     }
 
-    /// Tells storage of all that was posted, and unparks it. A `stats` among it finds what is told of this worker by now.
+    /// Tells storage of all that was put, and unparks it. A `stats` among it finds what is told of this worker by now.
     pub(crate) fn flush(&mut self, storage: &StorageSignals)
         ensures { Continues P.told P.leads_to self.old self.new }
     {
@@ -299,7 +328,7 @@ impl<P: Port> Worker<P> {
         }
     }
 
-    /// Takes the next answer and settles it. False if there is none.
+    /// Takes the next answer and settles it. True if there was one.
     pub(crate) fn settle_next<G: Gate>(&mut self, gate: &G) -> bool
         ensures { Continues P.told P.leads_to self.old self.new }
     {
@@ -317,40 +346,50 @@ impl<P: Port> Worker<P> {
         true
     }
 
-    /// Offers the session's output in one call, if it is worth it. It answers whether that changed anything, and whether
-    /// the session has finished.
-    fn offer(&mut self, session: u64) -> (bool, Option<EndCause>)
+    /// Offers the session's output in one call, if it is worth it.
+    fn offer(&mut self, session: u64) -> Offered
         ensures goes_on { Continues P.told P.leads_to self.old self.new }
-        ensures finished { result.1 ≡ option_and_then finished_by (session_of self.new.book session) }
-        ensures read { HasReadAll (session_of self.new.book session) result.1 }
+        ensures finished { result.finished ≡ option_and_then finished_by (session_of self.new.book session) }
+        ensures read { HasReadAll (session_of self.new.book session) result.finished }
     {
         let offer = self.state.book.offer(session);
         if offer.out.is_empty() {
-            return (false, offer.finished);
+            return Offered {
+                moved: false,
+                finished: offer.finished,
+            };
         }
         let history = self.state.batch.told();
         match self.state.port.give(session, offer.out, history) {
-            Ok(accepted) => (accepted > 0, self.state.book.gave(session, accepted)),
+            Ok(accepted) => Offered {
+                moved: accepted > 0,
+                finished: self.state.book.gave(session, accepted),
+            },
             Err(Gone) => {
                 self.state.close(session, EndCause::Gone);
-                (true, None)
+                Offered {
+                    moved: true,
+                    finished: None,
+                }
             }
         }
     }
 
-    /// Offers the output of the next session that is to be taken up for the task, and shuts it if it has finished.
+    /// Offers the output of the next session that is to be taken up for the task, and shuts it if it has finished. True if
+    /// something was done.
     pub(crate) fn give_next(&mut self, task: Task) -> bool
         ensures { Continues P.told P.leads_to self.old self.new }
     {
         let Some(session) = self.state.book.next_ready(task) else {
             return false;
         };
-        let (moved, finished) = self.offer(session);
-        let finished = self.finish(session, finished);
-        moved || finished
+        let offered = self.offer(session);
+        let shut = self.finish(session, offered.finished);
+        offered.moved || shut
     }
 
-    /// Shuts the session with the most output, if so much waits over all sessions that there is no room for it.
+    /// Shuts the session with the most output, if so much waits over all sessions that there is no room for it. True if there
+    /// was one.
     pub(crate) fn shut_fullest(&mut self) -> bool
         ensures { Continues P.told P.leads_to self.old self.new }
     {
@@ -361,7 +400,7 @@ impl<P: Port> Worker<P> {
         true
     }
 
-    /// Shuts a session that has ended itself, or whose input has, once all was answered and given.
+    /// Shuts a session that has ended itself, or whose input has, once all was answered and given. True if something was done.
     fn finish(&mut self, session: u64, finished: Option<EndCause>) -> bool
         requires finished { finished ≡ option_and_then finished_by (session_of self.old.book session) }
         requires read { HasReadAll (session_of self.old.book session) finished }

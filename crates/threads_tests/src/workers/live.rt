@@ -28,7 +28,7 @@ struct LivePort {
     pieces: VecDeque<Bytes>,
     /// The input ends after the pieces, and the port ends only once the session was shut.
     ends_input: bool,
-    is_over: bool,
+    input_ended: bool,
     wanted: usize,
     given: usize,
     /// The most bytes of each give that are accepted.
@@ -57,8 +57,8 @@ impl LivePort {
         if let Some(bytes) = self.pieces.pop_front() {
             return Some(PortEvent::Data(7, bytes));
         }
-        if self.ends_input && !self.is_over {
-            self.is_over = true;
+        if self.ends_input && !self.input_ended {
+            self.input_ended = true;
             return Some(PortEvent::EndOfInput(7));
         }
         None
@@ -154,7 +154,7 @@ where
         is_paused: false,
         pieces,
         ends_input: peer.ends_input,
-        is_over: false,
+        input_ended: false,
         wanted: peer.wanted,
         given: 0,
         accept: peer.accept,

@@ -5,7 +5,7 @@ ghost use Rattle.std.specs.Option.{option_map_or};
 ghost use Rattle.worker_port.specs.declared.events.PortRecord.TheVariants.{EndOfInput};
 ghost use Rattle.worker_port.specs.Ports.{is_in, is_open};
 
-use crate::workers::records::{has_ended_in, is_new_in, is_open_in, is_over_in};
+use crate::workers::records::{has_ended_in, has_input_ended_in, is_new_in, is_open_in};
 use bytes::Bytes;
 use exchange::{ExchangeName, WorkerBatch};
 use proto::Geometry;
@@ -115,7 +115,7 @@ impl<R: Abort + Drop> RecordingPort<R> {
     {
         self.paused != Some(session)
             && is_open_in(self.records.as_slice(), session)
-            && !is_over_in(self.records.as_slice(), session)
+            && !has_input_ended_in(self.records.as_slice(), session)
     }
 
     fn note(&mut self, entry: PortRecord)

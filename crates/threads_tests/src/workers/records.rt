@@ -49,16 +49,16 @@ pub(crate) fn is_new_in(records: &[PortRecord], session: u64) -> bool
 }
 
 /// Whether the session's input has ended.
-pub(crate) fn is_over_in(records: &[PortRecord], session: u64) -> bool
+pub(crate) fn has_input_ended_in(records: &[PortRecord], session: u64) -> bool
     ensures { result ≡ is_in (EndOfInput session) records.now }
 {
-    let mut over = false;
+    let mut input_ended = false;
     for entry in records {
         if let PortRecord::EndOfInput(number) = *entry {
-            over = over || number == session;
+            input_ended = input_ended || number == session;
         }
     }
-    over
+    input_ended
 }
 
 /// Whether the port has ended.

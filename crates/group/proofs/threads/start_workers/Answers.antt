@@ -1,6 +1,6 @@
 use Rattle.std.proofs.Common.{arith, ◌≡◌, [], ◌∷◌, ◌++◌, All, map, sym, ap, subst, ◌∙◌, append_assoc}
 use Rattle.std.proofs.lemmas.List.{map-append}
-use Rattle.group.specs.Threads.{HasSentNothing, IsPortAt}
+use Rattle.worker.specs.Starts.{IsPortAt, HasSentNothing}
 use Rattle.group.proofs.Places.{first_of_all, first_of_each, all_more}
 use Rattle.group.proofs.threads.start_workers.Goals as goal
 

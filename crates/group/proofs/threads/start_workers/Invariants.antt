@@ -1,5 +1,6 @@
 use Rattle.std.proofs.Common.{◌≡◌, ◌++◌, All, map, ◌+◌, ◌≤◌, vec_len, vec_capacity}
-use Rattle.group.specs.Threads.{AreEach, HasSentNothing, IsPortAt}
+use Rattle.worker.specs.Starts.{IsPortAt, HasSentNothing}
+use Rattle.group.specs.Threads.{AreEach}
 use Rattle.group.proofs.threads.start_workers.Given as goal
 
 abbrev pub invariant-loop-end : goal.invariant-loop-end

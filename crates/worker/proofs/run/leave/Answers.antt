@@ -3,9 +3,9 @@ use Rattle.std.proofs.lemmas.List.{take_all}
 use Rattle.proto.specs.History.{asked_posted}
 use Rattle.exchange.specs.Ends.{WorkerView}
 use Rattle.worker.specs.declared.worker.WorkerState.{WorkerState}
-use Rattle.worker.specs.Reports.{IsOver}
+use Rattle.worker.specs.Reports.{HasSaidBye}
 use Rattle.worker.specs.Workers.{end_of, IsTraceKnown, IsDrained, run_view}
-use Rattle.worker.proofs.DrainSteps.{sent_posted}
+use Rattle.worker.proofs.DrainSteps.{numbered_are_sent}
 use Rattle.worker.proofs.ReportSteps.{reported}
 use Rattle.worker.proofs.run.leave.Goals as goal
 
@@ -19,7 +19,7 @@ returns-clause-reported g c =
     let all : asked_posted (end_of w).back ≡ (end_of w).sent = k.steady.back
     ∙ take_all (length (end_of w).back) (end_of w).sent (omega (arith, d.back)) in
     reported v c.say_bye.result w.unopened (subst (λ b. IsTraceKnown v w.unopened b) d.ended (k.known trace e))
-    (sent_posted (end_of w) w.request d.request ∙ sym (ap (λ (e : WorkerView). e.sent) bye))
+    (numbered_are_sent (end_of w) w.request d.request ∙ sym (ap (λ (e : WorkerView). e.sent) bye))
     (sym (ap (λ (e : WorkerView). e.back) bye))
     (ap (λ (e : WorkerView). asked_posted e.back) bye ∙ all ∙ sym (ap (λ (e : WorkerView). e.sent) bye)) (λ s. refl)
     (λ s cause st q. d.emptied s st q)
@@ -38,14 +38,14 @@ returns-clause-whose g c =
       later = (k.later.0, ap (λ (e : WorkerView). e.seen) bye ∙ k.later.1);
     }
 
-pub returns-clause-over : goal.returns-clause-over
-returns-clause-over g c =
+pub returns-clause-bye : goal.returns-clause-bye
+returns-clause-bye g c =
     let w = c.worker.inside.state in let back = c.worker.invariant.steady.back in
     let d = subst (λ v. IsDrained v) (sym c.worker.view_is) c.requires in
     let bye : c.say_bye.result ≡ record (end_of w) { said_bye = true } = c.say_bye.ensures in
     let all : asked_posted (end_of w).back ≡ (end_of w).sent = back
     ∙ take_all (length (end_of w).back) (end_of w).sent (omega (arith, d.back)) in
-    subst (λ v. IsOver (end_of v) c.say_bye.result) c.worker.view_is (record {
+    subst (λ v. HasSaidBye (end_of v) c.say_bye.result) c.worker.view_is (record {
       exchange = ap (λ (e : WorkerView). e.exchange) bye;
       worker = ap (λ (e : WorkerView). e.worker) bye;
       said_bye = ap (λ (e : WorkerView). e.said_bye) bye;

@@ -5,10 +5,10 @@ use Rattle.std.specs.Bool.{nat_eq}
 use Rattle.worker_port.specs.declared.events.PortRecord.TheVariants as was
 use Rattle.worker_port.specs.declared.events.PortEvent.TheVariants as event
 use Rattle.net.specs.Shown.{shown_stream, seen_of}
-use Rattle.net.specs.Seen.{IsSet, then_received, then_over, is_paused_stream, is_over}
+use Rattle.net.specs.Seen.{IsSet, then_received, then_input_ended, is_paused_stream, has_input_ended}
 use Rattle.net.specs.Traces.{trace_of, Tells}
 use Rattle.net.proofs.StreamLemmas.{Agree, trace_after, set_by, open_with, shown_with}
-use Rattle.net.proofs.StreamLemmas.{agree_fed, agree_over, agree_gone, tell_fed, tell_over, tell_gone}
+use Rattle.net.proofs.StreamLemmas.{agree_fed, agree_input_ended, agree_gone, tell_fed, tell_input_ended, tell_gone}
 use Rattle.std.proofs.Common.{subst, refl}
 use Rattle.std.specs.Prelude.{is_some}
 use Rattle.proto.specs.Reading.{Reads}
@@ -33,7 +33,7 @@ fed c =
       agree_fed old after s told (open_with old s x found) piece events now,
       tell_fed old after s told (open_with old s x found) c.requires.goes_on piece
           (sym (ap is_paused_stream (shown_with old s x found)) ∙ c.in-Bytes.ensures.arrives.2)
-          (sym (ap is_over (shown_with old s x found)) ∙ c.in-Bytes.ensures.arrives.1)
+          (sym (ap has_input_ended (shown_with old s x found)) ∙ c.in-Bytes.ensures.arrives.1)
           c.in-Bytes.ensures.arrives.3 c.in-Bytes.ensures.arrives.4 events now,
     )
 
@@ -47,12 +47,12 @@ ended c =
     let after = (c.get_mut.follows.lender y).entries in let told = c.note_as-in-Ended.new.self.items in
     let found : Some x ≡ lookup (nat_eq s) old.open.entries = search rules in
     let set : IsSet s (Some (seen_of y)) (shown_stream old.open.entries) (shown_stream after) = search rules in
-    let now = set_by old after s x y then_over found
+    let now = set_by old after s x y then_input_ended found
     c.in-Ended.ensures.arrives.0 set in (
-      agree_over old after s told (open_with old s x found) c.note_as-in-Ended.ensures now,
-      tell_over old after s told (open_with old s x found) c.requires.goes_on
+      agree_input_ended old after s told (open_with old s x found) c.note_as-in-Ended.ensures now,
+      tell_input_ended old after s told (open_with old s x found) c.requires.goes_on
           (sym (ap is_paused_stream (shown_with old s x found)) ∙ c.in-Ended.ensures.arrives.2)
-          (sym (ap is_over (shown_with old s x found)) ∙ c.in-Ended.ensures.arrives.1)
+          (sym (ap has_input_ended (shown_with old s x found)) ∙ c.in-Ended.ensures.arrives.1)
           c.note_as-in-Ended.ensures now,
     )
 

@@ -64,17 +64,17 @@ returns-in_default-2-clause-open c =
 
 pub invariant_of-self-2 : goal.invariant_of-self-2
 invariant_of-self-2 c =
-    let given : Unsettled = record { number = c.self.inside.posted + 1; session = c.args.session } in
+    let given : Unsettled = record { number = c.self.inside.numbered + 1; session = c.args.session } in
     let e = c.pair_mut-open.ensures in let s = c.pair_mut-open.result.1.now in let t = c.join_queues.new.self in
     let p = placed c.self.inside.sessions c.in-Some.place c.args.session _ s e.unique e.value c.in-Some.ensures.at in
-    asks_book _ _ c.args.session (c.self.inside.posted + 1) s t c.in-Some-2.request c.next_ask-read.result
+    asks_book _ _ c.args.session (c.self.inside.numbered + 1) s t c.in-Some-2.request c.next_ask-read.result
     c.self.inside.looks c.next_ask-read.new.looks c.self.invariant p.there (p.only t) refl
     (c.in_ok-push_back.ensures.items ∙ ap (λ (us : List Unsettled). us ++ given ∷ []) c.next_ask-read.ensures.kept)
     (c.in_ok-request.was ∙ ap (λ (o : Option Request). Ok o) c.in-Some-2.is) (reads_to _ _ _ _ _ _ c.join_queues.ensures c.next_ask-read.ensures.reads)
 
 pub returns-clause-open : goal.returns-clause-open
 returns-clause-open c =
-    let given : Unsettled = record { number = c.self.inside.posted + 1; session = c.args.session } in
+    let given : Unsettled = record { number = c.self.inside.numbered + 1; session = c.args.session } in
     let unsettled : c.push_back.new.self.items ≡ c.self.inside.unsettled.items ++ given ∷ [] =
     c.in_ok-push_back.ensures.items ∙ ap (λ (us : List Unsettled). us ++ given ∷ []) c.next_ask-read.ensures.kept in
     let e = c.pair_mut-open.ensures in let s = c.pair_mut-open.result.1.now in let t = c.join_queues.new.self in

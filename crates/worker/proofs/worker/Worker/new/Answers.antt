@@ -11,7 +11,7 @@ invariant_of-result g c = record {
     rising = search rules;
     counted = search rules;
     at_end = search rules;
-    accepts = accepts_none trace.events (c.requires.port trace e);
+    accepts = accepts_none trace.events (c.requires.port.silent trace e);
   };
   paused = search rules;
   whose = search rules;

@@ -57,7 +57,7 @@ gave_over g c =
     (record { end = refl; request = refl; sessions = refl; unopened = refl; strangers = refl; ended = refl })
     (gives_by w t out (Ok n) c.told-history.result.items
     (ap (λ (v : ToldView). v.items) c.told-history.ensures.told)) c.in-Ok.ensures.told
-    (ap (λ (b : BookState). b.posted) k.rest) (ap (λ (b : BookState). b.unsettled) k.rest)
+    (ap (λ (b : BookState). b.numbered) k.rest) (ap (λ (b : BookState). b.unsettled) k.rest)
     (ap (λ (b : BookState). b.dialect) k.rest) c.self.invariant
     (λ trace was_so. (
       told_gave (run_view trace w) (run_view (f trace) new) w.unopened w.ended t n s.0 was_so.0 s.1 refl

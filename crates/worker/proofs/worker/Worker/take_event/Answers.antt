@@ -2,7 +2,7 @@ use Rattle.std.proofs.Common.{refl}
 use Rattle.session_book.specs.Book.{session_of}
 use Rattle.worker.proofs.WorkerSteps.{continues}
 use Rattle.worker.proofs.PortSteps.{opened_goes_on, opened_is_open, still_open, came_unheld, received_goes_on}
-use Rattle.worker.proofs.PortSteps.{over_goes_on, lose_goes_on, idle_goes_on, ended_goes_on}
+use Rattle.worker.proofs.PortSteps.{input_ended_goes_on, lose_goes_on, idle_goes_on, ended_goes_on}
 use Rattle.worker.proofs.AskedOnly.{has_asked_only}
 use Rattle.worker.proofs.worker.Worker.take_event.Goals as goal
 
@@ -49,11 +49,11 @@ returns-in-Data g c =
     c.self.invariant c.receive.ensures.receives)
 
 pub invariant_of-self-in-EndOfInput : goal.invariant_of-self-in-EndOfInput
-invariant_of-self-in-EndOfInput g c = (over_goes_on g.P.Port.told c.self.inside.state c.next.new.self c.end_input-finished.new.self
+invariant_of-self-in-EndOfInput g c = (input_ended_goes_on g.P.Port.told c.self.inside.state c.next.new.self c.end_input-finished.new.self
     c.in-EndOfInput.session (record {
       told_is = c.in-EndOfInput.ensures.told;
       opened = λ trace e. (c.in-EndOfInput.ensures.may trace e).0;
-    }) c.self.invariant c.end_input-finished.ensures.over).serving
+    }) c.self.invariant c.end_input-finished.ensures.input_ended).serving
 
 pub invariant_of-self-in-Gone : goal.invariant_of-self-in-Gone
 invariant_of-self-in-Gone g c = (lose_goes_on g.P.Port.told c.self.inside.state c.lose.new.self c.next.new.self c.in-Gone.session

@@ -3,11 +3,11 @@ use Rattle.proto.specs.declared.history.Posted.{Posted}
 use Rattle.exchange.specs.Ends.{WorkerBatchView}
 use Rattle.worker_port.specs.Ports.{PortTrace}
 use Rattle.worker.specs.declared.worker.WorkerState.{WorkerState}
-use Rattle.worker.specs.Workers.{end_of, once_flushed, posted_by, IsWorkerServing}
+use Rattle.worker.specs.Workers.{end_of, once_flushed, numbered_by, IsWorkerServing}
 use Rattle.worker.proofs.WorkerSteps.{WorkerGoesOn, continues}
-use Rattle.worker.proofs.AskSteps.{posted_goes_on}
+use Rattle.worker.proofs.AskSteps.{sent_goes_on}
 use Rattle.worker.proofs.SettleSteps.{flushed_goes_on}
-use Rattle.worker.proofs.worker.Worker.post.Goals as goal
+use Rattle.worker.proofs.worker.Worker.put_held.Goals as goal
 
 -- the held request was put, and counts as sent
 put_goes_on : {P : Type 0} (told : P → Option PortTrace) (old : WorkerState P) (batch : WorkerBatchView)
@@ -15,9 +15,9 @@ put_goes_on : {P : Type 0} (told : P → Option PortTrace) (old : WorkerState P)
     → batch ≡ record old.batch { put = old.batch.put ++ p ∷ [] } → IsWorkerServing told old
     → WorkerGoesOn told old (record old { batch = batch; request = request })
 put_goes_on told old batch request p was none put h =
-    posted_goes_on told old batch request none
+    sent_goes_on told old batch request none
     (ap once_flushed put ∙ (λ i. record (end_of old) {
-      sent = (sym (append_assoc old.batch.end.sent old.batch.put (p ∷ [])) ∙ ap (posted_by (end_of old)) was) i;
+      sent = (sym (append_assoc old.batch.end.sent old.batch.put (p ∷ [])) ∙ ap (numbered_by (end_of old)) was) i;
     })) h
 
 -- it stays held
@@ -30,31 +30,31 @@ stays_goes_on told old batch request stays same h =
 
 pub invariant_of-self-then-not-may_post : goal.invariant_of-self-then-not-may_post
 invariant_of-self-then-not-may_post g c = let w = c.self.inside.state in
-    (stays_goes_on g.P.Port.told w w.batch (Some c.in-Some.posted) c.in-Some.ensures.value refl c.self.invariant).serving
+    (stays_goes_on g.P.Port.told w w.batch (Some c.in-Some.held) c.in-Some.ensures.value refl c.self.invariant).serving
 
 pub returns-then-not-may_post-clause-goes_on : goal.returns-then-not-may_post-clause-goes_on
 returns-then-not-may_post-clause-goes_on g c = let w = c.self.inside.state in
     continues c.self.view_is (g.met.P.Port.leads_reflexive _)
-    (stays_goes_on g.P.Port.told w w.batch (Some c.in-Some.posted) c.in-Some.ensures.value refl c.self.invariant)
+    (stays_goes_on g.P.Port.told w w.batch (Some c.in-Some.held) c.in-Some.ensures.value refl c.self.invariant)
 
 pub invariant_of-self-in-Ok : goal.invariant_of-self-in-Ok
 invariant_of-self-in-Ok g c =
-    (put_goes_on g.P.Port.told c.self.inside.state c.put.new.self c.take.new.self c.in-Some.posted c.in-Some.ensures.value
+    (put_goes_on g.P.Port.told c.self.inside.state c.put.new.self c.take.new.self c.in-Some.held c.in-Some.ensures.value
     c.in-Some.ensures.after c.in-Ok.ensures.1 c.self.invariant).serving
 
 pub returns-in-Ok-clause-goes_on : goal.returns-in-Ok-clause-goes_on
 returns-in-Ok-clause-goes_on g c = let w = c.self.inside.state in
     continues c.self.view_is (g.met.P.Port.leads_reflexive _)
-    (put_goes_on g.P.Port.told w c.put.new.self c.take.new.self c.in-Some.posted c.in-Some.ensures.value
+    (put_goes_on g.P.Port.told w c.put.new.self c.take.new.self c.in-Some.held c.in-Some.ensures.value
     c.in-Some.ensures.after c.in-Ok.ensures.1 c.self.invariant)
 
 pub invariant_of-self-in-Err : goal.invariant_of-self-in-Err
 invariant_of-self-in-Err g c =
-    (stays_goes_on g.P.Port.told c.self.inside.state c.put.new.self (Some c.in-Err.posted)
+    (stays_goes_on g.P.Port.told c.self.inside.state c.put.new.self (Some c.in-Err.held)
     (ap Some c.in-Err.ensures.1 ∙ c.in-Some.ensures.value) c.in-Err.ensures.2 c.self.invariant).serving
 
 pub returns-in-Err-clause-goes_on : goal.returns-in-Err-clause-goes_on
 returns-in-Err-clause-goes_on g c = let w = c.self.inside.state in
     continues c.self.view_is (g.met.P.Port.leads_reflexive _)
-    (stays_goes_on g.P.Port.told w c.put.new.self (Some c.in-Err.posted)
+    (stays_goes_on g.P.Port.told w c.put.new.self (Some c.in-Err.held)
     (ap Some c.in-Err.ensures.1 ∙ c.in-Some.ensures.value) c.in-Err.ensures.2 c.self.invariant)

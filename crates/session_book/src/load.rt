@@ -1,0 +1,143 @@
+//! How much is unfinished in all sessions of a book, and what it counts for `stats`.
+
+use proto::{FatalKind, Gauge, Gauges, LocalKind, Message, Request};
+
+/// The bytes above which an answer is large.
+const LARGE_ANSWER: usize = 262_144;
+
+/// The keys up to which the answer to a `get` isn't taken to be large.
+const FEW_KEYS: usize = 8;
+
+/// What a book counts for `stats`. After the greatest number a count goes on from 0.
+#[derive(Clone, Copy, Default)]
+struct BookCounts {
+    /// Bytes that came of open sessions.
+    read: u64,
+    /// Bytes of output that were given.
+    written: u64,
+    /// Bytes of open sessions that no message was read from yet.
+    unread: u64,
+    unknown: u64,
+    bad_lines: u64,
+    malformed: u64,
+    binary: u64,
+    too_large: u64,
+}
+
+impl BookCounts {
+    /// Counts a message of this length that was read.
+    fn count(&mut self, message: &Message, length: usize) {
+        self.unread = self.unread.wrapping_sub(length as u64);
+        match message {
+            Message::Ask(..) | Message::Quit => {}
+            Message::Local(LocalKind::Unknown) => self.unknown = self.unknown.wrapping_add(1),
+            Message::Local(LocalKind::BadLine) => self.bad_lines = self.bad_lines.wrapping_add(1),
+            Message::Local(LocalKind::TooLarge(_)) => self.refused_item(),
+            Message::Local(_) => {}
+            Message::Fatal(FatalKind::Binary) => self.binary = self.binary.wrapping_add(1),
+            Message::Fatal(_) => self.malformed = self.malformed.wrapping_add(1),
+        }
+    }
+
+    /// Counts a storage command that was refused as too large.
+    fn refused_item(&mut self) {
+        self.too_large = self.too_large.wrapping_add(1);
+    }
+}
+
+/// How much is unfinished in all sessions of a book, and what it counts for `stats`. No clause speaks of it.
+#[derive(Clone, Copy, Default)]
+pub(crate) struct Load {
+    /// The keys of unsettled requests.
+    keys: usize,
+    /// The bytes that each key took in the last answer for more than `FEW_KEYS` keys, or half of what this number was before, if
+    /// that is more.
+    key_bytes: usize,
+    /// The bytes of output that weren't given yet.
+    output: usize,
+    counts: BookCounts,
+}
+
+impl Load {
+    /// The keys of unsettled requests.
+    pub(crate) fn keys(&self) -> usize {
+        self.keys
+    }
+
+    /// The bytes of output that weren't given yet.
+    pub(crate) fn output(&self) -> usize {
+        self.output
+    }
+
+    /// How many keys a `get` may name before its answer is taken to be large, by what keys took of late.
+    pub(crate) fn keys_before_large(&self) -> usize {
+        FEW_KEYS.max(LARGE_ANSWER / self.key_bytes.max(1))
+    }
+
+    /// So many bytes came of an open session.
+    pub(crate) fn received(&mut self, n: usize) {
+        self.counts.read = self.counts.read.wrapping_add(n as u64);
+    }
+
+    /// So many bytes are to be read.
+    pub(crate) fn fed(&mut self, n: usize) {
+        self.counts.unread = self.counts.unread.wrapping_add(n as u64);
+    }
+
+    /// A message of this length was read.
+    pub(crate) fn read(&mut self, message: &Message, length: usize) {
+        self.counts.count(message, length);
+    }
+
+    /// So many keys are asked for.
+    pub(crate) fn asked_keys(&mut self, count: usize) {
+        self.keys = self.keys.saturating_add(count);
+    }
+
+    /// A request was settled with so many bytes of output.
+    pub(crate) fn settled(&mut self, request: &Request, length: usize) {
+        if let Request::Get { keys, .. } = request {
+            let count = keys.len();
+            self.keys = self.keys.saturating_sub(count);
+            if count > FEW_KEYS {
+                self.key_bytes = (length / count).max(self.key_bytes / 2);
+            }
+        }
+    }
+
+    /// A storage command was refused as too large.
+    pub(crate) fn refused_item(&mut self) {
+        self.counts.refused_item();
+    }
+
+    /// So many bytes of output are to be given.
+    pub(crate) fn showed_output(&mut self, n: usize) {
+        self.output = self.output.saturating_add(n);
+    }
+
+    /// So many bytes of output were given.
+    pub(crate) fn gave_output(&mut self, n: usize) {
+        self.output = self.output.saturating_sub(n);
+        self.counts.written = self.counts.written.wrapping_add(n as u64);
+    }
+
+    /// So many bytes of input and of output count no more: their session is closed.
+    pub(crate) fn forget(&mut self, unread: usize, output: usize) {
+        self.output = self.output.saturating_sub(output);
+        self.counts.unread = self.counts.unread.wrapping_sub(unread as u64);
+    }
+
+    /// Leaves what it counted.
+    pub(crate) fn tell(&self, gauges: &Gauges) {
+        let counts = &self.counts;
+        gauges.set(Gauge::BytesRead, counts.read);
+        gauges.set(Gauge::BytesWritten, counts.written);
+        gauges.set(Gauge::InputBytes, counts.unread);
+        gauges.set(Gauge::OutputBytes, self.output as u64);
+        gauges.set(Gauge::StoreTooLarge, counts.too_large);
+        gauges.set(Gauge::UnknownCommands, counts.unknown);
+        gauges.set(Gauge::BadLines, counts.bad_lines);
+        gauges.set(Gauge::ClosedMalformed, counts.malformed);
+        gauges.set(Gauge::ClosedBinary, counts.binary);
+    }
+}

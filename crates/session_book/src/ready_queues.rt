@@ -1,0 +1,185 @@
+//! Which sessions have something to do, as a held piece to feed, input to ask from or output to give.
+
+use proto::WINDOW;
+use std::alloc::{AllocError, Global};
+use std::collections::VecDeque;
+
+/// What sessions are taken up for. Each has a queue of its own.
+#[derive(Clone, Copy)]
+pub enum Task {
+    /// Their held piece may fit.
+    Feed,
+    /// They have input.
+    Ask,
+    /// They have input, and were put off: the next answer may be large.
+    AskLarge,
+    /// They may have output, or have finished.
+    Give,
+    /// They have output, of which their client accepted nothing when it was last offered some.
+    RetryWrite,
+}
+
+/// How many tasks there are.
+const TASKS: usize = 5;
+
+/// A queue of sessions by their numbers, with the places where they stood in the table. A session that joins gets a ticket:
+/// the number of sessions that have joined so far. It is in the queue as long as its ticket is greater than the number that
+/// have left, so leaving needs no lookup. The number of a closed session is passed over.
+#[derive(Drop)]
+struct ReadyQueue {
+    sessions: VecDeque<(u64, usize)>,
+    left: u64,
+}
+
+impl ReadyQueue {
+    fn new(alloc: Global) -> ReadyQueue {
+        ReadyQueue {
+            sessions: VecDeque::new(alloc),
+            left: 0,
+        }
+    }
+}
+
+/// The number that a session drew last of a queue, and whose it is.
+#[derive(Clone, Copy)]
+pub(crate) struct Ticket {
+    task: Task,
+    number: u64,
+}
+
+impl Ticket {
+    fn none(task: Task) -> Ticket {
+        Ticket { task, number: 0 }
+    }
+}
+
+/// The tickets of a session. A session with input is in one of two queues, so one ticket does for both. So it is with output:
+/// the second queue is for clients that accepted nothing, and is served slowly.
+#[derive(Clone, Copy)]
+pub(crate) struct Tickets {
+    pub(crate) feed: Ticket,
+    pub(crate) ask: Ticket,
+    pub(crate) give: Ticket,
+}
+
+impl Tickets {
+    pub(crate) fn none() -> Tickets {
+        Tickets {
+            feed: Ticket::none(Task::Feed),
+            ask: Ticket::none(Task::Ask),
+            give: Ticket::none(Task::Give),
+        }
+    }
+}
+
+/// The sessions of a book that have something to do, in a queue for each task. No clause speaks of them.
+#[derive(Drop)]
+pub(crate) struct ReadyQueues {
+    /// By their tasks. The memory for a session is reserved when it is opened.
+    queues: [ReadyQueue; TASKS],
+    /// Where the session that was found last, or taken out of a queue, stands in the table.
+    pub(crate) place: usize,
+    /// How many sessions were taken out to be asked while another one was put off.
+    passed: u64,
+    /// Whether the session that was asked last can be read further.
+    reads_on: bool,
+}
+
+impl ReadyQueues {
+    pub(crate) fn new(alloc: Global) -> ReadyQueues {
+        ReadyQueues {
+            queues: [
+                ReadyQueue::new(alloc),
+                ReadyQueue::new(alloc),
+                ReadyQueue::new(alloc),
+                ReadyQueue::new(alloc),
+                ReadyQueue::new(alloc),
+            ],
+            place: 0,
+            passed: 0,
+            reads_on: false,
+        }
+    }
+
+    /// Reserves memory for this number of additional sessions in each queue, twice as much as needed if there is too little.
+    pub(crate) fn reserve(&mut self, additional: usize) -> Result<(), AllocError> {
+        for queue in &mut self.queues {
+            if queue
+                .sessions
+                .capacity()
+                .saturating_sub(queue.sessions.len())
+                < additional
+            {
+                queue.sessions.reserve(additional.saturating_mul(2))?;
+            }
+        }
+        Ok(())
+    }
+
+    /// Whether a session stands in the queue of its ticket.
+    pub(crate) fn has(&self, ticket: Ticket) -> bool {
+        ticket.number > self.queues[ticket.task as usize].left
+    }
+
+    /// Puts a session into the queue of the task, unless it stands in that of its ticket. The ticket's number is 0, which is
+    /// none, if out of memory.
+    pub(crate) fn add(&mut self, task: Task, session: u64, ticket: &mut Ticket) {
+        if self.has(*ticket) {
+            return;
+        }
+        let queue = &mut self.queues[task as usize];
+        let number = match queue.sessions.push_back((session, self.place)) {
+            Ok(()) => queue.left.saturating_add(queue.sessions.len() as u64),
+            Err(_) => 0,
+        };
+        *ticket = Ticket { task, number };
+    }
+
+    /// Takes out the next session that is to be taken up for the task.
+    pub(crate) fn take(&mut self, task: Task) -> Option<u64> {
+        let queue = &mut self.queues[task as usize];
+        let (session, place) = queue.sessions.pop_front()?;
+        queue.left = queue.left.saturating_add(1);
+        self.place = place;
+        Some(session)
+    }
+
+    /// Takes out the next session that is to be asked. One that was put off comes if no other is to be asked, or once as many
+    /// others as a window has requests went before it. If there is no room for a large answer then, none is taken out until there
+    /// is, so that it doesn't wait for ever.
+    pub(crate) fn take_to_ask(&mut self, has_room: bool) -> Option<u64> {
+        if self.count(Task::AskLarge) == 0 {
+            self.passed = 0;
+            return self.take(Task::Ask);
+        }
+        if self.count(Task::Ask) > 0 && self.passed < WINDOW {
+            self.passed = self.passed.saturating_add(1);
+            return self.take(Task::Ask);
+        }
+        if !has_room {
+            return None;
+        }
+        self.passed = 0;
+        self.take(Task::AskLarge)
+    }
+
+    /// How many sessions are to be taken up for the task.
+    pub(crate) fn count(&self, task: Task) -> usize {
+        self.queues[task as usize].sessions.len()
+    }
+
+    /// No session has anything to do.
+    pub(crate) fn are_empty(&self) -> bool {
+        self.queues.iter().all(|queue| queue.sessions.is_empty())
+    }
+
+    /// Whether the session that was asked last can be read further.
+    pub(crate) fn reads_on(&self) -> bool {
+        self.reads_on
+    }
+
+    /// The session that is asked now can be read further, or can't.
+    pub(crate) fn set_reads_on(&mut self, reads_on: bool) {
+        self.reads_on = reads_on;
+    }
+}

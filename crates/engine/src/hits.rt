@@ -147,8 +147,7 @@ fn are_too_long<M: LiveMap>(
     }
     let mut left = MAX_ANSWER;
     for i in 0..found.len() {
-        let key = found[i].key;
-        let place = found[i].place;
+        let Found { key, place } = found[i];
         let entry = map.entry_at(key, place);
         let hit = hit_with(key, entry.value, entry.flags, entry.cas, with_cas);
         match left_after(left, hit) {
@@ -164,17 +163,15 @@ fn hits_found<M: LiveMap>(
     map: &mut M,
     found: &[Found<M::Place>],
     with_cas: bool,
-    hits: HitWriter,
+    mut hits: HitWriter,
 ) -> HitWriter
     requires found { AreFound M.LiveMap map.old found.now }
     requires hits { hits
         ≡ record { hits = []; room = sum_by hit_room (hits_of with_cas (M.entries map.old) (keys_found found.now)) } }
     ensures { HasShown M.LiveMap with_cas map.old (keys_found found.now) map.new result }
 {
-    let mut hits = hits;
     for i in 0..found.len() {
-        let key = found[i].key;
-        let place = found[i].place;
+        let Found { key, place } = found[i];
         let entry = map.entry_at(key, place);
         hits.push(hit_with(key, entry.value, entry.flags, entry.cas, with_cas));
         map.count_read(key, place);
@@ -192,7 +189,7 @@ pub fn hit_of_only<M: LiveMap>(
     only: &[u8],
     with_cas: bool,
     dialect: Dialect,
-    hits: HitWriter,
+    mut hits: HitWriter,
 ) -> Result<HitWriter, Unshown>
     requires { hits ≡ record { hits = []; room = 0 } }
     ensures ok { IfOk result (λ written. HasShown M.LiveMap with_cas map.old (only.now ∷ []) map.new written) }
@@ -203,7 +200,6 @@ pub fn hit_of_only<M: LiveMap>(
     ensures err { OnErr result (0 < length (hits_of with_cas (M.entries map.old) (only.now ∷ []))) }
     ensures refused { OnErr result (map.new ≡ map.old) }
 {
-    let mut hits = hits;
     if let Some((entry, place)) = map.get(only) {
         let hit = hit_with(only, entry.value, entry.flags, entry.cas, with_cas);
         let wanted = hit.room().ok_or(Unshown::NoMemory)?;
@@ -252,7 +248,7 @@ pub fn hits_of_keys<M: LiveMap>(
     keys: &Keys,
     with_cas: bool,
     dialect: Dialect,
-    hits: HitWriter,
+    mut hits: HitWriter,
 ) -> Result<HitWriter, Unshown>
     requires { hits ≡ record { hits = []; room = 0 } }
     ensures ok { IfOk result (λ written. HasShown M.LiveMap with_cas map.old keys.now map.new written) }
@@ -263,7 +259,6 @@ pub fn hits_of_keys<M: LiveMap>(
     ensures err { OnErr result (0 < length (hits_of with_cas (M.entries map.old) keys.now)) }
     ensures refused { OnErr result (map.new ≡ map.old) }
 {
-    let mut hits = hits;
     read_ahead(map, keys);
     let (found, room) = find_keys(map, keys, with_cas)?;
     if room > MAX_ANSWER && are_too_long(map, found.as_slice(), with_cas, dialect) {

@@ -165,3 +165,9 @@ fresh_ends n g ends s made k d low = subst HasSentNothing
 pub made_for : (n m : ℕ) (g h : Terms) (ends : List WorkerView) (s : StorageView) → (n ≡ m) × (g ≡ h)
     → AreMade n g ends s → AreMade m h ends s
 made_for n m g h ends s same made = subst (λ (z : ℕ × Terms). AreMade z.0 z.1 ends s) (λ i. (same.0 i, same.1 i)) made
+
+-- the same by the terms of storage's own end, which is this one
+pub made_of : (n m : ℕ) (g : Terms) (ends : List WorkerView) (s e : StorageView) → n ≡ m → AreMade n g ends s → e ≡ s
+    → AreMade m e.terms ends e
+made_of n m g ends s e same made is = subst (λ (z : StorageView). AreMade m z.terms ends z) (sym is)
+    (made_for n m g s.terms ends s (same, sym (ap (λ (z : StorageView). z.terms) made.2)) made)

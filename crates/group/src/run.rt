@@ -1,8 +1,8 @@
 //! A whole run of a group.
-ghost use Rattle.std.specs.Prelude.{◌≡◌, Some, IsSome, ◌≤◌, List, [], IfOk, vec_len, vec_capacity, true, false};
+ghost use Rattle.std.specs.Prelude.{◌≡◌, Some, IsSome, ◌≤◌, List, [], All, map, IfOk, vec_len, vec_capacity, true, false};
 ghost use Rattle.proto.specs.declared.terms.Terms.{Terms};
 ghost use Rattle.proto.specs.Cache.{empty_cache};
-ghost use Rattle.exchange.specs.Ends.{AreTogether, IsCount};
+ghost use Rattle.exchange.specs.Ends.{AreMade, AreTogether, IsCount};
 ghost use Rattle.group.specs.Threads.{ArePortsOf, AreJoined, IsLeftByStorage, StartsEmpty, ends_of, workers_of};
 ghost use Rattle.group.specs.Headline.{IsRun};
 
@@ -10,11 +10,13 @@ use crate::context::GroupContext;
 use crate::fault::GroupFault;
 use crate::report::{Config, GroupReport, GroupWorker};
 use crate::start::announce_start;
-use crate::threads::{join_storage, join_workers, start_storage, start_workers};
+use crate::threads::{
+    StorageHandle, WorkerHandle, join_storage, join_workers, start_storage, start_workers,
+};
 use engine::{Clock, StorageEngine};
 use exchange::{Exchange, StorageSignals, WorkerEnd, gather};
-use std::alloc::Global;
-use std::sync::{OnceLock, Wait};
+use std::alloc::{AllocError, Global};
+use std::sync::{OnceLock, OnceToken, Wait};
 use std::thread::{Scope, Threads};
 use std::{thread, time};
 use storage_thread::StorageReport;
@@ -68,6 +70,108 @@ fn gather_report<P: Port, E: StorageEngine, C: Clock>(
     }
 }
 
+/// Lists with room for all workers, which joining and gathering fill.
+#[derive(Drop)]
+struct Room<'s, P: Port> {
+    handles: Vec<WorkerHandle<'s, P>>,
+    reports: Vec<WorkerReport<P>>,
+    workers: Vec<GroupWorker<P>>,
+    ends: Vec<WorkerEnd>,
+}
+
+/// Empty lists with room for this many workers.
+fn room_for<'s, P: Port>(alloc: Global, count: usize) -> Result<Room<'s, P>, AllocError>
+    ensures handles { IfOk result (λ r. (r.handles.items ≡ []) × (count ≤ vec_capacity r.handles)) }
+    ensures reports { IfOk result (λ r. (r.reports.items ≡ []) × (count ≤ vec_capacity r.reports)) }
+    ensures workers { IfOk result (λ r. (r.workers.items ≡ []) × (count ≤ vec_capacity r.workers)) }
+    ensures ends { IfOk result (λ r. (r.ends.items ≡ []) × (count ≤ vec_capacity r.ends)) }
+{
+    Ok(Room {
+        handles: Vec::with_capacity(alloc, count)?,
+        reports: Vec::with_capacity(alloc, count)?,
+        workers: Vec::with_capacity(alloc, count)?,
+        ends: Vec::with_capacity(alloc, count)?,
+    })
+}
+
+/// Joins all threads, which were told to begin, and gathers what they leave. The lists have room for it.
+fn join_all<'s, P: Port, E: StorageEngine, C: Clock, R: Threads>(
+    rt: &R,
+    told: &OnceToken<'s, bool>,
+    handles: Vec<WorkerHandle<'s, P>>,
+    storage: StorageHandle<'s, E, C>,
+    reports: Vec<WorkerReport<P>>,
+    workers: Vec<GroupWorker<P>>,
+    ends: Vec<WorkerEnd>,
+) -> GroupReport<P, C>
+    requires began { All (λ h. told.now.of ≡ h.promise.start.now.id) handles.items × (told.now.value ≡ true) }
+    requires storage { told.now.of ≡ storage.promise.start.now.id }
+    requires made { AreMade (vec_len handles) storage.promise.end.value.terms
+        (map (λ h. h.promise.end.value) handles.items) storage.promise.end.value }
+    requires reports { (reports.items ≡ []) × (vec_len handles ≤ vec_capacity reports) }
+    requires workers { (workers.items ≡ []) × (vec_len handles ≤ vec_capacity workers) }
+    requires ends { (ends.items ≡ []) × (vec_len handles ≤ vec_capacity ends) }
+    ensures { IsRun P.told P.leads_to C.told C.leads_to (E.keeps storage.entry.promise.store.value []) E.may_refuse
+        storage.entry.promise.end.value.terms.geometry (map (λ h. h.promise.port.value) handles.entry.items)
+        storage.entry.promise.clock.value result }
+{
+    let left = join_workers(rt, told, handles, reports);
+    let stored = join_storage(rt, told, storage);
+    gather_report::<P, E, C>(left, stored, workers, ends)
+}
+
+/// Starts a thread for each port, has all threads begin, and joins them. The storage thread was started, with its end of the
+/// exchange that the other ends are of.
+fn run_started<
+    's,
+    'e,
+    P: Port + Send + 's,
+    E: StorageEngine,
+    C: Clock,
+    G: Gate + Sync,
+    R: Threads + Wait + time::Clock + Sync,
+>(
+    rt: &'s R,
+    scope: &'s Scope<'s, &'e ()>,
+    context: &'s GroupContext<'s, G>,
+    ports: Vec<P>,
+    ends: Vec<WorkerEnd>,
+    storage: StorageHandle<'s, E, C>,
+    room: Room<'s, P>,
+) -> Result<GroupReport<P, C>, GroupFault>
+    requires ports { ArePortsOf P.told storage.promise.end.value.exchange storage.promise.end.value.terms
+        context.now.config.dialect ports.items }
+    requires made { AreMade (vec_len ports) storage.promise.end.value.terms ends.items storage.promise.end.value }
+    requires start { storage.promise.start.now.id ≡ context.now.start.now.id }
+    requires handles { (room.handles.items ≡ []) × (vec_len ports ≤ vec_capacity room.handles) }
+    requires reports { (room.reports.items ≡ []) × (vec_len ports ≤ vec_capacity room.reports) }
+    requires workers { (room.workers.items ≡ []) × (vec_len ports ≤ vec_capacity room.workers) }
+    requires gathered { (room.ends.items ≡ []) × (vec_len ports ≤ vec_capacity room.ends) }
+    ensures run { IfOk result (λ report. IsRun P.told P.leads_to C.told C.leads_to
+        (E.keeps storage.entry.promise.store.value []) E.may_refuse storage.entry.promise.end.value.terms.geometry
+        ports.items storage.entry.promise.clock.value report) }
+{
+    let Room {
+        handles,
+        reports,
+        workers,
+        ends: gathered,
+    } = room;
+    match start_workers(rt, scope, context, ports, ends, handles) {
+        Ok(handles) => {
+            let told = announce_start(rt, context.start, true);
+            if !*context.start.value(&told) {
+                return Err(GroupFault::NoThread);
+            }
+            Ok(join_all::<P, E, C, R>(rt, &told, handles, storage, reports, workers, gathered))
+        }
+        Err(fault) => {
+            announce_start(rt, context.start, false);
+            Err(fault)
+        }
+    }
+}
+
 /// Makes all room that joining needs, starts the threads, and joins them.
 fn run_in<
     's,
@@ -96,27 +200,9 @@ fn run_in<
 {
     let count = ports.len();
     let (ends, storage_end) = exchange.into_ends();
-    let handles = Vec::with_capacity(context.alloc, count)?;
-    let reports = Vec::with_capacity(context.alloc, count)?;
-    let workers = Vec::with_capacity(context.alloc, count)?;
-    let gathered_ends = Vec::with_capacity(context.alloc, count)?;
+    let room = room_for(context.alloc, count)?;
     let storage = start_storage(rt, scope, context, store, clock, storage_end)?;
-    match start_workers(rt, scope, context, ports, ends, handles) {
-        Ok(handles) => {
-            let told = announce_start(rt, context.start, true);
-            if !*context.start.value(&told) {
-                return Err(GroupFault::NoThread);
-            }
-            let reports = join_workers(rt, &told, handles, reports);
-            let storage = join_storage(rt, &told, storage);
-            let report = gather_report::<P, E, C>(reports, storage, workers, gathered_ends);
-            Ok(report)
-        }
-        Err(fault) => {
-            announce_start(rt, context.start, false);
-            Err(fault)
-        }
-    }
+    run_started(rt, scope, context, ports, ends, storage, room)
 }
 
 /// Runs a worker for each port, and one storage thread over the store, each in a thread of its own, until all ports

@@ -15,7 +15,7 @@ use command_line::{ServeOptions, on_one_line, options_in_force};
 use exchange::{Exchange, ExchangeName};
 use group::{Config, GroupReport, run_group};
 use net::{Hand, ListenReport, Listener, MioPort, NetFault, Owner, StreamSender};
-use proto::{Geometry, MAX_SESSIONS, SystemClock, Terms};
+use proto::{Geometry, MAX_SESSIONS, NoMemory, SystemClock, Terms};
 use segcache::Store;
 use std::alloc::Global;
 use std::io::{Eprint, Write};
@@ -128,6 +128,37 @@ fn announce<W: Write>(
     Ok(())
 }
 
+/// The terms of what is served: moments are the system clock's, and a write is refused no memory.
+fn terms_of(geometry: Geometry) -> Terms
+    ensures { result ≡ by_system_clock geometry }
+{
+    Terms {
+        geometry,
+        system_clock: true,
+        may_refuse: false,
+    }
+}
+
+/// An empty store as the options say, which hashes the seed before each key.
+fn new_store(
+    alloc: Global,
+    options: &ServeOptions,
+    geometry: Geometry,
+    seed: u64,
+) -> Result<Store, NoMemory>
+    ensures { IfOk result (λ store. IsStoreFor geometry seed options.entry.now store) }
+{
+    Store::seeded(
+        alloc,
+        geometry,
+        0,
+        seed,
+        options.update_in_place,
+        options.dialect,
+        options.eviction,
+    )
+}
+
 /// What is made before the line is printed: the listener with its ends of the hands, the exchange, its workers' ports and
 /// the store.
 #[derive(Drop)]
@@ -160,30 +191,18 @@ where
         Ok(listener) => listener,
         Err(fault) => return Err(cannot_listen(alloc, options, fault)),
     };
-    let terms = Terms {
-        geometry,
-        system_clock: true,
-        may_refuse: false,
-    };
-    let exchange = Exchange::new(alloc, options.workers as usize, terms)?;
+    let exchange = Exchange::new(alloc, options.workers as usize, terms_of(geometry))?;
     let (hands, ports) = match make_ports(rt, alloc, geometry, &exchange, options) {
         Ok(made) => made,
         Err(fault) => return Err(cannot_listen(alloc, options, fault)),
     };
+    let store = new_store(alloc, options, geometry, seed)?;
     Ok(Opened {
         listener,
         hands,
         exchange,
         ports,
-        store: Store::seeded(
-            alloc,
-            geometry,
-            0,
-            seed,
-            options.update_in_place,
-            options.dialect,
-            options.eviction,
-        )?,
+        store,
     })
 }
 
@@ -226,11 +245,7 @@ where
     ensures { IfOk result (λ report. IsServed geometry _seed options.entry.now report) }
 {
     let config = Config {
-        terms: Terms {
-            geometry,
-            system_clock: true,
-            may_refuse: false,
-        },
+        terms: terms_of(geometry),
         dialect: options.dialect,
         spin: options.spin,
     };

@@ -1,5 +1,6 @@
-use Rattle.std.proofs.Common.{false, [], refl, sym, ◌∙◌}
+use Rattle.std.proofs.Common.{false, [], refl, sym, subst, ◌∙◌}
 use Rattle.std.specs.Prelude.{⊤}
+use Rattle.proto.specs.declared.terms.Terms.{Terms}
 use Rattle.segcache.specs.Keeping.{KeepsStored}
 use Rattle.segcache.specs.StoreState.{sizes_in}
 use Rattle.serving.specs.Runs.{socket_told, clock_told}
@@ -7,11 +8,15 @@ use denote.Exit.{no}
 use denote.Param.Send.{param_send, arg_send}
 use Rattle.serving.proofs.Ports.{new_of}
 use Rattle.serving.proofs.Sends.{port_sends}
+use Rattle.group.specs.Threads.{ArePortsOf}
 use Rattle.group.proofs.Keeping.{keeping_run}
 use Rattle.serving.proofs.service.run_workers.Goals as goal
 
 pub run_group-requires-clause-ports : goal.run_group-requires-clause-ports
-run_group-requires-clause-ports g c κs within = new_of c.args.geometry c.args.options.now.dialect c.args.exchange.id c.args.ports.items c.requires.ports
+run_group-requires-clause-ports g c κs within =
+    subst (λ (t : Terms). ArePortsOf socket_told c.args.exchange.id t c.args.options.now.dialect c.args.ports.items)
+    (sym c.terms_of.ensures)
+    (new_of c.args.geometry c.args.options.now.dialect c.args.exchange.id c.args.ports.items c.requires.ports)
 
 pub run_group-requires-send-P : goal.run_group-requires-send-P
 run_group-requires-send-P g c κs within = param_send 0 _ (arg_send _ no _ (port_sends _ c.type_bounds.send-H))

@@ -345,7 +345,18 @@ fn add_ending<R: Abort + Copy + Drop>(
     }
 }
 
-/// Session 1 sends 20 requests while the output of the others waits, and 20 more once it doesn't.
+/// Session 1 sends 20 requests, each once the one before it was answered: at 64 MiB no answer of its own may wait for another,
+/// since that would be output above the limit.
+fn add_single_requests<R: Abort + Copy + Drop>(steps: &mut Steps<R>) {
+    let rt = steps.rt;
+    let line = lines_of(&rt, steps.alloc, 1, 1);
+    for answered in 1..=20usize {
+        steps.send(1, line.as_slice());
+        steps.add(Step::UntilGiven(answered.saturating_mul(5)));
+    }
+}
+
+/// Session 1 sends 20 requests in turn while the output of the others waits, and 20 more at once when it doesn't.
 fn check_unread<R>(rt: &R, alloc: Global, unread: &Unread, ending: Ending)
 where
     R: Abort + Threads + Wait + Clock + Copy + Drop + Send + Sync + 'static,
@@ -354,8 +365,7 @@ where
     let mut steps = Steps::new(rt, alloc);
     add_silent(&mut steps, unread);
     steps.add(Step::UntilOffered(unread.waiting));
-    steps.send(1, burst.as_slice());
-    steps.add(Step::UntilGiven(100));
+    add_single_requests(&mut steps);
     let accepted = add_ending(&mut steps, ending, unread);
     steps.send(1, burst.as_slice());
     let geometry = Geometry::new(1_048_576, 8).expect(rt, "a geometry");

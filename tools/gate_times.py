@@ -76,7 +76,8 @@ def look(seen, above):
         if not words or os.path.basename(words[0]) != "rattle":
             continue
         fields, crate, kind = stat_of(pid), crate_of(words), kind_of(pid, words)
-        if len(fields) > 19 and crate and kind and is_below(pid, above):
+        # (the tests of wrong_bodies.py check a small crate of their own)
+        if len(fields) > 19 and crate and kind and os.path.isdir(f"{TOP}/crates/{crate}") and is_below(pid, above):
             seconds = (int(fields[11]) + int(fields[12])) / TICKS
             seen[pid, fields[19]] = crate, kind, seconds
 

@@ -16,7 +16,7 @@ pub(crate) enum PortNote<'a> {
 
 impl Noted<PortRecord> for PortNote<'_> {
     ghost use Rattle.std.specs.Prelude.{[], ◌∷◌};
-    ghost use Rattle.script.specs.Notes.{entry_of};
+    ghost use Rattle.script.specs.Notes.{noted_record};
 
-    ghost noted = { λ note. entry_of note ∷ [] };
+    ghost noted = { λ note. noted_record note ∷ [] };
 }

@@ -11,7 +11,7 @@ ghost use Rattle.script.specs.PortSessions.{is_closed, is_paused};
 ghost use Rattle.script.specs.Players.{is_left, is_ready, events_left, NoneReady, player_state};
 ghost use Rattle.script.specs.Players.{PlayerGoesOn, IsFirst, IsCausedAt, PlaysNext};
 ghost use Rattle.script.specs.Players.{RecordsClose, EndsSession, Keeps, CountsOffer, GivesAs};
-ghost use Rattle.script.specs.Notes.{entry_of};
+ghost use Rattle.script.specs.Notes.{noted_record};
 ghost use Rattle.script.specs.States.{CountsGive, SetsPaused, new_player, with_faults};
 ghost use Rattle.worker_port.specs.Ports.{is_open};
 
@@ -214,11 +214,11 @@ impl Player {
 
     /// Ends an open session with the note's entry. Its events are left no more.
     pub(crate) fn close(&mut self, session: u64, note: PortNote<'_>)
-        requires ends { EndsSession session (entry_of note) }
-        requires caused { IsCausedAt self.old session (entry_of note) }
+        requires ends { EndsSession session (noted_record note) }
+        requires caused { IsCausedAt self.old session (noted_record note) }
         ensures goes_on { PlayerGoesOn self.old self.new }
         ensures closes { is_open session self.old.records ≡ true
-            → RecordsClose self.old session (entry_of note.entry) self.new }
+            → RecordsClose self.old session (noted_record note.entry) self.new }
         ensures same { is_open session self.old.records ≡ false → self.new ≡ self.old }
     {
         if self.sessions.change(session, Stage::Closed) {

@@ -13,7 +13,7 @@ use Rattle.script.specs.PortSessions.{with_stage}
 use Rattle.script.specs.PortEvents.{plays_from}
 use Rattle.script.specs.Remaining.{in_order}
 use Rattle.script.specs.Records.{opened_by}
-use Rattle.script.specs.Notes.{entry_of}
+use Rattle.script.specs.Notes.{noted_record}
 use Rattle.script.specs.declared.player.Player.{Player}
 use Rattle.script.specs.Players.{Agrees, events_left, parts_of, IsCausedAt}
 use Rattle.script.specs.Following.{MayGo}
@@ -27,7 +27,7 @@ use Rattle.proto.proofs.CountLemmas.{either_way}
 
 pub invariant_of-self : goal.invariant_of-self
 invariant_of-self c =
-    let p = parts_of c.self.inside in let k = c.self.invariant in let s = c.args.session in let e = entry_of c.args.note in
+    let p = parts_of c.self.inside in let k = c.self.invariant in let s = c.args.session in let e = noted_record c.args.note in
     let caused = subst (λ (q : Player). IsCausedAt q s e) (sym c.self.view_is) c.requires.caused in
     let ss = p.sessions in let ss' = c.change.new.self in let l = p.records in let l' = c.note_as.new.self.items in
     let a = c.change.ensures.changes c.if-change.true in

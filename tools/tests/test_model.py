@@ -8,28 +8,20 @@ strict dialect have such requests too, which are refused. Half evict the least r
 import concurrent.futures
 import itertools
 import random
-import subprocess
-import tempfile
 
 from hypothesis import given, settings
 from hypothesis import strategies as st
 from model import JOINS, LOCAL, Cache, refused
+from replayed import replay
 
 FIRST_MOMENT = 1000
 
 
-def replay(program, sent, segment_size, segments, tick, *dialect):
-    """What one session is given that sends these requests, fifty in a piece."""
-    with tempfile.NamedTemporaryFile("w", suffix=".script") as script:
-        script.write("open 0 1\n")
-        for at in range(0, len(sent), 50):
-            script.write(f"send 0 1 {b''.join(sent[at : at + 50]).hex()}\n")
-        script.flush()
-        words = [program, "replay", script.name, "--segment-size", str(segment_size), "--segments", str(segments)]
-        words += ["--tick", str(tick), "--now", str(FIRST_MOMENT), *dialect]
-        printed = subprocess.run(words, stdout=subprocess.PIPE, text=True, check=True, timeout=120).stdout
-    digits = printed.split()[2]
-    return b"" if digits == "-" else bytes.fromhex(digits)
+def replay_over(program, sent, segment_size, segments, tick, *dialect):
+    """What one session is given that sends these requests, fifty in a piece, to a store of these sizes."""
+    pieces = [b"".join(sent[at : at + 50]) for at in range(0, len(sent), 50)]
+    sizes = ["--segment-size", segment_size, "--segments", segments]
+    return replay(program, pieces, *sizes, "--tick", tick, "--now", FIRST_MOMENT, *dialect)
 
 
 def spelled(cache, requests, tick, is_lenient):
@@ -124,7 +116,7 @@ def long_run(program, number):
     sent, wanted = spelled(cache, requests, tick, bool(dialect))
     sent = with_spaces(sent) if dialect else sent
     options = dialect + LEAST_READ * is_least_read + IN_PLACE * is_in_place
-    must_be_answered_as(wanted, replay(program, sent, segment_size, segments, tick, *options), sent)
+    must_be_answered_as(wanted, replay_over(program, sent, segment_size, segments, tick, *options), sent)
     return cache.merges, cache.clearings, cache.given_back
 
 
@@ -204,4 +196,4 @@ def test_any_requests_are_answered_as_by_the_model(program, sizes, tick, parts, 
     else:
         (sent, wanted), dialect = spelled(cache, requests, tick, False), []
     options = dialect + LEAST_READ * is_least_read + IN_PLACE * is_in_place
-    must_be_answered_as(wanted, replay(program, sent, *sizes, tick, *options), sent)
+    must_be_answered_as(wanted, replay_over(program, sent, *sizes, tick, *options), sent)

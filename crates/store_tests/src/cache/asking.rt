@@ -1,9 +1,28 @@
 //! Requests and answers as texts.
 
-use crate::cache::session::reply;
+ghost use Rattle.std.specs.Prelude.{◌≡◌, is_some};
+ghost use Rattle.proto.specs.Answers.{is_ask};
+
 use engine::{MAX_MOMENT, StorageEngine};
-use proto::{Dialect, Message, Next, NoMemory, next_message_in, show};
+use proto::{Dialect, Message, Next, NoMemory, Reply, next_message_in, show};
 use std::alloc::Global;
+
+/// Executes the message, if it is a request; the moment is not before the last one.
+fn reply<S: StorageEngine>(store: &mut S, now: u64, message: &mut Message) -> Option<Reply>
+    ensures asked { is_some result ≡ is_ask message.old }
+    ensures same { message.new ≡ message.old }
+{
+    match message {
+        Message::Ask(request, _) => {
+            let now = now.min(MAX_MOMENT).max(store.last_moment());
+            if now > MAX_MOMENT {
+                return Some(Reply::NoMemory);
+            }
+            Some(store.handle(now, request))
+        }
+        _ => None,
+    }
+}
 
 /// Executes the message and adds what is answered, if it is a request.
 fn push_answer<E: StorageEngine>(

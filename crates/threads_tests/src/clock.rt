@@ -1,4 +1,4 @@
-//! A clock that stands still.
+//! A clock that stands still, and one that counts.
 
 use proto::{Clock, ClockAnswer};
 
@@ -21,5 +21,30 @@ impl Clock for SteadyClock {
 
     fn now(&mut self) -> ClockAnswer {
         ClockAnswer::given(1000)
+    }
+}
+
+/// Answers 1, 2, 3 and so on.
+#[derive(Drop)]
+pub(crate) struct CountingClock {
+    pub(crate) last: u64,
+}
+
+impl Clock for CountingClock {
+    ghost use Rattle.std.specs.Prelude.{⊤, None};
+
+    ghost told = { λ _. None };
+
+    ghost leads_to = { λ _ _. ⊤ };
+
+    ghost start = { λ _. None };
+
+    ghost leads_reflexive = { λ _. tt };
+
+    ghost leads_transitive = { λ _ _ _ _ _. tt };
+
+    fn now(&mut self) -> ClockAnswer {
+        self.last = self.last.saturating_add(1);
+        ClockAnswer::given(self.last)
     }
 }

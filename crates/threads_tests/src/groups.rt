@@ -1,7 +1,9 @@
 //! Whole groups, over the segmented store.
 
-mod counters;
+mod eighths;
+mod keeping_port;
 mod meeting;
+mod pace;
 mod rows;
 mod running;
 mod second_gate;

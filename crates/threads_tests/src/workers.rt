@@ -1,11 +1,10 @@
 //! The worker's loop, over the plain store: a storage thread runs beside it. And a gate that holds workers.
 
+mod hold_gate;
 mod live;
-mod patience;
 mod recording_port;
 mod records;
 mod refusing_gate;
 mod rows;
 mod running;
 mod scripts;
-mod serving;

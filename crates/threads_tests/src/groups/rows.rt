@@ -1,85 +1,74 @@
 //! Runs of whole groups.
 
-use crate::groups::counters::{CountedClock, CountedPort, Counters};
+use crate::clock::{CountingClock, SteadyClock};
+use crate::groups::keeping_port::KeepingPort;
 use crate::groups::meeting::{Meeting, MeetingClock};
 use crate::groups::running::{are_complete, ports_of, run};
 use crate::groups::second_gate::SecondGate;
 use crate::same::check_same;
 use bytes::Bytes;
+use group::GroupReport;
 use std::alloc::Global;
+use std::process::Abort;
 use std::test::Fail;
 use worker::{HoldGate, OpenGate};
-
-const KEYS: &[u8] = b"abcdefghi";
 
 #[test]
 fn one_worker_drains(rt: HostRuntime) {
     let alloc: Global = rt.alloc();
-    let counters = Counters::new();
-    let ports = ports_of(&rt, alloc, &counters, b"a");
-    let clock = CountedClock {
-        counters: &counters,
-    };
-    let report = run(&rt, alloc, ports, clock, &OpenGate).expect(&rt, "a run");
+    let clock = CountingClock { last: 0 };
+    let report = run(&rt, alloc, ports_of(&rt, alloc, b"a"), clock, &OpenGate);
     assert!(rt; are_complete(&rt, alloc, report.workers.as_slice(), b"a"));
     check_same(&rt, report.executed, 2, "executed");
-    check_same(&rt, counters.asked().1, 2, "moments");
+    check_same(&rt, report.clock.last, 2, "moments");
+}
+
+fn check_waited(rt: &impl Abort, alloc: Global, report: &GroupReport<KeepingPort, SteadyClock>) {
+    assert!(*rt; are_complete(rt, alloc, report.workers.as_slice(), b"ab"));
+    check_same(rt, report.executed, 4, "executed");
+    let two_each: &[u64] = &[2, 2, 0, 0, 0, 0, 0, 0];
+    check_same(rt, report.gathered.sent.as_slice(), two_each, "sent");
+    check_same(rt, report.gathered.back.as_slice(), two_each, "back");
 }
 
 #[test]
 fn two_workers_wait_for_each_other(rt: HostRuntime) {
     let alloc: Global = rt.alloc();
-    let counters = Counters::new();
     let gate = HoldGate::new();
-    let ports = ports_of(&rt, alloc, &counters, b"ab");
-    let clock = CountedClock {
-        counters: &counters,
-    };
-    let report = run(&rt, alloc, ports, clock, &gate).expect(&rt, "a run");
-    assert!(rt; are_complete(&rt, alloc, report.workers.as_slice(), b"ab"));
+    let report = run(&rt, alloc, ports_of(&rt, alloc, b"ab"), SteadyClock, &gate);
+    check_waited(&rt, alloc, &report);
     assert!(rt; !gate.spent());
-    check_same(&rt, report.executed, 4, "executed");
-    let two_each: &[u64] = &[2, 2, 0, 0, 0, 0, 0, 0];
-    check_same(&rt, report.gathered.sent.as_slice(), two_each, "sent");
-    check_same(&rt, report.gathered.back.as_slice(), two_each, "back");
 }
 
 #[test]
 fn all_apart(rt: HostRuntime) {
     let alloc: Global = rt.alloc();
-    let counters = Counters::new();
+    let keys = b"abcdefgh";
     let meeting = Meeting::new();
-    let keys = &KEYS[..8];
-    let ports = ports_of(&rt, alloc, &counters, keys);
     let clock = MeetingClock { meeting: &meeting };
-    let report = run(&rt, alloc, ports, clock, &meeting).expect(&rt, "a run");
+    let report = run(&rt, alloc, ports_of(&rt, alloc, keys), clock, &meeting);
     check_same(&rt, meeting.given_up(), 0, "stays given up");
     assert!(rt; are_complete(&rt, alloc, report.workers.as_slice(), keys));
     check_same(&rt, report.executed, 16, "executed");
 }
 
+fn check_seen(rt: &impl Abort, report: &GroupReport<KeepingPort, SteadyClock>) {
+    let [first, second] = report.workers.as_slice() else {
+        panic!(*rt; "two workers")
+    };
+    let stored: &[u8] = b"STORED\r\n";
+    let wanted: &[u8] = b"VALUE a 0 1\r\nx\r\nEND\r\n";
+    check_same(rt, first.port.given.as_slice(), stored, "the first");
+    check_same(rt, second.port.given.as_slice(), wanted, "the second");
+}
+
 #[test]
 fn two_workers_see_one_cache(rt: HostRuntime) -> Result<(), Fail> {
     let alloc: Global = rt.alloc();
-    let counters = Counters::new();
-    let gate = SecondGate::new();
-    let ports = vec![in alloc;
-        CountedPort::new(
-            alloc,
-            &counters,
-            Bytes::from_static(b"set a 0 0 1\r\nx\r\n")
-        ),
-        CountedPort::new(alloc, &counters, Bytes::from_static(b"get a\r\n")),
-    ]?;
-    let clock = CountedClock {
-        counters: &counters,
-    };
-    let report = run(&rt, alloc, ports, clock, &gate).expect(&rt, "a run");
-    let [first, second] = report.workers.as_slice() else {
-        panic!(rt; "two workers")
-    };
-    let wanted: &[u8] = b"VALUE a 0 1\r\nx\r\nEND\r\n";
-    assert!(rt; first.port.given.as_slice() == b"STORED\r\n".as_slice());
-    assert!(rt; second.port.given.as_slice() == wanted);
+    let set = Bytes::from_static(b"set a 0 0 1\r\nx\r\n");
+    let get = Bytes::from_static(b"get a\r\n");
+    let ports = vec![in alloc; KeepingPort::new(alloc, set), KeepingPort::new(alloc, get)]?;
+    let report = run(&rt, alloc, ports, SteadyClock, &SecondGate::new());
+    check_seen(&rt, &report);
     Ok(())
 }

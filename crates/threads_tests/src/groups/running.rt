@@ -1,12 +1,13 @@
 //! Ports with their bytes, runs over them, and what a group's workers were given.
 
-ghost use Rattle.std.specs.Prelude.{◌≡◌, [], Some, IsSome};
+ghost use Rattle.std.specs.Prelude.{◌≡◌, [], Some, None, IsSome};
 
-use crate::groups::counters::{CountedPort, Counters};
+use crate::groups::keeping_port::KeepingPort;
+use crate::serving::sizes;
 use bytes::Bytes;
 use exchange::Exchange;
-use group::{Config, GroupFault, GroupReport, GroupWorker, run_group};
-use proto::{Clock, Dialect, Geometry, Terms};
+use group::{Config, GroupReport, GroupWorker, run_group};
+use proto::{Clock, Dialect, Terms};
 use segcache::Store;
 use std::alloc::Global;
 use std::process::Abort;
@@ -14,15 +15,16 @@ use std::sync::Wait;
 use std::thread::Threads;
 use std::time;
 use worker::Gate;
+use worker_port::Port;
 
 /// Stores one byte under the key `a` and asks for it.
-pub(crate) const INPUT: &[u8] = b"set a 0 0 1\r\nx\r\nget a\r\n";
+const INPUT: &[u8] = b"set a 0 0 1\r\nx\r\nget a\r\n";
 
 /// What is answered.
-pub(crate) const OUTPUT: &[u8] = b"STORED\r\nVALUE a 0 1\r\nx\r\nEND\r\n";
+const OUTPUT: &[u8] = b"STORED\r\nVALUE a 0 1\r\nx\r\nEND\r\n";
 
 /// The bytes with this key in place of `a`.
-pub(crate) fn with_key<R: Abort>(rt: &R, alloc: Global, bytes: &[u8], key: u8) -> Vec<u8> {
+fn with_key<R: Abort>(rt: &R, alloc: Global, bytes: &[u8], key: u8) -> Vec<u8> {
     let mut all = Vec::new(alloc);
     for byte in bytes {
         let byte = if *byte == b'a' { key } else { *byte };
@@ -32,39 +34,35 @@ pub(crate) fn with_key<R: Abort>(rt: &R, alloc: Global, bytes: &[u8], key: u8) -
 }
 
 /// A port for each key, whose session 1 sends these bytes with the key in place of `a`.
-pub(crate) fn ports_of<'a, R: Abort>(
-    rt: &R,
-    alloc: Global,
-    counters: &'a Counters,
-    keys: &[u8],
-) -> Vec<CountedPort<'a>> {
+pub(crate) fn ports_of<R: Abort>(rt: &R, alloc: Global, keys: &[u8]) -> Vec<KeepingPort> {
     let mut ports = Vec::new(alloc);
     for key in keys {
         let bytes = with_key(rt, alloc, INPUT, *key);
         let input = Bytes::copy_from_slice(alloc, bytes.as_slice()).expect(rt, "memory");
         ports
-            .push(CountedPort::new(alloc, counters, input))
+            .push(KeepingPort::new(alloc, input))
             .expect(rt, "memory");
     }
     ports
 }
 
 /// Runs a group over a new store of 64 segments.
-pub(crate) fn run<
-    'a,
+pub(crate) fn run<P, C, G, R>(
+    rt: &R,
+    alloc: Global,
+    ports: Vec<P>,
+    clock: C,
+    gate: &G,
+) -> GroupReport<P, C>
+where
+    P: Port + Send,
     C: Clock + Send,
     G: Gate + Sync,
     R: Abort + Threads + Wait + time::Clock + Sync,
->(
-    rt: &R,
-    alloc: Global,
-    ports: Vec<CountedPort<'a>>,
-    clock: C,
-    gate: &G,
-) -> Result<GroupReport<CountedPort<'a>, C>, GroupFault>
+    requires untold { (port : P) → P.told port ≡ None }
     requires unasked { IsSome (C.start clock) → C.told clock ≡ Some [] }
 {
-    let geometry = Geometry::new(65_536, 64).expect(rt, "a geometry");
+    let geometry = sizes(rt);
     let store = Store::new(alloc, geometry).expect(rt, "memory");
     let config = Config {
         terms: Terms {
@@ -76,14 +74,14 @@ pub(crate) fn run<
         spin: None,
     };
     let exchange = Exchange::new(alloc, ports.len(), config.terms).expect(rt, "an exchange");
-    run_group(rt, alloc, ports, exchange, config, store, clock, gate)
+    run_group(rt, alloc, ports, exchange, config, store, clock, gate).expect(rt, "a run")
 }
 
 /// Each worker's session 1 was given the whole output for its key, and was open until the port ended.
 pub(crate) fn are_complete<R: Abort>(
     rt: &R,
     alloc: Global,
-    workers: &[GroupWorker<CountedPort<'_>>],
+    workers: &[GroupWorker<KeepingPort>],
     keys: &[u8],
 ) -> bool {
     for (worker, key) in workers.iter().zip(keys.iter()) {

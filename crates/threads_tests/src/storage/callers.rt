@@ -5,11 +5,11 @@ ghost use Rattle.proto.specs.Cache.{empty_cache};
 ghost use Rattle.segcache.specs.StoreState.{sizes_in, segmented_cache, last_moment};
 ghost use Rattle.storage_thread.specs.Serving.{IsUnused, IsSameExchange};
 
+use crate::clock::CountingClock;
 use crate::same::check_same;
 use crate::signals::signals_of;
 use crate::storage::ends::{ask, made};
 use exchange::{Gathered, StorageEnd, StorageSignals, WorkerEnd, gather};
-use proto::{Clock, ClockAnswer};
 use segcache::Store;
 use std::alloc::Global;
 use std::process::Abort;
@@ -24,31 +24,6 @@ use storage_thread::{StorageReport, run_storage};
 const CALLERS: usize = 8;
 
 const REQUESTS: u64 = 10_000;
-
-/// Answers 1, 2, 3 and so on.
-#[derive(Drop)]
-struct Count {
-    last: u64,
-}
-
-impl Clock for Count {
-    ghost use Rattle.std.specs.Prelude.{⊤, None};
-
-    ghost told = { λ _. None };
-
-    ghost leads_to = { λ _ _. ⊤ };
-
-    ghost start = { λ _. None };
-
-    ghost leads_reflexive = { λ _. tt };
-
-    ghost leads_transitive = { λ _ _ _ _ _. tt };
-
-    fn now(&mut self) -> ClockAnswer {
-        self.last = self.last.saturating_add(1);
-        ClockAnswer::given(self.last)
-    }
-}
 
 /// The number of the answer that is taken, if there is one; it is counted where it is one above the last.
 fn take(end: &mut WorkerEnd, last: u64, good: &AtomicU64) -> Option<u64>
@@ -105,7 +80,7 @@ fn call<R: Wait>(
 #[derive(Drop)]
 struct StorageStays(Snapshot<StorageEnd>);
 
-impl Promise<StorageReport<Count>> for StorageStays {
+impl Promise<StorageReport<CountingClock>> for StorageStays {
     ghost use Rattle.storage_thread.specs.Serving.{IsSameExchange};
 
     ghost kept_by = { λ p r. IsSameExchange p.0.value r.storage_end };
@@ -126,11 +101,11 @@ fn many_callers(rt: HostRuntime) -> Result<(), Fail> {
     let of_storage = Arc::try_clone(&signals).expect(&rt, "memory");
     let good = AtomicU64::new(0);
     let promise = StorageStays(Snapshot::of(&storage));
-    let clock = Count { last: 0 };
+    let clock = CountingClock { last: 0 };
     let child = thread::spawn_with(
         &rt,
         promise,
-        move || -> StorageReport<Count>
+        move || -> StorageReport<CountingClock>
             requires empty { (segmented_cache store ≡ empty_cache 0) × (last_moment store ≡ 0) }
             requires sizes { sizes_in store ≡ storage.terms.geometry }
             requires any_terms { (storage.terms.system_clock ≡ false) × (storage.terms.may_refuse ≡ true) }

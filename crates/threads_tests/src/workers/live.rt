@@ -2,9 +2,9 @@
 //! session that was forgotten.
 
 use crate::same::check_same;
+use crate::serving::{serve_untold, sizes};
+use crate::texts::{much_output, repeated};
 use crate::workers::refusing_gate::RefusingGate;
-use crate::workers::scripts::{joined, repeated};
-use crate::workers::serving::{exchange_of_one, serve, sizes};
 use bytes::Bytes;
 use exchange::WorkerBatch;
 use std::alloc::Global;
@@ -121,7 +121,7 @@ impl Port for LivePort {
 }
 
 /// What a peer sends and how it takes what it is given.
-#[derive(Drop)]
+#[derive(Clone, Copy)]
 struct Peer<'a> {
     input: &'a [u8],
     /// The most bytes of one piece.
@@ -133,26 +133,24 @@ struct Peer<'a> {
     is_shut: bool,
     accept: usize,
     slow_gives: u64,
+    /// How many requests are executed.
+    executed: u64,
 }
 
-/// All came while the port was still open, and the port was let wait only where nothing was left to do. The number of
-/// requests that were executed.
-fn check_served<R, G>(rt: &R, alloc: Global, peer: Peer, gate: &G) -> u64
-where
-    R: Abort + Threads + Wait + Clock + Copy + Drop + Send + Sync + 'static,
-    G: Gate,
-{
-    assert!(*rt; peer.piece > 0);
+fn pieces_of<R: Abort>(rt: &R, alloc: Global, peer: &Peer) -> VecDeque<Bytes> {
     let mut pieces = VecDeque::new(alloc);
-    for piece in peer.input.chunks(peer.piece) {
-        pieces
-            .push_back(Bytes::copy_from_slice(alloc, piece).expect(rt, "memory"))
-            .expect(rt, "memory");
+    for piece in peer.input.chunks(peer.piece.max(1)) {
+        let bytes = Bytes::copy_from_slice(alloc, piece).expect(rt, "memory");
+        pieces.push_back(bytes).expect(rt, "memory");
     }
-    let port = LivePort {
+    pieces
+}
+
+fn port_of<R: Abort>(rt: &R, alloc: Global, peer: &Peer) -> LivePort {
+    LivePort {
         is_open: false,
         is_paused: false,
-        pieces,
+        pieces: pieces_of(rt, alloc, peer),
         ends_input: peer.ends_input,
         input_ended: false,
         wanted: peer.wanted,
@@ -164,91 +162,35 @@ where
         patience: PATIENCE,
         waits_at_first: false,
         waits_early: false,
-    };
-    let geometry = sizes(rt);
-    let exchange = exchange_of_one(rt, alloc, geometry);
-    let (report, executed) = serve(rt, alloc, geometry, exchange, port, gate);
-    assert!(*rt; report.port.patience > 0);
-    assert!(*rt; report.port.given == peer.wanted);
-    assert!(*rt; report.port.was_shut == peer.is_shut);
-    assert!(*rt; report.port.waits_at_first);
-    assert!(*rt; !report.port.waits_early);
-    executed
-}
-
-/// Peers: the bytes that each sends, how many it is given, and how many it takes at once.
-fn check_rows<R>(rt: &R, alloc: Global, rows: &[(&[u8], usize, usize)])
-where
-    R: Abort + Threads + Wait + Clock + Copy + Drop + Send + Sync + 'static,
-{
-    for (input, wanted, accept) in rows {
-        let peer = Peer {
-            input,
-            piece: MAX_PIECE,
-            ends_input: false,
-            wanted: *wanted,
-            is_shut: input.ends_with(b"quit\r\n"),
-            accept: *accept,
-            slow_gives: 0,
-        };
-        check_served(rt, alloc, peer, &OpenGate);
     }
 }
 
-#[test]
-fn an_open_session_is_served(rt: HostRuntime) {
-    let alloc: Global = rt.alloc();
-    let many = repeated(&rt, alloc, b"get a\r\n", 300);
-    let rows: [(&[u8], usize, usize); 6] = [
-        (b"get a\r\n", 5, usize::MAX),
-        (b"foo\r\n", 7, usize::MAX),
-        (many.as_slice(), 1500, usize::MAX),
-        (b"get a\r\n", 5, 2),
-        (b"quit\r\n", 0, usize::MAX),
-        (b"get a\r\nquit\r\n", 5, usize::MAX),
-    ];
-    check_rows(&rt, alloc, &rows);
+fn check_port(rt: &impl Abort, port: &LivePort, peer: &Peer) {
+    check_same(rt, port.patience > 0, true, "patience");
+    check_same(rt, port.given, peer.wanted, "given");
+    check_same(rt, port.was_shut, peer.is_shut, peer.wanted);
+    check_same(rt, port.waits_at_first, true, "waits at first");
+    check_same(rt, port.waits_early, false, "waits early");
 }
 
-/// A value of 8,000 bytes is stored, and asked for a thousand times: 8,023,008 bytes answer it.
-fn much_output<R: Abort>(rt: &R, alloc: Global) -> Vec<u8> {
-    let value = repeated(rt, alloc, b"v", 8000);
-    let gets = repeated(rt, alloc, b"get a\r\n", 1000);
-    let parts: [&[u8]; 4] = [
-        b"set a 0 0 8000\r\n",
-        value.as_slice(),
-        b"\r\n",
-        gets.as_slice(),
-    ];
-    joined(rt, alloc, &parts)
+/// All came while the port was still open, and the port was let wait only where nothing was left to do.
+fn check_served<R, G>(rt: &R, alloc: Global, peer: &Peer, gate: &G)
+where
+    R: Abort + Threads + Wait + Clock + Copy + Drop + Send + Sync + 'static,
+    G: Gate,
+{
+    let served = serve_untold(rt, alloc, sizes(rt), port_of(rt, alloc, peer), gate);
+    check_port(rt, &served.port, peer);
+    check_same(rt, served.executed, peer.executed, peer.wanted);
 }
 
-#[test]
-fn an_open_session_with_much_output_is_asked_again(rt: HostRuntime) {
-    let alloc: Global = rt.alloc();
-    let input = much_output(&rt, alloc);
-    check_served(
-        &rt,
-        alloc,
-        Peer {
-            input: input.as_slice(),
-            piece: MAX_PIECE,
-            ends_input: false,
-            wanted: 8_023_008,
-            is_shut: false,
-            accept: usize::MAX,
-            slow_gives: 3000,
-        },
-        &OpenGate,
-    );
-}
+/// What a client sends, how many bytes answer it, how many of them it takes at once, and how many requests are executed: an
+/// unfinished line is no request, and what follows `quit` isn't read.
+type Row<'a> = (&'a [u8], usize, usize, u64);
 
-/// What a client sends before its input ends, how many bytes answer it, how many of them it takes at once, and how many
-/// requests are executed: an unfinished line is no request, and what follows `quit` isn't read.
-type HalfClosed<'a> = (&'a [u8], usize, usize, u64);
-
-/// Each is shut once it was given all its answers, and not before.
-fn check_half_closed<R>(rt: &R, alloc: Global, rows: &[HalfClosed], slow_gives: u64)
+/// Clients whose input goes on, or ends. Each of these is shut once it was given all its answers, and not before; of the others
+/// those are that send `quit`.
+fn check_rows<R>(rt: &R, alloc: Global, rows: &[Row], ends_input: bool, slow_gives: u64)
 where
     R: Abort + Threads + Wait + Clock + Copy + Drop + Send + Sync + 'static,
 {
@@ -256,22 +198,57 @@ where
         let peer = Peer {
             input,
             piece: MAX_PIECE,
-            ends_input: true,
+            ends_input,
             wanted: *wanted,
-            is_shut: true,
+            is_shut: ends_input || input.ends_with(b"quit\r\n"),
             accept: *accept,
             slow_gives,
+            executed: *executed,
         };
-        let served = check_served(rt, alloc, peer, &OpenGate);
-        check_same(rt, served, *executed, *wanted);
+        check_served(rt, alloc, &peer, &OpenGate);
     }
+}
+
+#[test]
+fn an_open_session_is_served(rt: HostRuntime) {
+    let alloc: Global = rt.alloc();
+    let many = repeated(&rt, alloc, b"get a\r\n", 300);
+    let rows: [Row; 6] = [
+        (b"get a\r\n", 5, usize::MAX, 1),
+        (b"foo\r\n", 7, usize::MAX, 0),
+        (many.as_slice(), 1500, usize::MAX, 300),
+        (b"get a\r\n", 5, 2, 1),
+        (b"quit\r\n", 0, usize::MAX, 0),
+        (b"get a\r\nquit\r\n", 5, usize::MAX, 1),
+    ];
+    check_rows(&rt, alloc, &rows, false, 0);
+}
+
+/// An open and a half-closed session with much output.
+fn check_much<R>(rt: &R, alloc: Global, ends_input: bool)
+where
+    R: Abort + Threads + Wait + Clock + Copy + Drop + Send + Sync + 'static,
+{
+    let input = much_output(rt, alloc);
+    let rows: [Row; 1] = [(input.as_slice(), 8_023_008, usize::MAX, 1001)];
+    check_rows(rt, alloc, &rows, ends_input, 3000);
+}
+
+#[test]
+fn an_open_session_with_much_output_is_asked_again(rt: HostRuntime) {
+    check_much(&rt, rt.alloc(), false);
+}
+
+#[test]
+fn a_half_closed_session_with_much_output_is_given_all(rt: HostRuntime) {
+    check_much(&rt, rt.alloc(), true);
 }
 
 #[test]
 fn a_half_closed_session_is_answered_and_shut(rt: HostRuntime) {
     let alloc: Global = rt.alloc();
     let two_windows = repeated(&rt, alloc, b"get a\r\n", 128);
-    let rows: [HalfClosed; 9] = [
+    let rows: [Row; 9] = [
         (b"", 0, usize::MAX, 0),
         (b"get a\r\n", 5, usize::MAX, 1),
         (b"get a\r\n", 5, 1, 1),
@@ -282,31 +259,15 @@ fn a_half_closed_session_is_answered_and_shut(rt: HostRuntime) {
         (b"get a\r\nquit\r\nget a\r\n", 5, usize::MAX, 1),
         (two_windows.as_slice(), 640, usize::MAX, 128),
     ];
-    check_half_closed(&rt, alloc, &rows, 0);
+    check_rows(&rt, alloc, &rows, true, 0);
 }
 
 #[test]
 fn a_half_closed_session_with_a_held_piece_is_read_to_its_end(rt: HostRuntime) {
     let alloc: Global = rt.alloc();
     let many = repeated(&rt, alloc, b"get a\r\n", 60_000);
-    check_half_closed(
-        &rt,
-        alloc,
-        &[(many.as_slice(), 300_000, usize::MAX, 60_000)],
-        1000,
-    );
-}
-
-#[test]
-fn a_half_closed_session_with_much_output_is_given_all(rt: HostRuntime) {
-    let alloc: Global = rt.alloc();
-    let input = much_output(&rt, alloc);
-    check_half_closed(
-        &rt,
-        alloc,
-        &[(input.as_slice(), 8_023_008, usize::MAX, 1001)],
-        3000,
-    );
+    let rows: [Row; 1] = [(many.as_slice(), 300_000, usize::MAX, 60_000)];
+    check_rows(&rt, alloc, &rows, true, 1000);
 }
 
 #[test]
@@ -319,8 +280,7 @@ fn a_half_closed_session_that_is_read_later_is_shut(rt: HostRuntime) {
         is_shut: true,
         accept: usize::MAX,
         slow_gives: 0,
+        executed: 1,
     };
-    let gate = RefusingGate::new();
-    let executed = check_served(&rt, rt.alloc(), peer, &gate);
-    check_same(&rt, executed, 1, "executed");
+    check_served(&rt, rt.alloc(), &peer, &RefusingGate::new());
 }

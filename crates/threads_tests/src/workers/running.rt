@@ -1,7 +1,7 @@
 //! What a run over a port that keeps its records leaves.
 
+use crate::serving::{Served, exchange_of_one, serve, sizes};
 use crate::workers::recording_port::{Manners, RecordingPort, Step};
-use crate::workers::serving::{exchange_of_one, serve, sizes};
 use std::alloc::Global;
 use std::collections::VecDeque;
 use std::process::Abort;
@@ -20,22 +20,14 @@ pub(crate) enum Ending {
     Gone,
 }
 
-/// What a run leaves.
-#[derive(Drop)]
-pub(crate) struct Outcome<R: Abort + Drop> {
-    pub(crate) port: RecordingPort<R>,
-    pub(crate) sent: u64,
-    pub(crate) executed: u64,
-}
-
-/// Runs a worker over a port that plays these steps. Each session that was opened stands in the report.
+/// Runs a worker over a port that plays these steps.
 pub(crate) fn run<R, G>(
     rt: &R,
     alloc: Global,
     steps: VecDeque<Step>,
     manners: Manners,
     gate: &G,
-) -> Outcome<R>
+) -> Served<RecordingPort<R>>
 where
     R: Abort + Threads + Wait + Clock + Copy + Drop + Send + Sync + 'static,
     G: Gate,
@@ -43,19 +35,13 @@ where
     let geometry = sizes(rt);
     let exchange = exchange_of_one(rt, alloc, geometry);
     let port = RecordingPort::new(*rt, alloc, geometry, steps, manners, exchange.name());
-    let (report, executed) = serve(rt, alloc, geometry, exchange, port, gate);
-    assert!(*rt; report.unopened == 0);
-    Outcome {
-        port: report.port,
-        sent: report.worker_end.sent(),
-        executed,
-    }
+    serve(rt, alloc, geometry, exchange, port, gate)
 }
 
-impl<R: Abort + Drop> Outcome<R> {
+impl<R: Abort + Drop> RecordingPort<R> {
     /// How the session ended at its port.
     pub(crate) fn ending_of(&self, session: u64) -> Ending {
-        for entry in self.port.records.as_slice() {
+        for entry in self.records.as_slice() {
             match entry {
                 PortRecord::Gone(number) if *number == session => return Ending::Gone,
                 PortRecord::Shut(number) if *number == session => return Ending::Shut,
@@ -65,23 +51,39 @@ impl<R: Abort + Drop> Outcome<R> {
         Ending::Open
     }
 
-    /// The bytes that were given to the session.
-    pub(crate) fn given_to(&self, rt: &R, alloc: Global, session: u64) -> Vec<u8> {
-        let mut all = Vec::new(alloc);
-        for entry in self.port.records.as_slice() {
+    /// How many bytes were given to the session.
+    pub(crate) fn given_length(&self, session: u64) -> usize {
+        let mut length = 0usize;
+        for entry in self.records.as_slice() {
             if let PortRecord::Accepted(number, bytes) = entry {
                 if *number == session {
-                    all.extend_from_slice(bytes.as_slice()).expect(rt, "memory");
+                    length = length.saturating_add(bytes.len());
                 }
             }
         }
-        all
+        length
+    }
+
+    /// Whether the session was given these bytes, and nothing else.
+    pub(crate) fn was_given(&self, session: u64, wanted: &[u8]) -> bool {
+        let mut left = wanted;
+        for entry in self.records.as_slice() {
+            if let PortRecord::Accepted(number, bytes) = entry {
+                if *number == session {
+                    match left.strip_prefix(bytes.as_slice()) {
+                        Some(rest) => left = rest,
+                        None => return false,
+                    }
+                }
+            }
+        }
+        left.is_empty()
     }
 
     /// Session 1 was shut, once, and nothing of it follows.
     pub(crate) fn is_shut_last(&self) -> bool {
         let mut shuts = 0u64;
-        for entry in self.port.records.as_slice() {
+        for entry in self.records.as_slice() {
             match entry {
                 PortRecord::Shut(_) => shuts = shuts.saturating_add(1),
                 PortRecord::Ended => {}

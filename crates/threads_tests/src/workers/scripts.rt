@@ -1,4 +1,4 @@
-//! Steps of ports, and bytes.
+//! Steps of ports.
 
 use crate::workers::recording_port::Step;
 use bytes::Bytes;
@@ -43,22 +43,4 @@ impl<R: Abort + Copy + Drop> Script<R> {
     fn push(&mut self, step: Step) {
         self.steps.push_back(step).expect(&self.rt, "memory");
     }
-}
-
-/// The bytes, `times` times.
-pub(crate) fn repeated<R: Abort>(rt: &R, alloc: Global, bytes: &[u8], times: usize) -> Vec<u8> {
-    let mut all = Vec::new(alloc);
-    for _ in 0..times {
-        all.extend_from_slice(bytes).expect(rt, "memory");
-    }
-    all
-}
-
-/// The parts, one after the other.
-pub(crate) fn joined<R: Abort>(rt: &R, alloc: Global, parts: &[&[u8]]) -> Vec<u8> {
-    let mut all = Vec::new(alloc);
-    for part in parts {
-        all.extend_from_slice(part).expect(rt, "memory");
-    }
-    all
 }

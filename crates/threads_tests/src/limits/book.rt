@@ -47,14 +47,15 @@ fn check_piece(
     Ok(())
 }
 
-fn check_pieces(
-    rt: &impl Abort,
-    alloc: Global,
-    rows: &[(usize, usize, Received)],
-) -> Result<(), Fail> {
+/// Checks each row with a book of its own.
+fn check_rows<T, F>(alloc: Global, rows: &[T], check: F) -> Result<(), Fail>
+where
+    F: Fn(&mut Book, &T) -> Result<(), Fail>,
+    requires { F.IsAlwaysCallable check }
+{
     for row in rows {
         let mut book = Book::new(alloc, 0, Dialect::Strict);
-        let checked = check_piece(rt, alloc, &mut book, row);
+        let checked = check(&mut book, row);
         drop(book);
         checked?;
     }
@@ -63,7 +64,12 @@ fn check_pieces(
 
 #[test]
 fn unread_bytes_end_at_their_limit(rt: HostRuntime) -> Result<(), Fail> {
-    check_pieces(&rt, rt.alloc(), &PIECES)
+    let alloc: Global = rt.alloc();
+    check_rows(
+        alloc,
+        &PIECES,
+        |book, row| check_piece(&rt, alloc, book, row),
+    )
 }
 
 /// A block of 8 MiB comes to session 1, all but its last bytes, in pieces of 131,072 bytes: each of them fits.
@@ -171,23 +177,14 @@ fn check_output(
     Ok(())
 }
 
-fn check_outputs(
-    rt: &impl Abort,
-    alloc: Global,
-    rows: &[(usize, usize, bool)],
-) -> Result<(), Fail> {
-    for row in rows {
-        let mut book = Book::new(alloc, 0, Dialect::Strict);
-        let checked = check_output(rt, alloc, &mut book, row);
-        drop(book);
-        checked?;
-    }
-    Ok(())
-}
-
 #[test]
 fn a_session_is_read_while_1_mib_waits(rt: HostRuntime) -> Result<(), Fail> {
-    check_outputs(&rt, rt.alloc(), &OUTPUTS)
+    let alloc: Global = rt.alloc();
+    check_rows(
+        alloc,
+        &OUTPUTS,
+        |book, row| check_output(&rt, alloc, book, row),
+    )
 }
 
 /// The 64 requests of a session are answered with values of 131,000 bytes, and all wait.
@@ -225,17 +222,17 @@ fn count_asked(book: &mut Book, sessions: u64) -> Result<u64, Fail> {
     Ok(asked)
 }
 
-fn check_unsettled(rt: &impl Abort, alloc: Global, rows: &[u64]) -> Result<(), Fail> {
-    for sessions in rows {
-        let mut book = Book::new(alloc, 0, Dialect::Strict);
-        let asked = count_asked(&mut book, *sessions);
-        drop(book);
-        check_same(rt, asked?, 64, *sessions);
-    }
+fn check_unsettled(rt: &impl Abort, book: &mut Book, sessions: u64) -> Result<(), Fail> {
+    let asked = count_asked(book, sessions)?;
+    check_same(rt, asked, 64, sessions);
     Ok(())
 }
 
 #[test]
 fn requests_of_all_sessions_are_64_at_most(rt: HostRuntime) -> Result<(), Fail> {
-    check_unsettled(&rt, rt.alloc(), &SESSIONS)
+    check_rows(
+        rt.alloc(),
+        &SESSIONS,
+        |book, sessions| check_unsettled(&rt, book, *sessions),
+    )
 }

@@ -4,10 +4,10 @@ ghost use Rattle.std.specs.Prelude.{◌≡◌, [], Some, true};
 ghost use Rattle.worker_port.specs.Ports.{PortTrace, is_open};
 ghost use Rattle.script.specs.States.{trace_told};
 
-use crate::serving::exchange_of_one;
+use crate::serving::{exchange_of_one, sizes};
 use bytes::Bytes;
 use exchange::WorkerBatch;
-use proto::{Dialect, Geometry};
+use proto::Dialect;
 use script::{ScriptEvent, ScriptPort};
 use std::alloc::Global;
 use std::process::Abort;
@@ -34,7 +34,7 @@ fn with_session_1(
 ) -> (ScriptPort, WorkerBatch)
     ensures { (trace : PortTrace) → trace_told result.0 ≡ Some trace → is_open 1 trace.events ≡ true }
 {
-    let geometry = Geometry::new(65_536, 64).expect(rt, "a geometry");
+    let geometry = sizes(rt);
     let exchange = exchange_of_one(rt, alloc, geometry);
     let mut port = ScriptPort::new(alloc, geometry, Dialect::Strict, 0, exchange.name(), events);
     let (mut ends, _storage) = exchange.into_ends();

@@ -1,5 +1,5 @@
 use Rattle.std.proofs.Common.{[], append-nil, sym, ◌∙◌}
-use Rattle.threads_tests.proofs.workers.serving.serve.Goals as goal
+use Rattle.threads_tests.proofs.serving.serve.Goals as goal
 
 pub run_worker-report-requires-clause-port : goal.run_worker-report-requires-clause-port
 run_worker-report-requires-clause-port g c = record {

@@ -5,7 +5,7 @@ use Rattle.proto.specs.declared.terms.Terms.{Terms}
 use Rattle.exchange.specs.Ends.{WorkerView, StorageView, AreMade, new_worker_view}
 use Rattle.exchange.proofs.FreshEnds.{last_is_fresh}
 use Rattle.worker_port.specs.Giving.{by_any_clock}
-use Rattle.threads_tests.proofs.workers.serving.made.Goals as goal
+use Rattle.threads_tests.proofs.serving.made.Goals as goal
 
 -- the last end of a new exchange of one worker is as it was made
 last_is_new : (g : Terms) (storage : StorageView) (ends others : List WorkerView) (v : WorkerView)

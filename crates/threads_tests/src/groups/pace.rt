@@ -3,12 +3,11 @@
 
 ghost use Rattle.std.specs.Prelude.{◌≡◌, [], Some, IsSome};
 
-use crate::runs::SteadyClock;
+use crate::clock::SteadyClock;
+use crate::groups::running;
 use bytes::Bytes;
-use engine::PlainStore;
-use exchange::{Exchange, WorkerBatch};
-use group::{Config, run_group};
-use proto::{Clock as Moments, ClockAnswer, Dialect, Geometry, Terms};
+use exchange::WorkerBatch;
+use proto::{Clock as Moments, ClockAnswer};
 use std::alloc::Global;
 use std::process::Abort;
 use std::sync::Wait;
@@ -121,25 +120,11 @@ where
         sent: 0,
         given: 0,
     };
-    let geometry = Geometry::new(65_536, 64).expect(rt, "a geometry");
-    let config = Config {
-        terms: Terms {
-            geometry,
-            system_clock: false,
-            may_refuse: true,
-        },
-        dialect: Dialect::Strict,
-        spin: None,
-    };
-    let store = PlainStore::new(alloc, geometry).expect(rt, "memory");
     let mut ports = Vec::new(alloc);
     ports.push(port).expect(rt, "memory");
-    let exchange = Exchange::new(alloc, ports.len(), config.terms).expect(rt, "an exchange");
     let start = Instant::now(rt).expect(rt, "the time");
-    let report = run_group(rt, alloc, ports, exchange, config, store, clock, &OpenGate).expect(
-        rt, "a group",
-    );
-    (report.executed, start.elapsed(rt).expect(rt, "the time"))
+    let executed = running::run(rt, alloc, ports, clock, &OpenGate).executed;
+    (executed, start.elapsed(rt).expect(rt, "the time"))
 }
 
 fn check_run(rt: &impl Abort, (executed, took): (u64, Duration)) {

@@ -1,10 +1,10 @@
 //! Runs that are large in one way: each finds memory, in the plain program and over the exchange.
 
+use crate::limits::talk::{Shape, input_of, output_of, script_of};
 use crate::same::check_same;
-use crate::serving::{exchange_of_one, serve};
-use crate::talk::{Shape, Talk, script_of, talk_of};
+use crate::serving::{exchange_of_one, serve, sizes};
 use engine::PlainStore;
-use proto::{Clock, ClockAnswer, Dialect, Geometry};
+use proto::{Dialect, Geometry};
 use script::{ScriptClock, ScriptPort, WorkerScript, read_script, replay_sequentially};
 use std::alloc::Global;
 use std::process::Abort;
@@ -12,7 +12,7 @@ use std::sync::Wait;
 use std::test::Fail;
 use std::thread::Threads;
 use std::time;
-use worker::{OpenGate, WorkerReport};
+use worker::OpenGate;
 
 /// The size and the number of a store's segments; and the bytes of a value, how many keys stand in a line that asks
 /// for it, and how many such lines there are.
@@ -36,28 +36,6 @@ const LARGE_STORES: [Row; 3] = [
     ((1_048_576, 65_536), (131_047, 1, 1)),
     ((4096, 65_536), (487, 2, 2)),
 ];
-
-/// It is 1000 at all times.
-#[derive(Drop)]
-pub(crate) struct SteadyClock;
-
-impl Clock for SteadyClock {
-    ghost use Rattle.std.specs.Prelude.{⊤, None};
-
-    ghost told = { λ _. None };
-
-    ghost leads_to = { λ _ _. ⊤ };
-
-    ghost start = { λ _. None };
-
-    ghost leads_reflexive = { λ _. tt };
-
-    ghost leads_transitive = { λ _ _ _ _ _. tt };
-
-    fn now(&mut self) -> ClockAnswer {
-        ClockAnswer::given(1000)
-    }
-}
 
 /// The events of worker 0.
 fn events_of<R: Abort>(rt: &R, alloc: Global, script: &[u8]) -> WorkerScript {
@@ -90,63 +68,51 @@ fn check_straight<R: Abort>(rt: &R, alloc: Global, case: &Case) {
 /// The most bytes that a give accepts, and the give at which the peer is gone; 0 is none for either.
 type Faults = (usize, u64);
 
-/// A worker over a port that plays the script.
-fn run_script<R>(
+/// A port that plays the script was given what each session of the case should be.
+fn check_port<R: Abort>(rt: &R, port: &ScriptPort, case: &Case) {
+    for session in 1..=case.sessions {
+        let is_given = port.given(session) == case.output;
+        check_same(rt, is_given, true, session);
+    }
+}
+
+/// A worker opens each session and gives it its output, over a port with these faults.
+fn check_worker<R: Abort + Threads + Wait + time::Clock + Copy + Drop + Send + Sync + 'static>(
     rt: &R,
     alloc: Global,
     case: &Case,
     (accept, fail_give): Faults,
-) -> WorkerReport<ScriptPort>
-where
-    R: Abort + Threads + Wait + time::Clock + Copy + Drop + Send + Sync + 'static,
-{
+) {
     let events = events_of(rt, alloc, case.script).into_events();
     let exchange = exchange_of_one(rt, alloc, case.geometry);
     let name = exchange.name();
     let port = ScriptPort::new(alloc, case.geometry, Dialect::Strict, 0, name, events).with_faults(
         accept, fail_give,
     );
-    serve(rt, alloc, case.geometry, exchange, port, &OpenGate)
+    let served = serve(rt, alloc, case.geometry, exchange, port, &OpenGate);
+    check_port(rt, &served.port, case);
 }
 
-/// Each session of the case was opened, and was given its output.
-fn check_report<R: Abort>(rt: &R, worker: &WorkerReport<ScriptPort>, case: &Case) {
-    check_same(rt, worker.unopened, 0, "unopened");
-    for session in 1..=case.sessions {
-        let is_given = worker.port.given(session) == case.output;
-        check_same(rt, is_given, true, session);
-    }
-}
-
-/// A worker gives each session its output, over a port with these faults.
-fn check_worker<R: Abort + Threads + Wait + time::Clock + Copy + Drop + Send + Sync + 'static>(
-    rt: &R,
-    alloc: Global,
-    case: &Case,
-    faults: Faults,
-) {
-    check_report(rt, &run_script(rt, alloc, case, faults), case);
-}
-
-/// Each of `sessions` sessions sends what the talk says and is given what it says: by the plain program; by a worker, in at most
-/// as many gives as there are lines; and by a worker whose port accepts little at once.
+/// Each of `sessions` sessions is given what it asked for: by the plain program; by a worker, in at most as many gives as there
+/// are lines; and by a worker whose port accepts little at once.
 fn check_run<R: Abort + Threads + Wait + time::Clock + Copy + Drop + Send + Sync + 'static>(
     rt: &R,
     alloc: Global,
     geometry: Geometry,
     sessions: u64,
-    talk: &Talk,
-    lines: u64,
+    shape: Shape,
 ) {
-    let script = script_of(rt, alloc, sessions, talk.input.as_slice());
+    let input = input_of(rt, alloc, shape);
+    let output = output_of(rt, alloc, shape);
+    let script = script_of(rt, alloc, sessions, input.as_slice());
     let case = &Case {
         geometry,
         sessions,
         script: script.as_slice(),
-        output: talk.output.as_slice(),
+        output: output.as_slice(),
     };
     check_straight(rt, alloc, case);
-    let gives = sessions.saturating_mul(lines);
+    let gives = sessions.saturating_mul(shape.lines as u64);
     check_worker(rt, alloc, case, (0, gives.saturating_add(1)));
     check_worker(rt, alloc, case, (65_536, 0));
 }
@@ -163,8 +129,7 @@ fn check_rows<R: Abort + Threads + Wait + time::Clock + Copy + Drop + Send + Syn
             keys: *keys,
             lines: *lines,
         };
-        let talk = talk_of(rt, alloc, shape);
-        check_run(rt, alloc, geometry, 1, &talk, *lines as u64);
+        check_run(rt, alloc, geometry, 1, shape);
     }
     Ok(())
 }
@@ -190,15 +155,11 @@ fn stores_of_2_gib_and_more(rt: HostRuntime) -> Result<(), Fail> {
 }
 
 #[test]
-fn many_sessions_are_open_at_once(rt: HostRuntime) -> Result<(), Fail> {
-    let alloc = rt.alloc();
-    let geometry = Geometry::new(65_536, 64)?;
+fn many_sessions_are_open_at_once(rt: HostRuntime) {
     let shape = Shape {
         value: 1,
         keys: 1,
         lines: 1,
     };
-    let talk = talk_of(&rt, alloc, shape);
-    check_run(&rt, alloc, geometry, 1500, &talk, 1);
-    Ok(())
+    check_run(&rt, rt.alloc(), sizes(&rt), 1500, shape);
 }

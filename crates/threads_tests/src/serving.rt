@@ -1,6 +1,6 @@
 //! One worker over a port, with a storage thread beside it.
 
-ghost use Rattle.std.specs.Prelude.{◌≡◌, [], true, false, Some};
+ghost use Rattle.std.specs.Prelude.{◌≡◌, [], true, false, Some, None};
 ghost use Rattle.proto.specs.declared.dialect.Dialect.TheVariants.{Strict};
 ghost use Rattle.proto.specs.Cache.{empty_cache};
 ghost use Rattle.engine.specs.PlainState.{plain_sizes, plain_cache, plain_moment};
@@ -8,19 +8,25 @@ ghost use Rattle.storage_thread.specs.Serving.{IsUnused};
 ghost use Rattle.worker_port.specs.Ports.{PortTrace};
 ghost use Rattle.worker_port.specs.Giving.{by_any_clock};
 
-use crate::runs::SteadyClock;
+use crate::clock::SteadyClock;
+use crate::same::check_same;
+use crate::signals::signals_of;
 use engine::PlainStore;
-use exchange::{Exchange, StorageEnd, StorageSignals, WorkerEnd};
+use exchange::{Exchange, StorageEnd, WorkerEnd};
 use proto::{Dialect, Geometry, Terms};
 use std::alloc::Global;
-use std::hash::FoldHasher;
 use std::process::Abort;
 use std::sync::{Arc, Wait};
 use std::thread::Threads;
 use std::{thread, time};
 use storage_thread::{StorageReport, run_storage};
-use worker::{Gate, WorkerReport, run_worker};
+use worker::{Gate, run_worker};
 use worker_port::Port;
+
+/// The sizes of a store of 64 segments.
+pub(crate) fn sizes<R: Abort>(rt: &R) -> Geometry {
+    Geometry::new(65_536, 64).expect(rt, "a geometry")
+}
 
 /// The exchange of one worker, over a store of these sizes.
 pub(crate) fn exchange_of_one<R: Abort>(rt: &R, alloc: Global, geometry: Geometry) -> Exchange
@@ -56,7 +62,15 @@ fn made<R: Abort>(
     (end, storage, store)
 }
 
-/// Runs the worker to its end, and the storage thread.
+/// What a run leaves.
+#[derive(Drop)]
+pub(crate) struct Served<P> {
+    pub(crate) port: P,
+    pub(crate) sent: u64,
+    pub(crate) executed: u64,
+}
+
+/// Runs the worker to its end, and the storage thread. Each session was opened.
 pub(crate) fn serve<R, P, G>(
     rt: &R,
     alloc: Global,
@@ -64,7 +78,7 @@ pub(crate) fn serve<R, P, G>(
     exchange: Exchange,
     port: P,
     gate: &G,
-) -> WorkerReport<P>
+) -> Served<P>
 where
     R: Abort + Threads + Wait + time::Clock + Copy + Drop + Send + Sync + 'static,
     P: Port,
@@ -77,8 +91,7 @@ where
         × (trace.exchange ≡ exchange.id) }
 {
     let handle = *rt;
-    let signals = StorageSignals::new(alloc, FoldHasher::default(), 1, None).expect(rt, "memory");
-    let signals = Arc::new(alloc, signals).expect(rt, "memory");
+    let signals = signals_of(rt, alloc, 1);
     let of_storage = Arc::try_clone(&signals).expect(rt, "memory");
     let (end, storage_end, store) = made(rt, alloc, geometry, exchange);
     let child = thread::spawn(
@@ -92,6 +105,28 @@ where
     )
     .expect(rt, "a thread");
     let report = run_worker(rt, alloc, port, end, Dialect::Strict, gate, &signals);
-    child.join(rt);
-    report
+    check_same(rt, report.unopened, 0, "unopened");
+    Served {
+        sent: report.worker_end.sent(),
+        executed: child.join(rt).executed,
+        port: report.port,
+    }
+}
+
+/// Runs a worker over a port that tells nothing.
+pub(crate) fn serve_untold<R, P, G>(
+    rt: &R,
+    alloc: Global,
+    geometry: Geometry,
+    port: P,
+    gate: &G,
+) -> Served<P>
+where
+    R: Abort + Threads + Wait + time::Clock + Copy + Drop + Send + Sync + 'static,
+    P: Port,
+    G: Gate,
+    requires { P.told port ≡ None }
+{
+    let exchange = exchange_of_one(rt, alloc, geometry);
+    serve(rt, alloc, geometry, exchange, port, gate)
 }

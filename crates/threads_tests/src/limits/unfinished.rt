@@ -1,8 +1,9 @@
 //! How many requests a worker has on their way while much is unfinished, and which session it shuts where too much output waits.
 
+use crate::limits::talk::set_of;
 use crate::same::check_same;
-use crate::serving::{exchange_of_one, serve};
-use crate::talk::{Shape, add_times, talk_of};
+use crate::serving::{serve_untold, sizes};
+use crate::texts::add_get;
 use bytes::Bytes;
 use exchange::WorkerBatch;
 use proto::Geometry;
@@ -14,10 +15,7 @@ use std::sync::atomic::{AtomicU64, Ordering};
 use std::thread::Threads;
 use std::time::Clock;
 use worker::{Gate, OpenGate};
-use worker_port::{Gone, Port, PortEvent, ToldHistory};
-
-/// The most bytes of one piece.
-const MAX_PIECE: usize = 16_384;
+use worker_port::{Gone, MAX_PIECE, Port, PortEvent, ToldHistory};
 
 /// These sessions accept nothing until they are let.
 const SILENT: [u64; 3] = [2, 3, 4];
@@ -207,11 +205,7 @@ impl<R: Abort + Copy + Drop> Steps<R> {
 fn lines_of<R: Abort>(rt: &R, alloc: Global, lines: usize, keys: usize) -> Vec<u8> {
     let mut bytes = Vec::new(alloc);
     for _ in 0..lines {
-        bytes.extend_from_slice(b"get").expect(rt, "memory");
-        for _ in 0..keys {
-            bytes.extend_from_slice(b" b").expect(rt, "memory");
-        }
-        bytes.extend_from_slice(b"\r\n").expect(rt, "memory");
+        add_get(rt, &mut bytes, b" b", keys);
     }
     bytes
 }
@@ -231,10 +225,12 @@ const KEYS: [(usize, usize, u64); 9] = [
 ];
 
 /// Two pieces of lines with `keys` keys each, the second once all of the first was answered.
-fn check_keys<R>(rt: &R, alloc: Global, keys: usize, lines: usize, wanted: u64)
-where
-    R: Abort + Threads + Wait + Clock + Copy + Drop + Send + Sync + 'static,
-{
+fn two_pieces<R: Abort + Copy + Drop>(
+    rt: &R,
+    alloc: Global,
+    keys: usize,
+    lines: usize,
+) -> VecDeque<Step> {
     let bytes = lines_of(rt, alloc, lines, keys);
     assert!(*rt; bytes.len() <= MAX_PIECE);
     let mut steps = Steps::new(rt, alloc);
@@ -242,13 +238,18 @@ where
     steps.send(1, bytes.as_slice());
     steps.add(Step::UntilGiven(lines.saturating_mul(5)));
     steps.send(1, bytes.as_slice());
+    steps.steps
+}
+
+fn check_keys<R>(rt: &R, alloc: Global, keys: usize, lines: usize, wanted: u64)
+where
+    R: Abort + Threads + Wait + Clock + Copy + Drop + Send + Sync + 'static,
+{
     let gate = CountingGate::new(1, (lines as u64).saturating_add(1));
-    let geometry = Geometry::new(65_536, 64).expect(rt, "a geometry");
-    let exchange = exchange_of_one(rt, alloc, geometry);
-    let port = StepPort::new(steps.steps);
-    let report = serve(rt, alloc, geometry, exchange, port, &gate);
+    let port = StepPort::new(two_pieces(rt, alloc, keys, lines));
+    let given = serve_untold(rt, alloc, sizes(rt), port, &gate).port.given;
     check_same(rt, gate.most(), (wanted, wanted), keys);
-    check_same(rt, report.port.given, lines.saturating_mul(10), keys);
+    check_same(rt, given, lines.saturating_mul(10), keys);
 }
 
 #[test]
@@ -303,20 +304,12 @@ const UNREAD: [Unread; 2] = [
 fn add_silent<R: Abort + Copy + Drop>(steps: &mut Steps<R>, unread: &Unread) {
     let rt = steps.rt;
     let alloc = steps.alloc;
-    let shape = Shape {
-        value: unread.value,
-        keys: unread.keys,
-        lines: 0,
-    };
-    let set = talk_of(&rt, alloc, shape).input;
     steps.add(Step::Open(1));
-    steps.send(1, set.as_slice());
+    steps.send(1, set_of(&rt, alloc, unread.value).as_slice());
     for session in &SILENT {
         let misses = if *session == 3 { unread.misses } else { 0 };
         let mut input = lines_of(&rt, alloc, misses, 1);
-        add_times(&rt, &mut input, b"get", 1);
-        add_times(&rt, &mut input, b" a", unread.keys);
-        add_times(&rt, &mut input, b"\r\n", 1);
+        add_get(&rt, &mut input, b" a", unread.keys);
         steps.add(Step::Open(*session));
         steps.send(*session, input.as_slice());
     }
@@ -356,30 +349,38 @@ fn add_single_requests<R: Abort + Copy + Drop>(steps: &mut Steps<R>) {
     }
 }
 
-/// Session 1 sends 20 requests in turn while the output of the others waits, and 20 more at once when it doesn't.
+/// Session 1 sends 20 requests in turn while the output of the others waits, and 20 more at once when it doesn't. How many of
+/// the bytes that wait are accepted.
+fn add_unread<R: Abort + Copy + Drop>(
+    steps: &mut Steps<R>,
+    unread: &Unread,
+    ending: Ending,
+) -> usize {
+    let rt = steps.rt;
+    add_silent(steps, unread);
+    steps.add(Step::UntilOffered(unread.waiting));
+    add_single_requests(steps);
+    let accepted = add_ending(steps, ending, unread);
+    steps.send(1, lines_of(&rt, steps.alloc, 20, 1).as_slice());
+    accepted
+}
+
+fn check_port(rt: &impl Abort, port: &StepPort, unread: &Unread, given: usize) {
+    check_same(rt, port.offered(), unread.waiting, unread.waiting);
+    check_same(rt, port.given, given, unread.waiting);
+    check_same(rt, port.shut, unread.shut, unread.waiting);
+}
+
 fn check_unread<R>(rt: &R, alloc: Global, unread: &Unread, ending: Ending)
 where
     R: Abort + Threads + Wait + Clock + Copy + Drop + Send + Sync + 'static,
 {
-    let burst = lines_of(rt, alloc, 20, 1);
     let mut steps = Steps::new(rt, alloc);
-    add_silent(&mut steps, unread);
-    steps.add(Step::UntilOffered(unread.waiting));
-    add_single_requests(&mut steps);
-    let accepted = add_ending(&mut steps, ending, unread);
-    steps.send(1, burst.as_slice());
+    let accepted = add_unread(&mut steps, unread, ending);
     let geometry = Geometry::new(1_048_576, 8).expect(rt, "a geometry");
-    let exchange = exchange_of_one(rt, alloc, geometry);
     let port = StepPort::new(steps.steps);
-    let report = serve(rt, alloc, geometry, exchange, port, &OpenGate);
-    let counts = (report.port.offered(), report.port.given);
-    check_same(
-        rt,
-        counts,
-        (unread.waiting, accepted.saturating_add(200)),
-        unread.waiting,
-    );
-    check_same(rt, report.port.shut, unread.shut, unread.waiting);
+    let served = serve_untold(rt, alloc, geometry, port, &OpenGate);
+    check_port(rt, &served.port, unread, accepted.saturating_add(200));
 }
 
 #[test]

@@ -4,4 +4,5 @@
 set -eu
 cd "$(dirname "$0")/.."
 rt all check --jobs "$(python3 -c 'import sys; sys.path.insert(0, "tools"); import machine; print(machine.at_once())')"
-(cd crates/replay_tests && rt test)
+(cd crates/segcached && rt run -- --version)
+bash tools/tests.sh tools/tests/test_rows.py tools/tests/test_evictions.py

@@ -5,6 +5,7 @@
 
 A server listens on a free port of 127.0.0.1 unless it is told another address, and is ended with the block.
 """
+import contextlib
 import os
 import re
 import resource
@@ -169,6 +170,15 @@ def read_exactly(stream, count):
 
 def read_to_end(stream):
     return read_exactly(stream, 1 << 60)
+
+
+def read_till_closed(stream):
+    """All that comes until the stream is closed, by a reset too."""
+    got = bytearray()
+    with contextlib.suppress(ConnectionResetError):
+        while part := stream.recv(1 << 16):
+            got += part
+    return bytes(got)
 
 
 def reset(stream):

@@ -11,19 +11,10 @@ import time
 import pytest
 import served
 from asking import ask, hit
-from served import read_exactly, read_to_end
+from served import read_exactly, read_till_closed, read_to_end
 
 # The most bytes of a session that a worker reads at a time.
 PIECE = 16_384
-
-
-def read_till_closed(stream):
-    """All that came until the stream was closed, by a reset too."""
-    got = b""
-    with contextlib.suppress(ConnectionResetError):
-        while piece := stream.recv(1 << 16):
-            got += piece
-    return got
 
 
 # ---- pieces of exactly a read's size
@@ -161,6 +152,18 @@ def test_of_one_that_quits_and_goes_on_at_most_16_mib_are_read(serve, say):
                 sent += stream.send(piece)
     say(f"{sent >> 20} MiB were sent")
     assert sent < 128 << 20
+
+
+def test_each_of_twenty_that_send_too_much_sees_why_it_is_shut(serve):
+    """It reads only once it has sent a mebibyte of its block."""
+    server = serve("--workers", "2", "--sessions", "20")
+    for _ in range(20):
+        with server.connect() as stream:
+            stream.sendall(b"set a 0 0 1048576\r\n")
+            for _ in range(128):
+                stream.sendall(b"x" * 8192)
+            assert read_to_end(stream) == b"SERVER_ERROR object too large for cache\r\n"
+    assert server.wait() == 0
 
 
 # ---- what they leave

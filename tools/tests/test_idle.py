@@ -1,4 +1,5 @@
-"""`serve --idle 1`: which connections are closed, and which aren't. (All waits are in one test, which takes five seconds.)"""
+"""`serve --idle 1`: which connections are closed, and which aren't. (Most waits are in one test, which takes five seconds, and the longest ones in
+another, which takes seven.)"""
 import contextlib
 import socket
 import struct
@@ -6,7 +7,7 @@ import threading
 import time
 
 from asking import ask, hit
-from served import read_exactly
+from served import read_exactly, read_till_closed
 
 VALUE = b"v" * 8000
 
@@ -151,3 +152,44 @@ def test_who_is_silent_or_reads_nothing_is_closed_and_no_one_else(serve):
         if not troubles:
             return
     raise troubles[0]
+
+
+# ---- what is owed to those that wait for longer than the limit
+
+# (20 MB)
+TIMES = 2_500
+OWED = b"STORED\r\n" + hit(b"a", VALUE) * TIMES
+
+
+@contextlib.contextmanager
+def owed_much(server):
+    """A connection that stored a value and asked for it again and again."""
+    with server.connect() as stream:
+        stream.sendall(b"set a 0 0 8000\r\n" + VALUE + b"\r\n" + b"get a\r\n" * TIMES)
+        yield stream
+
+
+def sends_no_more_and_reads_slowly(server):
+    """It takes two megabytes at a time, for more than three times the limit in all, and gets all that it is owed."""
+    with owed_much(server) as stream:
+        stream.shutdown(socket.SHUT_WR)
+        parts = []
+        while not parts or parts[-1]:
+            time.sleep(0.35)
+            parts.append(read_exactly(stream, 2 << 20))
+        is_right = b"".join(parts) == OWED
+        assert is_right
+
+
+def takes_nothing_for_long(server):
+    """It is closed meanwhile, and gets less than it is owed."""
+    with owed_much(server) as stream:
+        time.sleep(6)
+        assert len(read_till_closed(stream)) < TIMES * len(VALUE)
+
+
+def test_one_that_reads_slowly_gets_all_that_it_is_owed_and_one_that_takes_nothing_does_not(serve):
+    server = serve("--idle", "1", "--sessions", "2")
+    clients = [Watched(sends_no_more_and_reads_slowly, server), Watched(takes_nothing_for_long, server)]
+    assert [trouble for trouble in (client.join() for client in clients) if trouble] == []
+    assert server.wait() == 0

@@ -9,10 +9,10 @@ import concurrent.futures
 import itertools
 import random
 
+import replays
 from hypothesis import given, settings
 from hypothesis import strategies as st
 from model import JOINS, LOCAL, Cache, refused
-from replayed import replay
 
 FIRST_MOMENT = 1000
 
@@ -20,8 +20,8 @@ FIRST_MOMENT = 1000
 def replay_over(program, sent, segment_size, segments, tick, *dialect):
     """What one session is given that sends these requests, fifty in a piece, to a store of these sizes."""
     pieces = [b"".join(sent[at : at + 50]) for at in range(0, len(sent), 50)]
-    sizes = ["--segment-size", segment_size, "--segments", segments]
-    return replay(program, pieces, *sizes, "--tick", tick, "--now", FIRST_MOMENT, *dialect)
+    words = f"--segment-size {segment_size} --segments {segments} --tick {tick} --now {FIRST_MOMENT}"
+    return replays.given(program, " ".join([words, *dialect]), *pieces)
 
 
 def spelled(cache, requests, tick, is_lenient):

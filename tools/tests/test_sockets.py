@@ -144,12 +144,13 @@ def test_answers_come_after_the_peer_has_closed_its_half(serve, request_bytes, a
 # ---- peers that go
 
 def test_a_client_may_close_without_reading(serve):
-    server = serve("--workers", "2")
+    server = serve("--workers", "2", "--sessions", "2")
     with server.connect() as first:
         first.sendall(SET_AND_GET % (b"a", b"a"))
     with server.connect() as second:
         second.sendall(b"get a\r\nquit\r\n")
         assert read_to_end(second) in (b"END\r\n", hit(b"a", b"x"))
+    assert server.wait() == 0
 
 
 def test_a_thousand_resets_in_the_middle_of_a_request_harm_nobody(serve):

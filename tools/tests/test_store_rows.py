@@ -6,7 +6,7 @@ longer ones.
 import itertools
 
 import pytest
-from replayed import replay
+from replays import given
 
 SMALL = "--segment-size", 4096, "--segments", 8
 PIECE = 16_384
@@ -28,11 +28,12 @@ def must_answer(program, rows, *words):
     """Each request is given its answer, and the session nothing else."""
     sent, wanted = zip(*rows)
     all_sent, at = b"".join(sent), 0
-    given = replay(program, [all_sent[at : at + PIECE] for at in range(0, len(all_sent), PIECE)], *words)
+    pieces = [all_sent[at : at + PIECE] for at in range(0, len(all_sent), PIECE)]
+    answers = given(program, " ".join(map(str, words)), *pieces)
     for request, answer in zip(sent, wanted):
-        assert given[at : at + len(answer)] == answer, f"at the answer to {request[:60]!r}"
+        assert answers[at : at + len(answer)] == answer, f"at the answer to {request[:60]!r}"
         at += len(answer)
-    assert given[at:] == b"", "more bytes than wanted"
+    assert answers[at:] == b"", "more bytes than wanted"
 
 
 def must_answer_at(program, rows, *words):

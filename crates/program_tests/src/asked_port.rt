@@ -14,6 +14,28 @@ use std::sync::Wait;
 use std::time::Clock;
 use worker_port::{Port, PortEvent};
 
+/// What came of a port, without its bytes.
+#[derive(Clone, Copy, PartialEq)]
+pub(crate) enum Came {
+    Opened(u64),
+    Data(u64, usize),
+    EndOfInput(u64),
+    Gone(u64),
+    Ended,
+    Idle,
+}
+
+fn came_by(event: PortEvent) -> Came {
+    match event {
+        PortEvent::Opened(session) => Came::Opened(session),
+        PortEvent::Data(session, bytes) => Came::Data(session, bytes.len()),
+        PortEvent::EndOfInput(session) => Came::EndOfInput(session),
+        PortEvent::Gone(session) => Came::Gone(session),
+        PortEvent::Ended => Came::Ended,
+        PortEvent::Idle => Came::Idle,
+    }
+}
+
 /// A port over sockets, in the strict dialect, and its worker's end.
 #[derive(Drop)]
 pub(crate) struct AskedPort<R: Drop> {
@@ -55,8 +77,13 @@ impl<R: Wait + Clock + Net + Abort + Copy + Drop> AskedPort<R> {
 }
 
 impl<R: Wait + Clock + Drop> AskedPort<R> {
-    pub(crate) fn next(&mut self, may_wait: bool) -> PortEvent {
+    fn next(&mut self, may_wait: bool) -> PortEvent {
         self.port.next(may_wait, &self.end)
+    }
+
+    /// What comes next.
+    pub(crate) fn came(&mut self, may_wait: bool) -> Came {
+        came_by(self.next(may_wait))
     }
 
     pub(crate) fn is_open(&self, session: u64) -> bool

@@ -1,26 +1,34 @@
-//! Clients of a socket.
+//! A listener, and clients of it.
 
-use net::Notices;
+use net::{Hand, ListenReport, Listener, Notices, StreamSender};
 use std::alloc::Global;
 use std::io::{Read, Write};
 use std::net::{Net, TcpStream};
 use std::process::Abort;
+use std::sync::Wait;
+use std::time::Clock;
 
-/// Stores one byte under the key `a` and asks for it.
-pub(crate) const ROW_A: &[u8] = b"set a 0 0 1\r\nx\r\nget a\r\nquit\r\n";
+/// A listener at a free port of this machine.
+pub(crate) fn listener<R: Net + Abort>(rt: &R, alloc: Global) -> Listener {
+    Listener::bind(rt, alloc, "127.0.0.1:0").expect(rt, "a listener")
+}
 
-pub(crate) const ANSWER_A: &[u8] = b"STORED\r\nVALUE a 0 1\r\nx\r\nEND\r\n";
+/// Both ends of a hand for so many streams.
+pub(crate) fn hand<R: Net + Abort>(rt: &R, alloc: Global, streams: u64) -> (StreamSender, Hand) {
+    Hand::pair(rt, alloc, streams).expect(rt, "a hand")
+}
 
-/// The same under the key `b`.
-pub(crate) const ROW_B: &[u8] = b"set b 0 0 1\r\nx\r\nget b\r\nquit\r\n";
-
-pub(crate) const ANSWER_B: &[u8] = b"STORED\r\nVALUE b 0 1\r\nx\r\nEND\r\n";
-
-pub(crate) fn connect<R: Net<Stream = TcpStream> + Abort>(
+/// Accepts `count` streams, and hands them out.
+pub(crate) fn handed_out<R: Wait + Clock>(
     rt: &R,
-    alloc: Global,
-    port: u16,
-) -> TcpStream {
+    listener: &mut Listener,
+    hand: StreamSender,
+    count: u64,
+) -> ListenReport {
+    listener.run_heard(rt, &mut [hand], Some(count), &mut Unheard)
+}
+
+fn connect<R: Net<Stream = TcpStream> + Abort>(rt: &R, alloc: Global, port: u16) -> TcpStream {
     let addr = format!(in alloc; "127.0.0.1:{port}").expect(rt, "memory");
     TcpStream::connect(rt, addr.as_str()).expect(rt, "a connection")
 }
@@ -50,18 +58,6 @@ pub(crate) fn read_all<R: Abort>(rt: &R, alloc: Global, stream: &TcpStream) -> V
     let mut reader: &TcpStream = stream;
     let _ = reader.read_to_end(&mut all).expect(rt, "bytes read");
     all
-}
-
-/// Sends the request, and returns all that is answered.
-pub(crate) fn ask<R: Net<Stream = TcpStream> + Abort>(
-    rt: &R,
-    alloc: Global,
-    port: u16,
-    request: &[u8],
-) -> Vec<u8> {
-    let stream = connect(rt, alloc, port);
-    send(rt, &stream, request);
-    read_all(rt, alloc, &stream)
 }
 
 /// Hears nothing of what is amiss.

@@ -3,7 +3,7 @@ use lib.ListN.{get_elem?}
 use Rattle.std.specs.Option.{option_to_list}
 use Rattle.proto.specs.declared.terms.Terms.{Terms}
 use Rattle.exchange.specs.Ends.{WorkerView, WorkerBatchView, StorageView, AreMade, new_worker_view}
-use Rattle.net_tests.proofs.asked_port.idle_end.Goals as goal
+use Rattle.program_tests.proofs.asked_port.idle_end.Goals as goal
 
 -- the last end of a new exchange of one worker is as it was made
 last_is_new : (g : Terms) (storage : StorageView) (ends others : List WorkerView) (v : WorkerView)

@@ -3,7 +3,7 @@ use Rattle.proto.specs.Reading.{asks}
 use Rattle.exchange.specs.Beginnings.{StartsWith}
 use Rattle.worker_port.specs.Ports.{PortTrace}
 use Rattle.worker_port.specs.Giving.{sent_for}
-use Rattle.net_tests.proofs.asked_port.AskedPort.next.Goals as goal
+use Rattle.program_tests.proofs.asked_port.AskedPort.next.Goals as goal
 
 abbrev told_or : PortTrace → Option PortTrace → PortTrace
 told_or other None = other

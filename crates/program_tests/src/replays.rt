@@ -1,8 +1,8 @@
-//! Faults of files, and of the geometry.
+//! A replay of files that fail, or are interrupted.
 
 use crate::common::{check_same, options};
 use command_line::{Options, geometry_of};
-use replaying::{Fault, cannot_read, replay};
+use replaying::{Fault, replay};
 use std::alloc::Global;
 use std::io::{self, ErrorKind, Read, Write};
 use std::process::Abort;
@@ -67,7 +67,34 @@ impl Read for Interrupted {
     }
 }
 
-fn check_fault(rt: &impl Abort, alloc: Global, fault: &Fault, wanted: &str) -> Result<(), Fail> {
+/// Replays a script with these options.
+pub(crate) fn replay_with<H, R, W>(
+    rt: &H,
+    alloc: Global,
+    options: &Options,
+    script: R,
+    out: &mut W,
+) -> Result<(), Fault>
+where
+    H: Threads + Wait + time::Clock + Sync,
+    R: Read + Drop,
+    W: Write,
+{
+    let geometry = geometry_of(options.segment_size, options.segments).ok_or(Fault::BadGeometry)?;
+    replay(rt, alloc, options, geometry, script, out)?;
+    Ok(())
+}
+
+/// Checks that something failed, with this fault.
+fn check_fault(
+    rt: &impl Abort,
+    alloc: Global,
+    done: &Result<(), Fault>,
+    wanted: &str,
+) -> Result<(), Fail> {
+    let Err(fault) = done else {
+        return Err("no fault".into());
+    };
     let text = fault.to_string(alloc)?;
     check_same(rt, text.as_str(), wanted, "a fault");
     Ok(())
@@ -77,52 +104,38 @@ fn check_fault(rt: &impl Abort, alloc: Global, fault: &Fault, wanted: &str) -> R
 fn check_reading<H: Abort + Threads + Wait + time::Clock + Sync>(
     rt: &H,
     alloc: Global,
-    given: &Options,
+    options: &Options,
 ) -> Result<(), Fail> {
-    let geometry = geometry_of(given.segment_size, given.segments).ok_or("geometry")?;
     let mut out = Vec::new(alloc);
-    let replayed = replay(rt, alloc, given, geometry, Failing { left: 3 }, &mut out);
+    let done = replay_with(rt, alloc, options, Failing { left: 3 }, &mut out);
     check_same(rt, out.as_slice(), b"".as_slice(), "the output");
-    match &replayed {
-        Ok(_) => Err("read".into()),
-        Err(fault) => check_fault(rt, alloc, fault, "fault: cannot read script"),
-    }
+    check_fault(rt, alloc, &done, "fault: cannot read script")
 }
 
 fn check_writing<H: Abort + Threads + Wait + time::Clock + Sync>(
     rt: &H,
     alloc: Global,
-    given: &Options,
+    options: &Options,
 ) -> Result<(), Fail> {
-    let geometry = geometry_of(given.segment_size, given.segments).ok_or("geometry")?;
     let script = b"open 0 1\n".as_slice();
-    let mut out = Failing { left: 3 };
-    match &replay(rt, alloc, given, geometry, script, &mut out) {
-        Ok(_) => Err("write".into()),
-        Err(fault) => check_fault(rt, alloc, fault, "fault: cannot write"),
-    }
+    let done = replay_with(rt, alloc, options, script, &mut Failing { left: 3 });
+    check_fault(rt, alloc, &done, "fault: cannot write")
 }
 
-fn check_opening(rt: &impl Abort, alloc: Global) -> Result<(), Fail> {
-    let mut lines = options(alloc, "")?;
-    lines.file = String::from_str(alloc, "a\nb")?;
-    let fault = cannot_read(alloc, &lines, &ErrorKind::NotFound.into());
-    check_fault(rt, alloc, &fault, "fault: cannot read a\\nb")
-}
-
-#[test]
-fn an_interrupted_read_is_tried_again(rt: HostRuntime) -> Result<(), Fail> {
-    let alloc = rt.alloc();
-    let given = options(alloc, "")?;
-    let geometry = geometry_of(given.segment_size, given.segments).ok_or("geometry")?;
+/// An interrupted read is tried again.
+fn check_interrupted<H: Abort + Threads + Wait + time::Clock + Sync>(
+    rt: &H,
+    alloc: Global,
+    options: &Options,
+) -> Result<(), Fail> {
     let script = Interrupted {
         left: b"open 0 1\nopen 0 2",
         is_next: false,
     };
     let mut out = Vec::new(alloc);
-    replay(&rt, alloc, &given, geometry, script, &mut out)?;
+    replay_with(rt, alloc, options, script, &mut out)?;
     check_same(
-        &rt,
+        rt,
         out.as_slice(),
         b"0 1 -\n0 2 -\n".as_slice(),
         "the output",
@@ -131,13 +144,9 @@ fn an_interrupted_read_is_tried_again(rt: HostRuntime) -> Result<(), Fail> {
 }
 
 #[test]
-fn faults_of_files(rt: HostRuntime) -> Result<(), Fail> {
-    let alloc = rt.alloc();
-    let given = options(alloc, "")?;
-    check_reading(&rt, alloc, &given)?;
-    check_writing(&rt, alloc, &given)?;
-    check_opening(&rt, alloc)?;
-    let odd = options(alloc, "--segment-size 5000")?;
-    assert!(rt; geometry_of(odd.segment_size, odd.segments).is_none());
-    check_fault(&rt, alloc, &Fault::BadGeometry, "fault: bad geometry")
+fn files_that_fail(rt: HostRuntime) -> Result<(), Fail> {
+    let options = options(rt.alloc(), "replay script")?;
+    check_reading(&rt, rt.alloc(), &options)?;
+    check_writing(&rt, rt.alloc(), &options)?;
+    check_interrupted(&rt, rt.alloc(), &options)
 }

@@ -1,0 +1,34 @@
+//! Listeners that can't be bound.
+
+use crate::clients::listener;
+use net::{Listener, NetFault};
+use std::alloc::Global;
+use std::net::Net;
+use std::process::Abort;
+
+/// Why nothing can be bound at this address.
+fn fault_at<R: Net>(rt: &R, alloc: Global, addr: &str) -> Option<NetFault> {
+    Listener::bind(rt, alloc, addr).err()
+}
+
+#[test]
+fn words_that_are_no_address_are_refused(rt: HostRuntime) {
+    for words in ["", "nothing", "127.0.0.1", "localhost:0", "127.0.0.1:65536"] {
+        let fault = fault_at(&rt, rt.alloc(), words);
+        assert!(rt; matches!(fault, Some(NetFault::BadAddress)), "{words}");
+    }
+}
+
+/// A listener's own port can't be bound.
+fn check_bound_once<R: Net + Abort>(rt: &R, alloc: Global, listener: &Listener) {
+    let port = listener.port();
+    assert!(*rt; port > 0);
+    let addr = format!(in alloc; "127.0.0.1:{port}").expect(rt, "memory");
+    let fault = fault_at(rt, alloc, addr.as_str());
+    assert!(*rt; matches!(fault, Some(NetFault::Bind)));
+}
+
+#[test]
+fn a_port_is_bound_once(rt: HostRuntime) {
+    check_bound_once(&rt, rt.alloc(), &listener(&rt, rt.alloc()));
+}

@@ -1,0 +1,33 @@
+"""What `segcached replay` prints and says, of scripts and of single sessions."""
+import re
+import subprocess
+
+SECONDS = 120
+
+
+def ended(program, *words, file="/dev/stdin", script=b"", stdout=subprocess.PIPE, cwd=None):
+    """The exit status of a replay of a script, or of this file, with these words, and what it wrote on both outputs."""
+    words = [program, "replay", file, *words]
+    done = subprocess.run(words, input=script, stdout=stdout, stderr=subprocess.PIPE, cwd=cwd, timeout=SECONDS)
+    return done.returncode, done.stdout, done.stderr
+
+
+def printed(program, words, script):
+    """What a script prints with these words."""
+    status, out, said = ended(program, *words.split(), script=script)
+    assert (status, said) == (0, b"")
+    return out
+
+
+def given(program, words, *pieces):
+    """What the only session is given, which sends these pieces."""
+    sends = b"".join(b"send 0 1 %b\n" % it.hex().encode() for it in pieces)
+    out = printed(program, words, b"open 0 1\n" + sends)
+    found = re.fullmatch(rb"0 1 (-|(?:[0-9a-f]{2})+)\n", out)
+    assert found, out[:60]
+    return b"" if found[1] == b"-" else bytes.fromhex(found[1].decode())
+
+
+def all_given(program, words, rows):
+    """For what is sent in each row what its session is given, in a replay of its own."""
+    return {sent: given(program, words, sent) for sent in rows}

@@ -1,0 +1,87 @@
+"""What is kept and what is forgotten where eight segments of 4,096 bytes are full.
+
+With `oldest` the first merge takes the first four segments, of 32 keys, and the second one what the first one left and three segments behind
+it. With `least-read` the first one takes three segments, of 24 keys, and what it leaves stands behind others, so the second one takes those
+of the keys 25 to 48. With a TTL whose bucket is 128 seconds wide and a tick of a second, segments are opened eight seconds apart, and
+`oldest` merges none; for `least-read` those of 64 seconds are opened at one moment, which end at 1,088. With `least-read` a key that is
+written again goes over its item: one of a segment that was opened at 1,088 and ends at 3,136, until 1,291, when 2,100 seconds end 255
+seconds later.
+"""
+import pytest
+from asking import hit
+from replays import given
+
+EIGHT_SEGMENTS = "--segment-size 4096 --segments 8 "
+# (a segment holds eight items of this size)
+VALUE = b"v" * 476
+STORED, END = b"STORED\r\n", b"END\r\n"
+LEAST_READ = "--evict least-read"
+
+# The words; the TTL; how many keys are written; how often the first one is read before the 65th write; how often the last one is then
+# written again; and the first and the last key of each part that is forgotten, when all are read.
+RUNS = [
+    ("", 0, 64, 0, 0, []),
+    ("", 0, 65, 0, 0, [(1, 24)]),
+    ("", 0, 65, 1, 0, [(2, 25)]),
+    ("", 0, 89, 0, 0, [(1, 48)]),
+    ("", 0, 89, 2, 0, [(2, 49)]),
+    ("--evict oldest", 0, 89, 0, 0, [(1, 48)]),
+    (LEAST_READ, 0, 65, 0, 0, [(1, 16)]),
+    (LEAST_READ, 0, 89, 0, 0, [(1, 16), (25, 40)]),
+    (LEAST_READ, 0, 89, 1, 0, [(2, 17), (25, 40)]),
+    ("--now 1088 --tick 1", 2100, 65, 0, 0, [(1, 8)]),
+    ("--now 1088 --tick 1 --evict least-read", 2100, 65, 0, 0, [(1, 16)]),
+    ("--now 1080 --tick 1 --evict least-read", 2100, 65, 0, 0, [(9, 24)]),
+    ("", 0, 64, 0, 1, [(1, 24)]),
+    (LEAST_READ, 0, 64, 0, 100, []),
+    ("--now 1088 --tick 1 --evict least-read", 2100, 64, 0, 140, []),
+    ("--now 1088 --tick 1 --evict least-read", 2100, 64, 0, 141, [(1, 16)]),
+]
+
+
+@pytest.mark.parametrize("words, ttl, writes, reads, again, forgotten", RUNS)
+def test_merges_keep_what_was_read(program, words, ttl, writes, reads, again, forgotten):
+    sent, wanted = b"", b""
+    for key in range(1, writes + 1):
+        if key == 65:
+            sent += b"get k001\r\n" * reads
+            wanted += hit(b"k001", VALUE) * reads
+        sent += b"set k%03d 0 %d 476\r\n%b\r\n" % (key, ttl, VALUE)
+        wanted += STORED
+    sent += b"set k%03d 0 %d 476\r\n%b\r\n" % (writes, ttl, VALUE) * again
+    wanted += STORED * again
+    for key in range(1, writes + 1):
+        sent += b"get k%03d\r\n" % key
+        wanted += END if any(first <= key <= last for first, last in forgotten) else hit(b"k%03d" % key, VALUE)
+    is_right = given(program, EIGHT_SEGMENTS + words, sent) == wanted
+    assert is_right
+
+
+# Nine keys are written, each with a life of its own: eight times its number of seconds. They stand in nine buckets, of which eight have a
+# segment. Of the first quarter, the segments of the first two keys, the first one has fewest hits, unless the first key was read or touched.
+# The eighth segment that is opened halves all hits.
+#
+# The words; how often the first key is read before and after the eighth write, and how often it is touched after it; the key that is
+# forgotten.
+LIVES = [
+    ("", 0, 0, 0, 1),
+    ("--evict oldest", 3, 3, 0, 1),
+    (LEAST_READ, 0, 0, 0, 1),
+    (LEAST_READ, 0, 1, 0, 2),
+    (LEAST_READ, 1, 0, 0, 1),
+    (LEAST_READ, 2, 0, 0, 2),
+    (LEAST_READ, 3, 1, 0, 2),
+    ("--lenient --evict oldest", 0, 0, 1, 1),
+    ("--lenient --evict least-read", 0, 0, 1, 2),
+]
+
+
+@pytest.mark.parametrize("words, before, after, touches, forgotten", LIVES)
+def test_the_oldest_or_the_least_read_is_cleared(program, words, before, after, touches, forgotten):
+    sets = [b"set k%d 0 %d 1\r\nx\r\n" % (key, 8 * key) for key in range(1, 10)]
+    read, touch = b"get k1\r\n", b"touch k1 8\r\n"
+    sent = b"".join(sets[:7]) + read * before + sets[7] + read * after + touch * touches + sets[8]
+    wanted = STORED * 7 + hit(b"k1", b"x") * before + STORED + hit(b"k1", b"x") * after + b"TOUCHED\r\n" * touches + STORED
+    sent += b"get k1 k2 k3 k4 k5 k6 k7 k8 k9\r\n"
+    wanted += b"".join(b"VALUE k%d 0 1\r\nx\r\n" % key for key in range(1, 10) if key != forgotten) + END
+    assert given(program, EIGHT_SEGMENTS + words, sent) == wanted

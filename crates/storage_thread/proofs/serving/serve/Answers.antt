@@ -14,31 +14,24 @@ use Rattle.storage_thread.proofs.Kept.{leads_first}
 use Rattle.storage_thread.proofs.Turns.{serving_first, longer, same_sizes, same_byes, same_workers, serving_asked}
 use Rattle.storage_thread.proofs.Turns.{serving_none, serving_bye, asked_read, answers_asked, read_first, timed_asked}
 use Rattle.storage_thread.proofs.Turns.{all_said}
-use Rattle.storage_thread.proofs.serving.run_storage.Goals as goal
+use Rattle.storage_thread.proofs.serving.serve.Goals as goal
 
 pub loop-init : goal.loop-init
-loop-init g c = let unused = c.requires.unused in
-    let same : c.batched-end.result.end ≡ c.args.storage_end = ap (λ batch. batch.end) c.batched-end.ensures in (
-      tt,
-      tt,
-      subst (λ (z : StorageView). IsStorageServing c.args.storage_end z (g.S.StorageEngine.cache c.args.store)
-          (g.S.StorageEngine.moment c.args.store)) (sym same)
-          (serving_first c.args.storage_end _ _ unused c.requires.empty.0 c.requires.empty.1),
-      c.requires.sizes ∙ ap (λ (z : StorageView). z.terms.geometry) (sym same),
-      search rules,
-      search rules,
-      search rules,
-      search rules,
-      leads_first _ _ _ _ (ap (λ (z : StorageView). z.history) same ∙ unused.2) c.requires.empty.0,
-      search rules,
-      read_first _ (ap (λ (z : StorageView). z.terms.system_clock) same)
-          (subst (λ s. c.args.storage_end.terms.system_clock ≡ true → IsSome s) (sym (ap g.C.Clock.start c.new-clock.ensures.clock))
-          c.requires.system_clock)
-          (ap (λ (z : StorageView). z.history) same ∙ unused.2),
-      subst (RefusesBy g.S.StorageEngine.may_refuse) (sym (ap (λ (z : StorageView). z.history) same ∙ unused.2))
-          (refuses_none g.S.StorageEngine.may_refuse),
-      c.new-counts.ensures ∙ ap (λ (z : List Answered). counts_after no_counts z) (sym (ap (λ (z : StorageView). z.history) same ∙ unused.2)),
-    )
+loop-init g c = let unused = c.requires.unused in (
+  tt,
+  tt,
+  serving_first c.args.end.now.end _ _ unused c.requires.empty.0 c.requires.empty.1,
+  c.requires.sizes,
+  search rules,
+  search rules,
+  search rules,
+  search rules,
+  leads_first _ _ _ _ unused.2 c.requires.empty.0,
+  search rules,
+  read_first _ refl c.requires.system_clock unused.2,
+  subst (RefusesBy g.S.StorageEngine.may_refuse) (sym unused.2) (refuses_none g.S.StorageEngine.may_refuse),
+  c.new-counts.ensures ∙ ap (λ (z : List Answered). counts_after no_counts z) (sym unused.2),
+)
 
 pub loop-preserved-in-Some-Asked : goal.loop-preserved-in-Some-Asked
 loop-preserved-in-Some-Asked g c = let i = c.loop.invariant in
@@ -52,13 +45,13 @@ loop-preserved-in-Some-Asked g c = let i = c.loop.invariant in
     let byes = same_byes now mid w p f new m told a in let workers = same_workers now mid w p f new m told a in (
       tt,
       tt,
-      serving_asked now mid w p f new m told a c.args.storage_end (g.S.StorageEngine.cache c.loop.store)
+      serving_asked now mid w p f new m told a c.args.end.now.end (g.S.StorageEngine.cache c.loop.store)
           (g.S.StorageEngine.cache c.execute-told.new.store)
           (g.S.StorageEngine.moment c.loop.store) i.2 c.execute-told.ensures.reaches,
       c.execute-told.ensures.sizes ∙ (i.3 ∙ same_sizes now mid w p f new m told a),
       omega (arith, all, byes, workers),
-      g.met.C.Clock.leads_transitive c.args.clock c.loop.clock.clock c.execute-told.new.clock.clock i.5 c.execute-told.ensures.leads,
-      timed_asked now mid w p f new m told a g.C.Clock.told g.C.Clock.start (g.C.Clock.told c.args.clock) c.loop.clock c.execute-told.new.clock
+      g.met.C.Clock.leads_transitive c.args.clock.now.clock c.loop.clock.clock c.execute-told.new.clock.clock i.5 c.execute-told.ensures.leads,
+      timed_asked now mid w p f new m told a g.C.Clock.told g.C.Clock.start (g.C.Clock.told c.args.clock.now.clock) c.loop.clock c.execute-told.new.clock
           (g.S.StorageEngine.moment c.loop.store) i.9 refl i.6 c.execute-told.ensures.moment,
       omega (arith, added, so_far, long),
       λ start. c.execute-told.ensures.kept
@@ -93,7 +86,7 @@ loop-preserved g c = let i = c.loop.invariant in let now : StorageView = c.loop.
     let f : GetsNone now new = search rules in (
       tt,
       tt,
-      serving_none c.args.storage_end now new _ _ i.2 f,
+      serving_none c.args.end.now.end now new _ _ i.2 f,
       search rules,
       search rules,
       i.5,
@@ -112,7 +105,7 @@ loop-preserved-in-Some-Bye g c = let i = c.loop.invariant in let now : StorageVi
     let f = rw c.in-Some-Bye.field-0-is at c.in-Some-Bye.ensures.taken in (
       tt,
       tt,
-      serving_bye c.args.storage_end now new _ _ i.2 _ f,
+      serving_bye c.args.end.now.end now new _ _ i.2 _ f,
       search rules,
       search rules,
       i.5,
@@ -127,27 +120,8 @@ loop-preserved-in-Some-Bye g c = let i = c.loop.invariant in let now : StorageVi
 
 pub returns-then-left-eq0-clause-bye : goal.returns-then-left-eq0-clause-bye
 returns-then-left-eq0-clause-bye g c = let i = c.loop.invariant in let all = i.4 in
-    let same = c.into_end.ensures ∙ c.tell_workers.ensures.end in
-    subst SaidBye (sym same) (all_said _ _ _ _ i.2 (search rules))
-
-pub returns-then-left-eq0-clause-legal : goal.returns-then-left-eq0-clause-legal
-returns-then-left-eq0-clause-legal g c = let i = c.loop.invariant in
-    let same = c.into_end.ensures ∙ c.tell_workers.ensures.end in
-    subst (λ (z : StorageView). Legal c.args.storage_end.terms.geometry z.history) (sym same)
-    (subst (λ (j : Terms). Legal j.geometry c.loop.end.end.history) i.2.same.2 (legal_of _ _ _ _ i.2.reaches))
+    subst SaidBye (sym c.tell_workers.ensures.end) (all_said _ _ _ _ i.2 (search rules))
 
 pub returns-then-left-eq0-clause-refused : goal.returns-then-left-eq0-clause-refused
-returns-then-left-eq0-clause-refused g c = let same = c.into_end.ensures ∙ c.tell_workers.ensures.end in
-    subst (λ (z : StorageView). RefusesBy g.S.StorageEngine.may_refuse z.history) (sym same) c.loop.invariant.11
-
-pub returns-then-left-eq0-clause-inside : goal.returns-then-left-eq0-clause-inside
-returns-then-left-eq0-clause-inside g c = let i = c.loop.invariant in
-    let same = c.into_end.ensures ∙ c.tell_workers.ensures.end in
-    subst (λ (z : StorageView). All (λ e. e.worker < c.args.storage_end.workers) z.history) (sym same)
-    (subst (λ n. All (λ e. e.worker < n) c.loop.end.end.history) i.2.same.1 i.2.known)
-
-pub returns-then-left-eq0-clause-bounded : goal.returns-then-left-eq0-clause-bounded
-returns-then-left-eq0-clause-bounded g c start = let i = c.loop.invariant in
-    let same = c.into_end.ensures ∙ c.tell_workers.ensures.end in
-    subst (λ (z : StorageView). MayAlwaysForgetNothing c.args.storage_end.terms.geometry z.history) (sym same)
-    (subst (λ (j : Terms). MayAlwaysForgetNothing j.geometry c.loop.end.end.history) i.2.same.2 (i.8 start).always)
+returns-then-left-eq0-clause-refused g c =
+    subst (λ (z : StorageView). RefusesBy g.S.StorageEngine.may_refuse z.history) (sym c.tell_workers.ensures.end) c.loop.invariant.11

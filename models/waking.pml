@@ -175,7 +175,7 @@ inline execute() {                                 /* storage_thread/serving.rt:
   unpark_told()
 }
 
-proctype storage() {                               /* storage_thread/serving.rt: run_storage */
+proctype storage() {                               /* storage_thread/serving.rt: serve */
   byte counts[WORKERS];
   byte last = WORKERS - 1, looked_lane, named, lane, looks, waiting_lane, untold, executed;
   byte left = WORKERS, told = NOBODY;
@@ -351,7 +351,7 @@ proctype worker(byte me) {                         /* worker/run.rt: run_worker 
   do
   :: OWN {                                         /* worker/run.rt: take_turn */
        take_events();
-       ask_sessions();
+       if :: !moved -> ask_sessions() :: moved fi;
        moved = (moved || put > 0)
      };
      flush();

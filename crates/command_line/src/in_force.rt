@@ -14,6 +14,13 @@ fn push_name(line: &mut String, name: &str) -> Result<(), AllocError> {
     line.push_str(name)
 }
 
+/// Adds an option with its value.
+fn push_value(line: &mut String, name: &str, value: &str) -> Result<(), AllocError> {
+    push_name(line, name)?;
+    line.push_str(" ")?;
+    line.push_str(value)
+}
+
 /// Adds an option with its number, if it has one.
 fn push_number(
     alloc: Global,
@@ -21,12 +28,10 @@ fn push_number(
     option: &NumberOption,
     number: Option<u64>,
 ) -> Result<(), AllocError> {
-    let Some(number) = number else {
-        return Ok(());
-    };
-    push_name(line, option.name)?;
-    line.push_str(" ")?;
-    line.push_str(number.to_string(alloc)?.as_str())
+    match number {
+        Some(number) => push_value(line, option.name, number.to_string(alloc)?.as_str()),
+        None => Ok(()),
+    }
 }
 
 /// Adds an option that has no value, if it is given.
@@ -37,30 +42,44 @@ fn push_flag(line: &mut String, name: &str, is_given: bool) -> Result<(), AllocE
     Ok(())
 }
 
+/// Adds the options that have a number.
+fn push_numbers(
+    alloc: Global,
+    line: &mut String,
+    options: &ServeOptions,
+) -> Result<(), AllocError> {
+    let spin = options.spin.map(|micros| micros as u64);
+    push_number(alloc, line, &WORKERS, Some(options.workers))?;
+    push_number(alloc, line, &SEGMENT_SIZE, Some(options.segment_size))?;
+    push_number(alloc, line, &SEGMENTS, Some(options.segments))?;
+    push_number(alloc, line, &SESSIONS, options.sessions)?;
+    push_number(alloc, line, &IDLE, options.idle)?;
+    push_number(alloc, line, &SPIN, spin)
+}
+
+/// Adds the options that choose among rules, and those that have no value.
+fn push_rules(line: &mut String, options: &ServeOptions) -> Result<(), AllocError> {
+    if options.eviction == Eviction::LeastRead {
+        push_value(line, EVICT, LEAST_READ)?;
+    }
+    push_flag(line, LENIENT, options.dialect == Dialect::Lenient)?;
+    push_flag(line, UPDATE_IN_PLACE, options.update_in_place)
+}
+
 /// All options of a server that are in force, as words that ask for the same: `--listen ADDR --workers 2 ..`. An
 /// option that is left out is not in force. Fails only if out of memory.
 pub fn options_in_force(alloc: Global, options: &ServeOptions) -> Result<String, AllocError> {
     let mut line = String::new(alloc);
-    push_name(&mut line, LISTEN)?;
-    line.push_str(" ")?;
-    line.push_str(options.listen.as_str())?;
-    push_number(alloc, &mut line, &WORKERS, Some(options.workers))?;
-    push_number(alloc, &mut line, &SEGMENT_SIZE, Some(options.segment_size))?;
-    push_number(alloc, &mut line, &SEGMENTS, Some(options.segments))?;
-    push_number(alloc, &mut line, &SESSIONS, options.sessions)?;
-    push_number(alloc, &mut line, &IDLE, options.idle)?;
-    push_number(
-        alloc,
-        &mut line,
-        &SPIN,
-        options.spin.map(|micros| micros as u64),
-    )?;
-    if options.eviction == Eviction::LeastRead {
-        push_name(&mut line, EVICT)?;
-        line.push_str(" ")?;
-        line.push_str(LEAST_READ)?;
-    }
-    push_flag(&mut line, LENIENT, options.dialect == Dialect::Lenient)?;
-    push_flag(&mut line, UPDATE_IN_PLACE, options.update_in_place)?;
+    push_options(alloc, &mut line, options)?;
     Ok(line)
+}
+
+fn push_options(
+    alloc: Global,
+    line: &mut String,
+    options: &ServeOptions,
+) -> Result<(), AllocError> {
+    push_value(line, LISTEN, options.listen.as_str())?;
+    push_numbers(alloc, line, options)?;
+    push_rules(line, options)
 }

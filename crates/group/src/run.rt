@@ -3,7 +3,7 @@ ghost use Rattle.std.specs.Prelude.{◌≡◌, Some, IsSome, ◌≤◌, List, []
 ghost use Rattle.proto.specs.declared.terms.Terms.{Terms};
 ghost use Rattle.proto.specs.Cache.{empty_cache};
 ghost use Rattle.exchange.specs.Ends.{AreMade, AreTogether, IsCount};
-ghost use Rattle.group.specs.Threads.{ArePortsOf, AreJoined, IsLeftByStorage, StartsEmpty, ends_of, workers_of};
+ghost use Rattle.group.specs.Threads.{ArePortsOf, AreJoined, IsLeftByStorage, StartsEmpty, ends_of, worker_of, workers_of};
 ghost use Rattle.group.specs.Headline.{IsRun};
 
 use crate::context::GroupContext;
@@ -23,6 +23,20 @@ use storage_thread::StorageReport;
 use worker::{Gate, WorkerReport};
 use worker_port::Port;
 
+/// What the group says of a worker, and the worker's end.
+fn split_report<P: Port>(report: WorkerReport<P>) -> (GroupWorker<P>, WorkerEnd)
+    ensures { (result.0 ≡ worker_of report) × (result.1 ≡ report.worker_end) }
+{
+    let worker = GroupWorker {
+        port: report.port,
+        sent: report.worker_end.sent_list(),
+        sessions: report.sessions,
+        unopened: report.unopened,
+        strangers: report.strangers,
+    };
+    (worker, report.worker_end)
+}
+
 /// Splits the reports into what the group says of each worker, and the ends. The lists have room for them.
 fn split_reports<P: Port>(
     reports: Vec<WorkerReport<P>>,
@@ -34,14 +48,9 @@ fn split_reports<P: Port>(
     ensures { (result.0.items ≡ workers_of reports.items) × (result.1.items ≡ ends_of reports.items) }
 {
     for report in reports {
-        workers.push_reserved(GroupWorker {
-            port: report.port,
-            sent: report.worker_end.sent_list(),
-            sessions: report.sessions,
-            unopened: report.unopened,
-            strangers: report.strangers,
-        });
-        ends.push_reserved(report.worker_end);
+        let (worker, end) = split_report(report);
+        workers.push_reserved(worker);
+        ends.push_reserved(end);
     }
     (workers, ends)
 }

@@ -1,6 +1,6 @@
 //! The threads of a group: each waits for the start, and promises what it leaves.
 ghost use Rattle.std.specs.Prelude.{◌≡◌, ℕ, ◌<◌, ◌≤◌, [], true, None, All, IfOk, IfErr, map, length, vec_len};
-ghost use Rattle.std.specs.Prelude.{vec_capacity};
+ghost use Rattle.std.specs.Prelude.{vec_capacity, ◌+◌, ◌∷◌};
 ghost use Rattle.worker.specs.declared.run.WorkerReport.{WorkerReport};
 ghost use Rattle.storage_thread.specs.Serving.{IsUnused};
 ghost use Rattle.exchange.specs.Ends.{WorkerView};
@@ -18,7 +18,7 @@ use os::set_thread_name;
 use std::snapshot::Snapshot;
 use std::sync::{OnceLock, OnceToken, Wait};
 use std::thread::{Promise, PromisedHandle, Scope, Threads};
-use std::time;
+use std::{time, vec};
 use storage_thread::{StorageReport, run_storage};
 use worker::{Gate, WorkerReport, run_worker};
 use worker_port::Port;
@@ -71,6 +71,22 @@ fn thread_name(worker: usize) -> [u8; 8]
     name
 }
 
+/// Runs a worker over a port and an end as they were made.
+fn run_new_worker<P: Port, G: Gate, R: Wait + time::Clock>(
+    rt: &R,
+    context: &GroupContext<'_, G>,
+    port: P,
+    end: WorkerEnd,
+) -> WorkerReport<P>
+    requires port { IsPortAt P.told context.now.config.dialect port end }
+    requires fresh { HasSentNothing end }
+    ensures { KeepsWorker P.told P.leads_to port end result }
+{
+    let dialect = context.config.dialect;
+    let (gate, signals) = (context.gate, context.signals);
+    run_worker(rt, context.alloc, port, end, dialect, gate, signals)
+}
+
 /// Names the thread, and runs a worker in it once it is told to begin.
 fn worker_thread<'a, P: Port, G: Gate, R: Wait + time::Clock>(
     rt: &R,
@@ -86,16 +102,7 @@ fn worker_thread<'a, P: Port, G: Gate, R: Wait + time::Clock>(
     let _ = set_thread_name(&thread_name(end.worker()));
     let told = wait_for_start(rt, context.start);
     let ran = if *context.start.value(&told) {
-        let dialect = context.config.dialect;
-        Some(run_worker(
-            rt,
-            context.alloc,
-            port,
-            end,
-            dialect,
-            context.gate,
-            context.signals,
-        ))
+        Some(run_new_worker(rt, context, port, end))
     } else {
         None
     };
@@ -211,6 +218,18 @@ fn start_worker<
         .map_err(|_| GroupFault::NoThread)
 }
 
+/// The first of the ports that are left.
+fn next_port<P: Port>(ports: &mut vec::IntoIter<P>) -> P
+    requires left { 0 < ports.old.rest.len }
+    ensures items { ports.old.rest.items ≡ result ∷ ports.new.rest.items }
+    ensures len { ports.old.rest.len ≡ ports.new.rest.len + 1 }
+{
+    let Some(port) = ports.next() else {
+        unreachable!()
+    };
+    port
+}
+
 /// Starts a thread for each port, with the end at its place. The list of handles has room for them.
 ///
 /// # Errors
@@ -241,9 +260,7 @@ pub fn start_workers<
 {
     let mut ports = ports.into_iter();
     for end in ends {
-        let Some(port) = ports.next() else {
-            unreachable!()
-        };
+        let port = next_port(&mut ports);
         let handle = start_worker(rt, scope, context, port, end)?;
         handles.push_reserved(handle);
     }

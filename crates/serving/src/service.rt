@@ -64,8 +64,33 @@ where
     Ok(port)
 }
 
-/// A port for each worker of the exchange, and the listener's ends of their hands, which take as many streams as a
-/// worker opens sessions in a run.
+/// The listener's end of the hand of a worker of the exchange, which takes as many streams as it opens sessions in a run,
+/// and its port.
+fn make_port<H>(
+    rt: H,
+    alloc: Global,
+    geometry: Geometry,
+    exchange: &Exchange,
+    options: &ServeOptions,
+    worker: usize,
+) -> Result<(StreamSender, MioPort<H>), NetFault>
+where
+    H: Wait + Net + time::Clock + Copy + Drop,
+    ensures { IfOk result (λ made. IsNew geometry options.entry.now.dialect worker exchange.entry.now.id
+        (trace_of made.1.served)) }
+{
+    let (of_listener, of_port) = Hand::pair(&rt, alloc, MAX_SESSIONS)?;
+    let dialect = options.dialect;
+    let owner = Owner {
+        geometry,
+        dialect,
+        worker,
+    };
+    let port = new_port(rt, alloc, of_port, owner, exchange.name(), options)?;
+    Ok((of_listener, port))
+}
+
+/// A port for each worker of the exchange, and the listener's ends of their hands.
 fn make_ports<H>(
     rt: H,
     alloc: Global,
@@ -83,15 +108,9 @@ where
     let mut hands = Vec::with_capacity(alloc, workers)?;
     let mut ports = Vec::with_capacity(alloc, workers)?;
     for worker in 0..workers {
-        let (of_listener, of_port) = Hand::pair(&rt, alloc, MAX_SESSIONS)?;
-        hands.push(of_listener)?;
-        let owner = Owner {
-            geometry,
-            dialect: options.dialect,
-            worker,
-        };
-        let port = new_port(rt, alloc, of_port, owner, exchange.name(), options)?;
-        ports.push(port)?;
+        let (hand, port) = make_port(rt, alloc, geometry, exchange, options, worker)?;
+        hands.push_reserved(hand);
+        ports.push_reserved(port);
     }
     Ok((hands, ports))
 }
@@ -136,6 +155,18 @@ fn terms_of(geometry: Geometry) -> Terms
         geometry,
         system_clock: true,
         may_refuse: false,
+    }
+}
+
+/// What a group of these sizes runs for, as the options say.
+fn config_of(options: &ServeOptions, geometry: Geometry) -> Config
+    ensures terms { result.terms ≡ by_system_clock geometry }
+    ensures dialect { result.dialect ≡ options.entry.now.dialect }
+{
+    Config {
+        terms: terms_of(geometry),
+        dialect: options.dialect,
+        spin: options.spin,
     }
 }
 
@@ -244,11 +275,7 @@ where
     requires ports { AreNewPorts geometry options.now.dialect exchange.id ports.items }
     ensures { IfOk result (λ report. IsServed geometry _seed options.entry.now report) }
 {
-    let config = Config {
-        terms: terms_of(geometry),
-        dialect: options.dialect,
-        spin: options.spin,
-    };
+    let config = config_of(options, geometry);
     let clock = SystemClock::new(rt);
     let report = run_group(&rt, alloc, ports, exchange, config, store, clock, &OpenGate)?;
     Ok(report)

@@ -1,14 +1,17 @@
 //! The loop of the storage thread.
 
 ghost use Rattle.std.specs.Prelude.{◌≡◌, ℕ, ◌+◌, ◌-◌, ◌^◌, ◌<◌, ◌≤◌, map, min, length, All, Some, None, true, false};
-ghost use Rattle.std.specs.Prelude.{IsSome, MatchOption, []};
+ghost use Rattle.std.specs.Prelude.{IsSome, MatchOption, [], ◌≢◌, ◌⊎◌};
 ghost use Rattle.std.specs.Option.{IfNone};
 ghost use Rattle.proto.specs.Cache.{empty_cache};
 ghost use Rattle.proto.specs.History.{max_moment, answers_by, worker_share, Legal, RefusesBy};
-ghost use Rattle.proto.specs.Tallies.{no_counts, counts_after};
+ghost use Rattle.proto.specs.Steps.{Step};
+ghost use Rattle.proto.specs.Tallies.{no_counts, counted, counts_after, TellsCounts};
+ghost use Rattle.engine.specs.Keeping.{KeepsAll};
+ghost use Rattle.engine.specs.Outcomes.{outcome_at, needs_memory};
 ghost use Rattle.engine.specs.Reaching.{Reaches};
 ghost use Rattle.storage_thread.specs.Serving.{AsksClock, IsReadSince, IsTimed, taken_as, SaidBye, IsUnused};
-ghost use Rattle.storage_thread.specs.Serving.{IsSameExchange};
+ghost use Rattle.storage_thread.specs.Serving.{IsSameExchange, IsStorageServing};
 ghost use Rattle.storage_thread.specs.Serving.{GetsNone, GetsMessage, AnswersOpenRequest};
 ghost use Rattle.storage_thread.specs.Keeping.{LeadsKeeping, MayAlwaysForgetNothing};
 
@@ -17,7 +20,7 @@ use engine::{Clock, MAX_MOMENT, StorageEngine};
 use exchange::{
     Answered, IdleTurns, Posted, StorageBatch, StorageEnd, StorageSignals, Taken, Waits,
 };
-use proto::{AskedClock, Counts, Request};
+use proto::{AskedClock, ClockAnswers, Counts, Reply, Request};
 use std::sync::Wait;
 use std::time;
 
@@ -77,6 +80,63 @@ pub fn next_moment<C: Clock>(clock: &mut AskedClock<C>, last: u64) -> u64
     now.max(last)
 }
 
+// Asks the clock as `next_moment` does, and gives all its answers so far too.
+fn ask_clock<C: Clock>(clock: &mut AskedClock<C>, last: u64) -> (u64, ClockAnswers)
+    ensures leads { C.leads_to clock.old.clock clock.new.clock }
+    ensures moment { AsksClock C.told C.start clock.old last clock.new result.0 }
+    ensures order { (last ≤ result.0) × (last ≤ max_moment → result.0 ≤ max_moment) }
+    ensures answers { result.1 ≡ clock.new.answers }
+{
+    let moment = next_moment(clock, last);
+    (moment, clock.answers())
+}
+
+// What the store replies. If it made room, the time since the clock was read is noted.
+#[inline(always)]
+fn handle<S: StorageEngine, C: Clock, R: time::Clock>(
+    store: &mut S,
+    clock: &AskedClock<C>,
+    source: &StatsSource<R>,
+    moment: u64,
+    request: &mut Request,
+) -> Reply
+    requires not_before { S.moment store.old ≤ moment }
+    requires in_range { moment ≤ max_moment }
+    ensures request { request.new ≡ request.old }
+    ensures step { Step (S.sizes store.old) (S.cache store.old) moment request.old result (S.cache store.new) }
+    ensures sizes { S.sizes store.new ≡ S.sizes store.old }
+    ensures moment { S.moment store.new ≡ moment }
+    ensures succeeds { needs_memory S.may_refuse (outcome_at (S.sizes store.old) (S.cache store.old) moment request.old) ≡ false
+        → result ≢ Reply.NoMemory }
+    ensures kept { KeepsAll S.sizes S.cache S.keeps store.old moment request.old result store.new }
+{
+    let evictions = store.evictions();
+    let reply = store.handle(moment, request);
+    if store.evictions() != evictions {
+        source.note_eviction(clock.at());
+    }
+    reply
+}
+
+// The reply to a request of the worker, to which the store replied so. It is counted.
+#[inline(always)]
+fn count_reply<S: StorageEngine, R: time::Clock>(
+    counts: &mut Counts,
+    source: &StatsSource<R>,
+    store: &S,
+    worker: usize,
+    request: &Request,
+    stored: Reply,
+) -> Reply
+    ensures tells { TellsCounts counts.old request.now result }
+    ensures same { (stored ≡ result) ⊎ (request.now ≡ Request.Stats) }
+    ensures counts { counts.new ≡ counted counts.old request.now result }
+{
+    let reply = source.reply(counts, store, worker, request, stored);
+    counts.count(request, &reply);
+    reply
+}
+
 // Executes the open request, counts it, and answers it. Its worker is told at the next flush, or before. It gives the worker
 // that was told of its answers now, if one was.
 fn execute<S: StorageEngine, C: Clock, R: time::Clock>(
@@ -108,20 +168,14 @@ fn execute<S: StorageEngine, C: Clock, R: time::Clock>(
     ensures leads { C.leads_to clock.old.clock clock.new.clock }
     ensures moment { AsksClock C.told C.start clock.old (S.moment store.old) clock.new (S.moment store.new) }
 {
-    let moment = next_moment(clock, store.last_moment());
-    let given = clock.answers();
+    let (moment, given) = ask_clock(clock, store.last_moment());
     let Posted {
         session,
         number,
         mut request,
     } = posted;
-    let evictions = store.evictions();
-    let stored = store.handle(moment, &mut request);
-    if store.evictions() != evictions {
-        source.note_eviction(clock.at());
-    }
-    let reply = source.reply(counts, store, worker, &request, stored);
-    counts.count(&request, &reply);
+    let stored = handle(store, clock, source, moment, &mut request);
+    let reply = count_reply(counts, source, store, worker, &request, stored);
     let answered = Answered {
         worker,
         session,
@@ -197,6 +251,65 @@ fn pass_turn<R: Wait + time::Clock>(
     idle.turn(rt, signals.parking());
 }
 
+// Executes requests until all workers have said bye, of which so many are left, and gives how many it executed. The store and
+// the end are new, and the clock was asked nothing.
+fn serve<R: Wait + time::Clock, S: StorageEngine, C: Clock>(
+    rt: &R,
+    store: &mut S,
+    clock: &mut AskedClock<C>,
+    end: &mut StorageBatch,
+    mut left: usize,
+    signals: &StorageSignals,
+) -> u64
+    requires empty { (S.cache store.old ≡ empty_cache 0) × (S.moment store.old ≡ 0) }
+    requires sizes { S.sizes store.old ≡ end.old.end.terms.geometry }
+    requires refuses { end.old.end.terms.may_refuse ≡ false → S.may_refuse ≡ false }
+    requires system_clock { end.old.end.terms.system_clock ≡ true → IsSome (C.start clock.old.clock) }
+    requires unasked { clock.old.answers ≡ [] }
+    requires unused { IsUnused end.old.end }
+    requires left { left ≡ end.old.end.workers }
+    ensures serving { IsStorageServing end.old.end end.new.end (S.cache store.new) (S.moment store.new) }
+    ensures bye { SaidBye end.new.end }
+    ensures told { end.new.told ≡ end.new.end.history }
+    ensures refused { RefusesBy S.may_refuse end.new.end.history }
+    ensures leads { C.leads_to clock.old.clock clock.new.clock }
+    ensures moments { IsTimed (C.told clock.old.clock) (C.told clock.new.clock) end.new.end.history }
+    ensures kept { S.keeps store.old [] → LeadsKeeping end.new.end.terms.geometry end.new.end.history (S.cache store.new)
+        (S.keeps store.new) }
+    ensures executed { result ≡ min (length end.new.end.history) (2 ^ 64 - 1) }
+{
+    let mut executed = 0u64;
+    let mut counts = Counts::new();
+    let source = StatsSource::new(rt, signals);
+    let mut idle = IdleTurns::new(IDLE_TURNS, signals.spin());
+    let mut waits = Waits::new(rt, Some(signals.storage_gauges()));
+    let mut ahead = 0;
+    for _ in rt.forever() {
+        if left == 0 {
+            tell_workers(end, signals);
+            return executed;
+        }
+        match take_next(end, clock, executed, signals) {
+            Some(Taken::Asked { worker, posted }) => {
+                waits.end(rt);
+                ahead = read_ahead(ahead, store, end, signals);
+                let told = execute(store, clock, &mut counts, &source, end, worker, posted);
+                if let Some(told) = told {
+                    signals.unpark(told);
+                }
+                executed = executed.saturating_add(1);
+                idle.reset(signals.parking());
+            }
+            Some(Taken::Bye { worker: _ }) => {
+                left -= 1;
+                idle.reset(signals.parking());
+            }
+            None => pass_turn(rt, end, &mut idle, &mut waits, signals),
+        }
+    }
+    unreachable!()
+}
+
 /// Executes requests until each worker has said bye. The store is empty, for the geometry that the exchange was
 /// made for, and nothing was taken from the end. The clock is asked once for each request. The messages that a look named
 /// are served before it looks again; the workers are told of each eighth answer, and of all before it looks and before a
@@ -204,7 +317,7 @@ fn pass_turn<R: Wait + time::Clock>(
 /// said bye unparks it. By the hints there it reads ahead.
 pub fn run_storage<R: Wait + time::Clock, S: StorageEngine + Drop, C: Clock>(
     rt: &R,
-    store: S,
+    mut store: S,
     clock: C,
     storage_end: StorageEnd,
     signals: &StorageSignals,
@@ -229,50 +342,13 @@ pub fn run_storage<R: Wait + time::Clock, S: StorageEngine + Drop, C: Clock>(
     ensures bounded { S.keeps store [] → MayAlwaysForgetNothing storage_end.terms.geometry result.storage_end.history }
     ensures executed { result.executed ≡ min (length result.storage_end.history) (2 ^ 64 - 1) }
 {
-    let mut store = store;
     let mut clock = AskedClock::new(clock);
     let mut end = storage_end.batched();
-    let mut executed = 0u64;
-    let mut counts = Counts::new();
-    let source = StatsSource::new(rt, signals);
-    let mut left = end.workers();
-    let mut idle = IdleTurns::new(IDLE_TURNS, signals.spin());
-    let mut waits = Waits::new(rt, Some(signals.storage_gauges()));
-    let mut ahead = 0;
-    for _ in rt.forever() {
-        if left == 0 {
-            tell_workers(&mut end, signals);
-            return StorageReport {
-                clock: clock.into_clock(),
-                storage_end: end.into_end(),
-                executed,
-            };
-        }
-        match take_next(&mut end, &clock, executed, signals) {
-            Some(Taken::Asked { worker, posted }) => {
-                waits.end(rt);
-                ahead = read_ahead(ahead, &store, &end, signals);
-                let told = execute(
-                    &mut store,
-                    &mut clock,
-                    &mut counts,
-                    &source,
-                    &mut end,
-                    worker,
-                    posted,
-                );
-                if let Some(told) = told {
-                    signals.unpark(told);
-                }
-                executed = executed.saturating_add(1);
-                idle.reset(signals.parking());
-            }
-            Some(Taken::Bye { worker: _ }) => {
-                left -= 1;
-                idle.reset(signals.parking());
-            }
-            None => pass_turn(rt, &end, &mut idle, &mut waits, signals),
-        }
+    let workers = end.workers();
+    let executed = serve(rt, &mut store, &mut clock, &mut end, workers, signals);
+    StorageReport {
+        clock: clock.into_clock(),
+        storage_end: end.into_end(),
+        executed,
     }
-    unreachable!()
 }

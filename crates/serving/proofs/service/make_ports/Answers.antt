@@ -1,4 +1,4 @@
-use Rattle.std.proofs.Common.{ℕ, [], ◌∷◌, ◌+◌, length, length-append, sym, ap, subst, ◌∙◌}
+use Rattle.std.proofs.Common.{ℕ, [], ◌∷◌, ◌+◌, length, length-append, sym, ap, subst, ◌∙◌, arith}
 use Rattle.exchange.specs.Ends.{ExchangeId}
 use Rattle.net.specs.Traces.{trace_of, IsNew}
 use Rattle.serving.specs.Runs.{AreNewPorts}
@@ -7,10 +7,14 @@ use Rattle.serving.proofs.service.make_ports.Goals as goal
 
 pub loop-worker-preserved : goal.loop-worker-preserved
 loop-worker-preserved g c =
-    let ports = c.loop-worker.ports.items in let port = c.in_ok-port.port in let i = c.loop-worker.invariant in record {
-      new = subst (AreNewPorts c.args.geometry c.args.options.now.dialect c.args.exchange.now.id) (sym c.in_ok-push-2.ensures.items)
+    let ports = c.loop-worker.ports.items in let port = c.in_ok-hand.port in let i = c.loop-worker.invariant in
+    let pushed = c.push_reserved-in-loop-worker.ensures in let handed = c.push_reserved.ensures in record {
+      new = subst (AreNewPorts c.args.geometry c.args.options.now.dialect c.args.exchange.now.id) (sym pushed.items)
           (new_more c.args.geometry c.args.options.now.dialect c.args.exchange.now.id ports port i.new
-          (subst (λ (z : ℕ × ExchangeId). IsNew c.args.geometry c.args.options.now.dialect z.0 z.1 (trace_of port.served))
-          (λ k. (sym i.count k, c.name.ensures k)) c.in_ok-port.ensures));
-      count = ap length c.in_ok-push-2.ensures.items ∙ length-append ports (port ∷ []) ∙ ap (λ n. n + 1) i.count;
+          (subst (λ (n : ℕ). IsNew c.args.geometry c.args.options.now.dialect n c.args.exchange.now.id (trace_of port.served))
+          (sym i.count) c.in_ok-hand.ensures));
+      count = ap length pushed.items ∙ length-append ports (port ∷ []) ∙ ap (λ n. n + 1) i.count;
+      hands = omega (arith, handed.len, i.hands);
+      room = omega (arith, pushed.capacity, i.room);
+      room_for_hands = omega (arith, handed.capacity, i.room_for_hands);
     }

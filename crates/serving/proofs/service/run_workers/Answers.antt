@@ -1,5 +1,6 @@
 use Rattle.std.proofs.Common.{false, [], refl, sym, subst, ◌∙◌}
 use Rattle.std.specs.Prelude.{⊤}
+use Rattle.proto.specs.declared.dialect.Dialect.{Dialect}
 use Rattle.proto.specs.declared.terms.Terms.{Terms}
 use Rattle.segcache.specs.Keeping.{KeepsStored}
 use Rattle.segcache.specs.StoreState.{sizes_in}
@@ -14,8 +15,9 @@ use Rattle.serving.proofs.service.run_workers.Goals as goal
 
 pub run_group-requires-clause-ports : goal.run_group-requires-clause-ports
 run_group-requires-clause-ports g c κs within =
-    subst (λ (t : Terms). ArePortsOf socket_told c.args.exchange.id t c.args.options.now.dialect c.args.ports.items)
-    (sym c.terms_of.ensures)
+    let config = c.config_of-config.ensures in
+    subst (λ (z : Terms × Dialect). ArePortsOf socket_told c.args.exchange.id z.0 z.1 c.args.ports.items)
+    (λ i. (sym config.terms i, sym config.dialect i))
     (new_of c.args.geometry c.args.options.now.dialect c.args.exchange.id c.args.ports.items c.requires.ports)
 
 pub run_group-requires-send-P : goal.run_group-requires-send-P

@@ -1,10 +1,11 @@
 //! What a `get` shows.
 
-ghost use Rattle.std.specs.Prelude.{◌≡◌, ◌+◌, ◌<◌, ◌≤◌, ◌^◌, ◌∷◌, [], length, decimal, sum_by, nat_lt, if◌then◌else◌};
+ghost use Rattle.std.specs.Prelude.{◌≡◌, ◌+◌, ◌<◌, ◌≤◌, ◌^◌, ◌++◌, ◌∷◌, [], length, decimal, sum_by, nat_lt, if◌then◌else◌};
 ghost use Rattle.std.specs.Prelude.{Some, None, Err, IfOk, IfSome, IsTrue, OnOk, OnErr, MatchOption, false};
 ghost use Rattle.proto.specs.Commands.{hits_of};
 ghost use Rattle.proto.specs.Hits.{hit_bytes, hit_room};
 ghost use Rattle.proto.specs.SeenHits.{seen_hit};
+ghost use Rattle.engine.specs.declared.hits.Found.{Found};
 ghost use Rattle.engine.specs.Finding.{AreFound, HasFound, keys_found};
 ghost use Rattle.engine.specs.AnswerSizes.{shown_size, is_too_long};
 ghost use Rattle.engine.specs.Showing.{HasShown};
@@ -104,32 +105,46 @@ fn room_with(room: usize, hit: HitRef) -> Option<usize>
     room.checked_add(hit.room()?)
 }
 
-/// Looks each key up: those that are there, and the room that their hits take. NoMemory if out of memory, or the
-/// room is more than memory can have.
-fn find_keys<'k, M: LiveMap>(
+/// Adds a key that is there, with the place of its entry. With the first one the list takes memory for so many.
+fn add_found<'k, P: Copy>(
+    found: &mut Vec<Found<'k, P>>,
+    key: &'k [u8],
+    place: P,
+    count: usize,
+) -> Result<(), NoMemory>
+    ensures { OnOk result ((f : Found P) × (f.key.now ≡ key.now) × (f.place ≡ place)
+        × (found.new.items ≡ found.old.items ++ f ∷ [])) }
+{
+    let wanted = if found.is_empty() { count } else { 1 };
+    found.reserve(wanted)?;
+    found.push(found_at(key, place))?;
+    Ok(())
+}
+
+/// Looks each key up, and lists those that are there, in a list that is empty. It gives the room that their hits take.
+/// NoMemory if out of memory, or the room is more than memory can have.
+fn list_found<'k, M: LiveMap>(
+    found: &mut Vec<Found<'k, M::Place>>,
     map: &M,
     keys: &'k Keys,
     with_cas: bool,
-) -> Result<(Vec<Found<'k, M::Place>>, usize), NoMemory>
-    ensures found { IfOk result (λ f. HasFound M.LiveMap with_cas map.now keys.now f.0.items) }
-    ensures room { IfOk result (λ f. f.1 ≡ sum_by hit_room (hits_of with_cas (M.entries map.now) keys.now)) }
-    ensures enough { IfOk result (λ f. shown_size (hits_of with_cas (M.entries map.now) keys.now) ≤ f.1) }
+) -> Result<usize, NoMemory>
+    requires { found.old.items ≡ [] }
+    ensures found { OnOk result (HasFound M.LiveMap with_cas map.now keys.now found.new.items) }
+    ensures room { IfOk result (λ n. n ≡ sum_by hit_room (hits_of with_cas (M.entries map.now) keys.now)) }
+    ensures enough { IfOk result (λ n. shown_size (hits_of with_cas (M.entries map.now) keys.now) ≤ n) }
     ensures err { OnErr result (0 < length (hits_of with_cas (M.entries map.now) keys.now)) }
 {
-    let mut found = Vec::new(keys.allocator());
     let mut room: usize = 0;
     let mut words = keys.iter();
     while let Some(key) = words.next() {
         if let Some((entry, place)) = map.get(key) {
             let hit = hit_with(key, entry.value, entry.flags, entry.cas, with_cas);
             room = room_with(room, hit).ok_or(NoMemory)?;
-            // With the first key that is there, the list takes memory for all of them.
-            let wanted = if found.is_empty() { keys.len() } else { 1 };
-            found.reserve(wanted)?;
-            found.push(found_at(key, place))?;
+            add_found(found, key, place, keys.len())?;
         }
     }
-    Ok((found, room))
+    Ok(room)
 }
 
 /// Whether the hits of keys that were found take more bytes than one answer of the dialect may show.
@@ -179,6 +194,28 @@ fn hits_found<M: LiveMap>(
     hits
 }
 
+/// Writes the only hit, for which it takes memory. The writer is new.
+///
+/// # Errors
+///
+/// TooLong if the hit takes more bytes than an answer of the dialect may show; NoMemory if out of memory.
+fn write_only(hits: &mut HitWriter, hit: HitRef, dialect: Dialect) -> Result<(), Unshown>
+    requires new { hits.old ≡ record { hits = []; room = 0 } }
+    requires room { length (hit_bytes (seen_hit hit)) ≤ hit_room (seen_hit hit) }
+    ensures ok { OnOk result (hits.new ≡ record { hits = seen_hit hit.entry ∷ []; room = 0 }) }
+    ensures too_long { result ≡ Err Unshown.TooLong
+        → IsTrue (is_too_long dialect (shown_size (seen_hit hit.entry ∷ []))) }
+    ensures limit { OnOk result (is_too_long dialect (shown_size (seen_hit hit.entry ∷ [])) ≡ false) }
+{
+    let wanted = hit.room().ok_or(Unshown::NoMemory)?;
+    if dialect == Dialect::Lenient && wanted > MAX_ANSWER && left_after(MAX_ANSWER, hit).is_none() {
+        return Err(Unshown::TooLong);
+    }
+    hits.reserve(wanted)?;
+    hits.push(hit);
+    Ok(())
+}
+
 /// Writes the hit of the only key, which is looked up once, and counts its read. The writer is new.
 ///
 /// # Errors
@@ -202,15 +239,7 @@ pub fn hit_of_only<M: LiveMap>(
 {
     if let Some((entry, place)) = map.get(only) {
         let hit = hit_with(only, entry.value, entry.flags, entry.cas, with_cas);
-        let wanted = hit.room().ok_or(Unshown::NoMemory)?;
-        if dialect == Dialect::Lenient
-            && wanted > MAX_ANSWER
-            && left_after(MAX_ANSWER, hit).is_none()
-        {
-            return Err(Unshown::TooLong);
-        }
-        hits.reserve(wanted)?;
-        hits.push(hit);
+        write_only(&mut hits, hit, dialect)?;
         map.count_read(only, place);
     }
     Ok(hits)
@@ -237,6 +266,39 @@ fn read_ahead<M: LiveMap>(map: &M, keys: &Keys) {
     map.prefetch(&hashes[..count]);
 }
 
+/// Writes the hits of keys that were found, which take this room, and counts a read of each. The writer is new.
+///
+/// # Errors
+///
+/// TooLong if the hits take more bytes than an answer of the dialect may show; NoMemory if out of memory.
+fn show_found<M: LiveMap>(
+    map: &mut M,
+    found: &[Found<M::Place>],
+    room: usize,
+    with_cas: bool,
+    dialect: Dialect,
+    mut hits: HitWriter,
+) -> Result<HitWriter, Unshown>
+    requires found { AreFound M.LiveMap map.old found.now }
+    requires room { room ≡ sum_by hit_room (hits_of with_cas (M.entries map.old) (keys_found found.now)) }
+    requires enough { shown_size (hits_of with_cas (M.entries map.old) (keys_found found.now)) ≤ room }
+    requires hits { hits ≡ record { hits = []; room = 0 } }
+    ensures ok { IfOk result
+        (λ written. HasShown M.LiveMap with_cas map.old (keys_found found.now) map.new written) }
+    ensures too_long { result ≡ Err Unshown.TooLong
+        → IsTrue (is_too_long dialect (shown_size (hits_of with_cas (M.entries map.old) (keys_found found.now)))) }
+    ensures limit { OnOk result
+        (is_too_long dialect (shown_size (hits_of with_cas (M.entries map.old) (keys_found found.now))) ≡ false) }
+    ensures err { OnErr result (0 < length (hits_of with_cas (M.entries map.old) (keys_found found.now))) }
+    ensures refused { OnErr result (map.new ≡ map.old) }
+{
+    if room > MAX_ANSWER && are_too_long(map, found, with_cas, dialect) {
+        return Err(Unshown::TooLong);
+    }
+    hits.reserve(room)?;
+    Ok(hits_found(map, found, with_cas, hits))
+}
+
 /// Writes the hits of the keys, each of which is looked up once, and counts a read of each. Memory is taken in two
 /// steps: for the list of the keys that are there, and then for all their hits. The writer is new.
 ///
@@ -248,7 +310,7 @@ pub fn hits_of_keys<M: LiveMap>(
     keys: &Keys,
     with_cas: bool,
     dialect: Dialect,
-    mut hits: HitWriter,
+    hits: HitWriter,
 ) -> Result<HitWriter, Unshown>
     requires { hits ≡ record { hits = []; room = 0 } }
     ensures ok { IfOk result (λ written. HasShown M.LiveMap with_cas map.old keys.now map.new written) }
@@ -260,10 +322,7 @@ pub fn hits_of_keys<M: LiveMap>(
     ensures refused { OnErr result (map.new ≡ map.old) }
 {
     read_ahead(map, keys);
-    let (found, room) = find_keys(map, keys, with_cas)?;
-    if room > MAX_ANSWER && are_too_long(map, found.as_slice(), with_cas, dialect) {
-        return Err(Unshown::TooLong);
-    }
-    hits.reserve(room)?;
-    Ok(hits_found(map, found.as_slice(), with_cas, hits))
+    let mut found = Vec::new(keys.allocator());
+    let room = list_found(&mut found, map, keys, with_cas)?;
+    show_found(map, found.as_slice(), room, with_cas, dialect, hits)
 }

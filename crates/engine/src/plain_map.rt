@@ -1,8 +1,11 @@
 //! A map that evicts nothing and gives each entry exactly the deadline that it asks for, and the cache over it.
 
-ghost use Rattle.std.specs.Prelude.{◌≡◌, ◌≤◌, ⊤, true, length};
+ghost use Rattle.std.specs.Prelude.{◌≡◌, ℕ, ◌≤◌, ⊤, true, length};
+ghost use Rattle.std.specs.FinMap as finite;
+ghost use Rattle.proto.specs.Cache.{live, no_entries};
 ghost use Rattle.engine.specs.Shown.{entry_of};
-ghost use Rattle.engine.specs.PlainEntries.{plain_entries};
+ghost use Rattle.engine.specs.PlainEntries.{entries_of, plain_entries};
+ghost use Rattle.engine.specs.PlainWrites.{same_deadline};
 
 use crate::{Engine, EntryRef, LiveMap, StoreMap, has_arrived};
 use proto::{ByteString, Eviction, Gauge, Gauges, Geometry, MAX_BLOCK, NoMemory};
@@ -61,6 +64,21 @@ impl Entry {
     }
 }
 
+/// Whether two deadlines are the same.
+fn is_same_deadline(asked: Option<u64>, given: Option<u64>) -> bool
+    ensures { result ≡ same_deadline asked given }
+{
+    given == asked
+}
+
+/// Takes the entry at the key out, if there is one.
+fn take_out(map: &mut BTreeMap<Vec<u8>, Entry>, key: &[u8])
+    ensures { (t : ℕ) → live (entries_of map.new.entries) t
+        ≡ finite.remove (live (entries_of map.old.entries) t) key.now }
+{
+    map.remove(key);
+}
+
 /// A plain map of live entries. It is there to be compared with. An entry whose deadline has come isn't seen any more,
 /// but it is dropped only when its key is written or deleted, or when all entries are.
 #[derive(Drop)]
@@ -73,6 +91,17 @@ pub struct PlainMap {
 
 /// The plain cache.
 pub type PlainStore = Engine<PlainMap>;
+
+impl PlainMap {
+    /// Takes all entries out, and keeps the rest.
+    fn take_all_out(&mut self)
+        ensures entries { plain_entries self.new ≡ no_entries }
+        ensures sizes { self.new.geometry ≡ self.old.geometry }
+        ensures moment { self.new.moment ≡ self.old.moment }
+    {
+        self.map.clear();
+    }
+}
 
 impl LiveMap for PlainMap {
     ghost use Rattle.engine.specs.PlainWrites.{WritesPlainly, ReadsPlainly, same_deadline};
@@ -169,15 +198,15 @@ impl LiveMap for PlainMap {
 
     /// Only if it has this very deadline.
     fn may_stay(&self, key: &[u8], _place: (), deadline: Option<u64>) -> bool {
-        self.get(key).unwrap().0.deadline == deadline
+        is_same_deadline(deadline, self.get(key).unwrap().0.deadline)
     }
 
     fn remove(&mut self, key: &[u8]) {
-        self.map.remove(key);
+        take_out(&mut self.map, key);
     }
 
     fn clear(&mut self) {
-        self.map.clear();
+        self.take_all_out();
     }
 }
 

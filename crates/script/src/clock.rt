@@ -62,6 +62,17 @@ impl RecordingClock {
             answers: Trace::new(),
         }
     }
+
+    /// The next answer of the script's clock, which is noted.
+    fn noted_answer(&mut self) -> u64
+        ensures noted { self.new.answers.items ≡ self.old.answers.items ++ result ∷ [] }
+        ensures next { result ≡ answer_of self.old.clock 0 }
+        ensures later { (n : ℕ) → answer_of self.new.clock n ≡ answer_of self.old.clock (n + 1) }
+    {
+        let answer = self.clock.now();
+        self.answers.note(&[answer]);
+        answer
+    }
 }
 
 impl Clock for RecordingClock {
@@ -87,8 +98,6 @@ impl Clock for RecordingClock {
         ensures next { result.seconds ≡ answer_of self.old.clock 0 }
         ensures later { (n : ℕ) → answer_of self.new.clock n ≡ answer_of self.old.clock (n + 1) }
     {
-        let answer = self.clock.now();
-        self.answers.note(&[answer]);
-        ClockAnswer::given(answer)
+        ClockAnswer::given(self.noted_answer())
     }
 }

@@ -55,16 +55,23 @@ fn play<E: StorageEngine + Drop>(
     Ok(())
 }
 
+/// What a session was given.
+fn output_of(session: SequentialSession) -> SessionOutput
+    ensures { result ≡ output_of session }
+{
+    SessionOutput {
+        session: session.number,
+        output: ByteString::from_vec(session.output),
+    }
+}
+
 /// What the sessions were given.
 fn outputs(alloc: Global, sessions: Vec<SequentialSession>) -> Result<Vec<SessionOutput>, NoMemory>
     ensures { IfOk result (λ given. given.items ≡ map output_of sessions.items) }
 {
     let mut given = Vec::with_capacity(alloc, sessions.len())?;
     for session in sessions {
-        given.push(SessionOutput {
-            session: session.number,
-            output: ByteString::from_vec(session.output),
-        })?;
+        given.push(output_of(session))?;
     }
     Ok(given)
 }

@@ -1,12 +1,15 @@
 //! The map of live entries that stand in segments.
 
-ghost use Rattle.std.specs.Prelude.{◌≡◌, ◌≤◌, false, IfOk, IsSome};
+ghost use Rattle.std.specs.Prelude.{◌≡◌, ◌≤◌, false, IfOk, IsSome, Some};
 ghost use Rattle.std.specs.FinMap as map;
 ghost use Rattle.proto.specs.Buckets.{time_to_live, life_width};
-ghost use Rattle.segments.specs.Pools.{item_in, place_deadline};
+ghost use Rattle.segments.specs.Items.{Item};
+ghost use Rattle.segments.specs.Shown.{item_of};
+ghost use Rattle.segments.specs.Pools.{IsPool, item_in, place_deadline};
+ghost use Rattle.segments.specs.Changes.{new_pool, with_eviction};
 ghost use Rattle.engine.specs.Shown.{entry_of};
 ghost use Rattle.segcache.specs.Shown.{entry_at, shown_entries};
-ghost use Rattle.segcache.specs.Writes.{loses_little, may_give, stays_as};
+ghost use Rattle.segcache.specs.Writes.{loses_little, may_give, stays_as, unread};
 
 use crate::counts::StoreCounts;
 use engine::{EntryRef, LiveMap, StoreMap, has_arrived};
@@ -117,6 +120,32 @@ fn entry_at<'a>(pool: &'a Pool, place: Place) -> EntryRef<'a>
         deadline: item.deadline,
         cas: item.cas,
     }
+}
+
+/// The item of an entry that is put over the one at a place, whose read count it keeps.
+fn item_over<'a>(pool: &Pool, place: Place, key: &'a [u8], entry: EntryRef<'a>) -> ItemRef<'a>
+    requires { IsSome (item_in pool.now place) }
+    ensures { (found : Item) × (Some found ≡ item_in pool.now place)
+        × (item_of result ≡ record (unread key.now (entry_of entry.entry)) { reads = found.reads }) }
+{
+    ItemRef {
+        key,
+        value: entry.value,
+        flags: entry.flags,
+        deadline: entry.deadline,
+        cas: entry.cas,
+        reads: pool.item(place).reads,
+    }
+}
+
+/// A pool without an item, whose segments are merged or evicted by this rule. NoMemory if out of memory.
+fn pool_evicting_by(alloc: Global, geometry: Geometry, eviction: Eviction) -> Result<Pool, NoMemory>
+    ensures new { IfOk result (λ p. p ≡ with_eviction (new_pool geometry) eviction) }
+    ensures pool { IfOk result IsPool }
+{
+    let mut pool = Pool::new(alloc, geometry)?;
+    pool.evict_by(eviction);
+    Ok(pool)
 }
 
 impl SegmentMap {
@@ -249,14 +278,7 @@ impl LiveMap for SegmentMap {
     }
 
     fn rewrite(&mut self, key: &[u8], place: Place, entry: EntryRef) -> Result<(), NoMemory> {
-        let item = ItemRef {
-            key,
-            value: entry.value,
-            flags: entry.flags,
-            deadline: entry.deadline,
-            cas: entry.cas,
-            reads: self.pool.item(place).reads,
-        };
+        let item = item_over(&self.pool, place, key, entry);
         if !self.pool.fits_over(place, item) {
             return self.write(key, entry);
         }
@@ -290,10 +312,8 @@ impl StoreMap for SegmentMap {
         seed: u64,
         eviction: Eviction,
     ) -> Result<Self, NoMemory> {
-        let mut pool = Pool::new(alloc, geometry)?;
-        pool.evict_by(eviction);
         Ok(SegmentMap {
-            pool,
+            pool: pool_evicting_by(alloc, geometry, eviction)?,
             index: Index::new(alloc, slots_for(geometry), layout_for(geometry), seed)?,
             marks: LiveMarks::new(alloc, geometry)?,
             moment: 0,

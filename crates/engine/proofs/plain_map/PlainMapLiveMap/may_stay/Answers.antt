@@ -10,7 +10,7 @@ use Rattle.engine.proofs.plain_map.PlainMapLiveMap.may_stay.Goals as goal
 pub returns-clause-kept : goal.returns-clause-kept
 returns-clause-kept c holds e there items kept adds within =
     let decides : (x : Entry) → map.get (plain_entries c.args.self.now) c.args.key.now ≡ Some x
-    → c.eq.result ≡ same_deadline c.args.deadline x.deadline = search rules in
+    → c.is_same_deadline.result ≡ same_deadline c.args.deadline x.deadline = search rules in
     let same : c.args.deadline ≡ e.deadline =
     same_deadlines c.args.deadline e.deadline (sym (decides e there) ∙ holds) in (
       sym (ap (λ (d : Option ℕ). map.insert (plain_entries c.args.self.now) c.args.key.now (record e { deadline = d })) same

@@ -1,5 +1,5 @@
 use Rattle.std.proofs.Common.{rules, ◌≡◌, ℕ, ◌+◌, ◌++◌, ◌∷◌, [], List, Some, length, length-append, sum_by, ◌≤◌}
-use Rattle.std.proofs.Common.{arith, refl, sym, ap, subst, ◌∙◌}
+use Rattle.std.proofs.Common.{arith, sym, ap, subst, ◌∙◌}
 use Rattle.std.specs.FinMap as map
 use Rattle.std.proofs.lemmas.List.Sums.{sum_by-cons}
 use Rattle.proto.specs.Commands.{hits_of}
@@ -10,11 +10,11 @@ use Rattle.proto.specs.declared.hits.Hit.{Hit}
 use Rattle.engine.specs.Shown.{entry_of}
 use Rattle.engine.specs.Finding.{AreFound, keys_found}
 use Rattle.engine.proofs.HitLemmas.{hit_of, hits_there, found_more, hits_found_more}
-use Rattle.engine.proofs.hits.find_keys.Goals as goal
+use Rattle.engine.proofs.hits.list_found.Goals as goal
 
 -- one key more was found
-pub loop-key-preserved-in-Continue-branch-3 : goal.loop-key-preserved-in-Continue-branch-3
-loop-key-preserved-in-Continue-branch-3 g c =
+pub loop-key-preserved-in-Continue-branch-2 : goal.loop-key-preserved-in-Continue-branch-2
+loop-key-preserved-in-Continue-branch-2 g c =
     let m = g.M.LiveMap in
     let inv = c.loop-key.invariant in
     let entries = m.entries c.args.map.now in
@@ -23,14 +23,14 @@ loop-key-preserved-in-Continue-branch-3 g c =
     let hit : Hit = hit_of c.args.with_cas key e in
     let rest = c.next.new.self in
     let there : Some e ≡ map.get entries key = c.in-Some-get.ensures.found in
-    let f = c.found_at.result in
-    let pushed : c.push.new.self.items ≡ c.loop-key.found.items ++ f ∷ [] =
-    rw (c.in_ok-push.ensures.items, c.in_ok-reserve.ensures.items) refl in
-    let same : f.key.now ≡ key = c.found_at.ensures.key in
+    let added = c.in_ok-add_found.ensures in
+    let f = added.0 in
+    let same : f.key.now ≡ key = added.1 in
+    let pushed : c.add_found.new.found.items ≡ c.loop-key.found.items ++ f ∷ [] = added.3 in
     let at_key : Some e ≡ map.get entries f.key.now = there ∙ ap (λ (k : List ℕ). map.get entries k) (sym same) in
     let stands : m.stands c.args.map.now f.key.now f.place =
     subst (λ (k : List ℕ). m.stands c.args.map.now k f.place) (sym same)
-    (search rules) in
+    (subst (m.stands c.args.map.now key) (sym added.2) (search rules)) in
     let words : c.loop-key.words ≡ f.key.now ∷ rest =
     c.in-Some.ensures ∙ ap (λ (k : List ℕ). k ∷ rest) (sym same) in
     let hits : hits_of c.args.with_cas entries c.loop-key.words ≡ hit ∷ hits_of c.args.with_cas entries rest =

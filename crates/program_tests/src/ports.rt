@@ -217,7 +217,8 @@ where
     check_next(rt, port, CALLS, Came::Data(1, 7), "a request");
 }
 
-/// Whole pieces of the sessions from number 1 on come in turn, while each client has sent another one before its last was read.
+/// Whole pieces of the sessions from number 1 on come in turn, while each client has sent another one before its last
+/// was read.
 fn check_in_turn<R>(rt: &R, alloc: Global, port: &mut AskedPort<R>, fast: &[TcpStream])
 where
     R: Wait + Clock + Abort + Drop,
@@ -243,7 +244,8 @@ where
     check_in_turn(rt, alloc, port, clients);
 }
 
-/// Whether a request of this session comes in so few events, while the client of session 1 sends a piece whenever one was read.
+/// Whether a request of this session comes in so few events, while the client of session 1 sends a piece whenever one
+/// was read.
 fn is_heard<R>(
     rt: &R,
     alloc: Global,

@@ -1,6 +1,6 @@
 //! However the bytes are cut, and whenever answers come and output is given, what is given is the same.
 
-use crate::player::Player;
+use crate::player::{Given, Player};
 use crate::same::check_same;
 use proto::Dialect;
 use session_book::EndCause;
@@ -90,89 +90,43 @@ const LENIENT_ROWS: [Row; 3] = [
     },
 ];
 
-/// The next of a list of numbers that look random.
-fn scrambled(seed: u64) -> u64 {
-    seed.wrapping_mul(6_364_136_223_846_793_005)
-        .wrapping_add(1_442_695_040_888_963_407)
-}
-
-/// Feeds at most `length` of the bytes, and answers what is left.
-fn feed<'a>(player: &mut Player, bytes: &'a [u8], length: usize) -> Result<&'a [u8], Fail> {
-    let (piece, rest) = bytes.split_at(length.min(bytes.len()));
-    player.feed(7, piece)?;
-    Ok(rest)
-}
-
-/// Reads the next request, if there is one.
-fn ask(player: &mut Player) -> Result<(), Fail> {
-    let _ = player.ask(7)?;
-    Ok(())
-}
-
-/// Settles the oldest request, if there is one.
-fn settle(player: &mut Player) -> Result<(), Fail> {
-    let _ = player.settle(0)?;
-    Ok(())
-}
-
-/// Reads, settles and gives what there is to read, settle and give.
-fn finish(player: &mut Player, given: &mut Vec<u8>) -> Result<(), Fail> {
-    for _ in 0..10 {
-        ask(player)?;
-        settle(player)?;
-    }
-    player.give(7, given)
-}
-
 /// Feeds, reads, settles or gives, as the number picks, and says what is left to feed.
-fn play_turn<'a>(
-    player: &mut Player,
-    given: &mut Vec<u8>,
-    rest: &'a [u8],
-    random: u64,
-) -> Result<&'a [u8], Fail> {
-    let played = match (random >> 40) % 4 {
-        0 => return feed(player, rest, ((random >> 33) % 7) as usize),
-        1 => ask(player),
-        2 => settle(player),
-        _ => player.give(7, given),
-    };
-    played?;
+fn play_turn<'a>(player: &mut Player, rest: &'a [u8], random: u64) -> Result<&'a [u8], Fail> {
+    match (random >> 40) % 4 {
+        0 => {
+            let length = ((random >> 33) % 7) as usize;
+            let (piece, rest) = rest.split_at(length.min(rest.len()));
+            player.feed(7, piece)?;
+            return Ok(rest);
+        }
+        1 => {
+            let _ = player.ask(7)?;
+        }
+        2 => {
+            let _ = player.settle(0, Given::Known)?;
+        }
+        _ => player.give(7)?,
+    }
     Ok(rest)
 }
 
-/// Plays the session with this input, in an order that the seed picks, and keeps what is given in all.
-fn play(player: &mut Player, given: &mut Vec<u8>, input: &[u8], seed: u64) -> Result<(), Fail> {
-    player.open(7)?;
+/// Plays the session with this input, in an order that the seed picks, and then reads, settles and gives what is left.
+fn play(player: &mut Player, input: &[u8], seed: u64) -> Result<(), Fail> {
+    player.book.open(7)?;
     let mut rest = input;
     let mut random = seed;
     for _ in 0..60 {
-        random = scrambled(random);
-        rest = play_turn(player, given, rest, random)?;
+        random = random
+            .wrapping_mul(6_364_136_223_846_793_005)
+            .wrapping_add(1_442_695_040_888_963_407);
+        rest = play_turn(player, rest, random)?;
     }
-    let _ = feed(player, rest, usize::MAX)?;
-    finish(player, given)
-}
-
-/// Plays the row's session, and says whether its output is given.
-fn gives_output(alloc: Global, player: &mut Player, row: &Row, seed: u64) -> Result<bool, Fail> {
-    let mut given = Vec::new(alloc);
-    let played = play(player, &mut given, row.input.as_bytes(), seed);
-    let is_given = given.as_slice() == row.output.as_bytes();
-    drop(given);
-    played?;
-    Ok(is_given)
-}
-
-/// Whether the row's output is given, and how its session ends.
-fn outcome(
-    alloc: Global,
-    player: &mut Player,
-    row: &Row,
-    seed: u64,
-) -> Result<(bool, Option<EndCause>), Fail> {
-    let is_given = gives_output(alloc, player, row, seed)?;
-    Ok((is_given, player.finished(7)))
+    player.feed(7, rest)?;
+    for _ in 0..10 {
+        let _ = player.ask(7)?;
+        let _ = player.settle(0, Given::Known)?;
+    }
+    player.give(7)
 }
 
 fn check_row(
@@ -183,23 +137,24 @@ fn check_row(
     seed: u64,
 ) -> Result<(), Fail> {
     let mut player = Player::new(alloc, dialect, row.found);
-    let outcome = outcome(alloc, &mut player, row, seed);
+    let played = play(&mut player, row.input.as_bytes(), seed);
+    let is_given = player.given.as_slice() == row.output.as_bytes();
+    let ends = player.book.offer(7).finished;
     drop(player);
-    check_same(rt, outcome?, (true, row.ends), (row.input, seed));
-    Ok(())
-}
-
-fn check_rows(rt: &impl Abort, alloc: Global, dialect: Dialect, rows: &[Row]) -> Result<(), Fail> {
-    for row in rows {
-        for seed in 0..50 {
-            check_row(rt, alloc, dialect, row, seed)?;
-        }
-    }
+    played?;
+    check_same(rt, (is_given, ends), (true, row.ends), (row.input, seed));
     Ok(())
 }
 
 #[test]
 fn cuttings_give_one_output(rt: HostRuntime) -> Result<(), Fail> {
-    check_rows(&rt, rt.alloc(), Dialect::Strict, &ROWS)?;
-    check_rows(&rt, rt.alloc(), Dialect::Lenient, &LENIENT_ROWS)
+    for seed in 0..50 {
+        for row in &ROWS {
+            check_row(&rt, rt.alloc(), Dialect::Strict, row, seed)?;
+        }
+        for row in &LENIENT_ROWS {
+            check_row(&rt, rt.alloc(), Dialect::Lenient, row, seed)?;
+        }
+    }
+    Ok(())
 }

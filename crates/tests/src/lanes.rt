@@ -56,19 +56,22 @@ fn is_deletion(posted: &Posted, number: u64) -> bool {
     }
 }
 
-/// Posts a request of session 7, and says whether it was sent. One that is handed back is unchanged.
-fn ask(rt: &impl Abort, alloc: Global, end: &mut WorkerEnd) -> Result<bool, Fail> {
+/// Posts a request of session 7, and checks whether it was sent. One that is handed back is unchanged.
+fn check_sent(
+    rt: &impl Abort,
+    alloc: Global,
+    end: &mut WorkerEnd,
+    wanted: bool,
+) -> Result<(), Fail> {
     let number = end.sent() + 1;
     let posted = deletion(alloc, number)?;
-    match end.post(posted) {
-        Ok(()) => Ok(true),
-        Err(back) => {
-            let is_same = is_deletion(&back, number);
-            drop(back);
-            check_same(rt, is_same, true, "what is handed back");
-            Ok(false)
-        }
-    }
+    let back = match end.post(posted) {
+        Ok(()) => None,
+        Err(back) => Some(is_deletion(&back, number)),
+    };
+    let is_right = if wanted { None } else { Some(true) };
+    check_same(rt, back, is_right, "what is handed back");
+    Ok(())
 }
 
 /// The last worker's end.
@@ -104,33 +107,18 @@ fn check_next(rt: &impl Abort, storage: &mut StorageEnd, wanted: Option<(usize, 
     check_same(rt, next_of(storage), wanted, place);
 }
 
-fn check_sent(
-    rt: &impl Abort,
-    alloc: Global,
-    end: &mut WorkerEnd,
-    wanted: bool,
-) -> Result<(), Fail> {
-    let is_sent = ask(rt, alloc, end)?;
-    check_same(rt, is_sent, wanted, "a request");
-    Ok(())
-}
-
 /// Takes the next answer, and says whether there was none.
 fn has_none(end: &mut WorkerEnd) -> bool {
     end.take().is_none()
 }
 
-fn check_none(rt: &impl Abort, end: &mut WorkerEnd) {
-    check_same(rt, has_none(end), true, "no answer");
-}
-
 fn check_65th(rt: &impl Abort, alloc: Global, end: &mut WorkerEnd) -> Result<(), Fail> {
-    check_none(rt, end);
+    check_same(rt, has_none(end), true, "no answer at first");
     for _ in 0..64 {
         check_sent(rt, alloc, end, true)?;
     }
     check_sent(rt, alloc, end, false)?;
-    check_none(rt, end);
+    check_same(rt, has_none(end), true, "no answer");
     check_same(rt, (end.sent(), end.outstanding()), (64, 64), "the end");
     Ok(())
 }
@@ -143,13 +131,6 @@ fn the_65th_request_is_handed_back(rt: HostRuntime) -> Result<(), Fail> {
     checked
 }
 
-/// Says bye where that may be said.
-fn say_bye(end: &mut WorkerEnd) {
-    if !end.said_bye() && end.outstanding() == 0 {
-        end.bye();
-    }
-}
-
 fn check_bye(
     rt: &impl Abort,
     alloc: Global,
@@ -159,7 +140,9 @@ fn check_bye(
     requires { storage.old.history ≡ [] }
 {
     check_next(rt, storage, None, "the beginning");
-    say_bye(end);
+    if !end.said_bye() && end.outstanding() == 0 {
+        end.bye();
+    }
     check_sent(rt, alloc, end, false)?;
     check_next(rt, storage, Some((1, false)), "the bye");
     Ok(())
@@ -194,12 +177,8 @@ fn check_turns(
 #[test]
 fn lanes_are_looked_at_in_turn(rt: HostRuntime) -> Result<(), Fail> {
     let mut lanes = made(rt.alloc(), 3)?;
-    let checked = check_turns(
-        &rt,
-        rt.alloc(),
-        lanes.workers.as_mut_slice(),
-        &mut lanes.storage,
-    );
+    let ends = lanes.workers.as_mut_slice();
+    let checked = check_turns(&rt, rt.alloc(), ends, &mut lanes.storage);
     drop(lanes);
     checked
 }

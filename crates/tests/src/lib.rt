@@ -1,4 +1,4 @@
-//! Tests of the libraries below the worker: messages, the plain store, books and lanes.
+//! Tests of the libraries below the worker: messages, the plain store, books, lanes and idle threads.
 #![tactic(auto)]
 
 #[cfg(test)]
@@ -14,6 +14,10 @@ mod large_blocks;
 #[cfg(test)]
 mod list_cache;
 #[cfg(test)]
+mod made;
+#[cfg(test)]
+mod message_rows;
+#[cfg(test)]
 mod messages;
 #[cfg(test)]
 mod player;
@@ -25,5 +29,7 @@ mod same;
 mod signals;
 #[cfg(test)]
 mod sizes;
+#[cfg(test)]
+mod spinning;
 #[cfg(test)]
 mod traces;

@@ -71,34 +71,36 @@ impl ListCache {
         self.entries.retain(|entry| entry.deadline > now);
     }
 
-    /// The bytes that answer the request at the moment.
+    /// Appends the answer to the request at the moment.
     pub fn answer(
         &mut self,
         alloc: Global,
         now: u64,
         request: &Request,
-    ) -> Result<Vec<u8>, AllocError> {
+        out: &mut Vec<u8>,
+    ) -> Result<(), AllocError> {
         self.expire(now);
-        match request {
-            Request::Get { keys, with_cas } => self.values(alloc, keys, *with_cas),
-            Request::Set(put) => self.put(alloc, now, put, Condition::Always),
-            Request::Add(put) => self.put(alloc, now, put, Condition::Missing),
-            Request::Replace(put) => self.put(alloc, now, put, Condition::There),
-            Request::Cas(put, cas) => self.put(alloc, now, put, Condition::SameCas(*cas)),
-            Request::Append(put) => self.join(alloc, put, true),
-            Request::Prepend(put) => self.join(alloc, put, false),
-            Request::Touch(touch) => text_line(alloc, self.touch(now, &touch.key, touch.exptime)),
-            Request::Delete { key } => text_line(alloc, self.delete(key)),
-            Request::Incr { key, amount } => self.count(alloc, key, *amount, true),
-            Request::Decr { key, amount } => self.count(alloc, key, *amount, false),
-            Request::FlushAll { delay } => text_line(alloc, self.flush(now, *delay)),
-            Request::Stats => text_line(alloc, "NOT_FOUND"),
-        }
+        let text: &[u8] = match request {
+            Request::Get { keys, with_cas } => return self.push_all(out, keys, *with_cas),
+            Request::Incr { key, amount } => return self.count(alloc, key, (*amount, true), out),
+            Request::Decr { key, amount } => return self.count(alloc, key, (*amount, false), out),
+            Request::Set(put) => self.put(alloc, now, put, Condition::Always)?,
+            Request::Add(put) => self.put(alloc, now, put, Condition::Missing)?,
+            Request::Replace(put) => self.put(alloc, now, put, Condition::There)?,
+            Request::Cas(put, cas) => self.put(alloc, now, put, Condition::SameCas(*cas))?,
+            Request::Append(put) => self.join(alloc, put, true)?,
+            Request::Prepend(put) => self.join(alloc, put, false)?,
+            Request::Touch(touch) => self.touch(now, &touch.key, touch.exptime),
+            Request::Delete { key } => self.delete(key),
+            Request::FlushAll { delay } => self.flush(now, *delay),
+            Request::Stats => b"NOT_FOUND",
+        };
+        push_line(out, text)
     }
 
-    fn touch(&mut self, now: u64, key: &ByteString, exptime: i64) -> &'static str {
+    fn touch(&mut self, now: u64, key: &ByteString, exptime: i64) -> &'static [u8] {
         let Some(i) = self.place(key) else {
-            return "NOT_FOUND";
+            return b"NOT_FOUND";
         };
         let deadline = deadline_of(now, exptime);
         if deadline > now {
@@ -106,65 +108,50 @@ impl ListCache {
         } else {
             self.entries.remove(i);
         }
-        "TOUCHED"
+        b"TOUCHED"
     }
 
-    fn join(&mut self, alloc: Global, put: &Put, behind: bool) -> Result<Vec<u8>, AllocError> {
+    fn join(
+        &mut self,
+        alloc: Global,
+        put: &Put,
+        behind: bool,
+    ) -> Result<&'static [u8], AllocError> {
         let Some(i) = self.place(&put.key) else {
-            return text_line(alloc, "NOT_STORED");
+            return Ok(b"NOT_STORED");
         };
-        let here = Vec::from_slice(alloc, self.entries[i].value.as_slice())?;
-        let more = put.value.as_slice();
-        let bytes = put
-            .key
-            .as_slice()
-            .len()
-            .saturating_add(here.len())
-            .saturating_add(more.len());
-        if bytes.saturating_add(24).div_ceil(8) > self.item_limit / 8 {
-            return text_line(alloc, "SERVER_ERROR object too large for cache");
+        let (here, more) = (self.entries[i].value.as_slice(), put.value.as_slice());
+        let length = here.len().saturating_add(more.len());
+        if !self.has_room(put.key.as_slice(), length) {
+            return Ok(TOO_LARGE);
         }
-        let mut joined = Vec::new(alloc);
-        if behind {
-            joined.extend_from_slice(here.as_slice())?;
-            joined.extend_from_slice(more)?;
-        } else {
-            joined.extend_from_slice(more)?;
-            joined.extend_from_slice(here.as_slice())?;
-        }
+        let (first, second) = if behind { (here, more) } else { (more, here) };
+        let mut joined = Vec::from_slice(alloc, first)?;
+        joined.extend_from_slice(second)?;
         self.last_cas = self.last_cas.saturating_add(1);
         self.entries[i].cas = self.last_cas;
         self.entries[i].value = joined;
-        text_line(alloc, "STORED")
+        Ok(b"STORED")
     }
 
-    fn delete(&mut self, key: &ByteString) -> &'static str {
+    fn delete(&mut self, key: &ByteString) -> &'static [u8] {
         match self.place(key) {
             Some(i) => {
                 self.entries.remove(i);
-                "DELETED"
+                b"DELETED"
             }
-            None => "NOT_FOUND",
+            None => b"NOT_FOUND",
         }
     }
 
-    fn flush(&mut self, now: u64, delay: u64) -> &'static str {
+    fn flush(&mut self, now: u64, delay: u64) -> &'static [u8] {
         if delay == 0 {
             self.entries.clear();
             self.pending = None;
         } else {
             self.pending = Some(now.saturating_add(delay));
         }
-        "OK"
-    }
-
-    fn push_values(&self, out: &mut Vec<u8>, key: &[u8], with_cas: bool) -> Result<(), AllocError> {
-        for entry in &self.entries {
-            if entry.key.as_slice() == key {
-                push_value(out, entry, with_cas)?;
-            }
-        }
-        Ok(())
+        b"OK"
     }
 
     fn push_all(&self, out: &mut Vec<u8>, keys: &Keys, with_cas: bool) -> Result<(), AllocError> {
@@ -173,42 +160,37 @@ impl ListCache {
             let Some(key) = keys.next() else {
                 break;
             };
-            self.push_values(out, key, with_cas)?;
+            for entry in &self.entries {
+                if entry.key.as_slice() == key {
+                    push_value(out, entry, with_cas)?;
+                }
+            }
         }
         out.extend_from_slice(b"END\r\n")
     }
 
-    fn values(&self, alloc: Global, keys: &Keys, with_cas: bool) -> Result<Vec<u8>, AllocError> {
-        let mut out = Vec::new(alloc);
-        self.push_all(&mut out, keys, with_cas)?;
-        Ok(out)
+    /// Whether an item with this key and a value of this length is within the limit.
+    fn has_room(&self, key: &[u8], length: usize) -> bool {
+        let bytes = key.len().saturating_add(length).saturating_add(24);
+        bytes.div_ceil(8) <= self.item_limit / 8
     }
 
     /// Why a put isn't stored, if it isn't.
-    fn refusal(&self, put: &Put, condition: Condition) -> Option<&'static str> {
+    fn refusal(&self, put: &Put, condition: Condition) -> Option<&'static [u8]> {
         let key = put.key.as_slice();
-        let bytes = key.len().saturating_add(put.value.as_slice().len());
-        let words = bytes.saturating_add(24).div_ceil(8);
-        if words > self.item_limit / 8 || key.is_empty() || key.len() > 250 {
-            return Some("SERVER_ERROR object too large for cache");
+        if !self.has_room(key, put.value.as_slice().len()) || key.is_empty() || key.len() > 250 {
+            return Some(TOO_LARGE);
         }
         let there = match self.place(&put.key) {
             Some(i) => Some(self.entries[i].cas),
             None => None,
         };
         match (condition, there) {
-            (Condition::Missing, Some(_)) | (Condition::There, None) => Some("NOT_STORED"),
-            (Condition::SameCas(_), None) => Some("NOT_FOUND"),
-            (Condition::SameCas(asked), Some(cas)) if asked != cas => Some("EXISTS"),
+            (Condition::Missing, Some(_)) | (Condition::There, None) => Some(b"NOT_STORED"),
+            (Condition::SameCas(_), None) => Some(b"NOT_FOUND"),
+            (Condition::SameCas(asked), Some(cas)) if asked != cas => Some(b"EXISTS"),
             _ => None,
         }
-    }
-
-    fn push(&mut self, alloc: Global, put: &Put, deadline: u64) -> Result<(), AllocError> {
-        self.last_cas = self.last_cas.saturating_add(1);
-        let entry = entry_of(alloc, put, deadline, self.last_cas)?;
-        self.entries.push(entry)?;
-        Ok(())
     }
 
     fn put(
@@ -217,44 +199,53 @@ impl ListCache {
         now: u64,
         put: &Put,
         condition: Condition,
-    ) -> Result<Vec<u8>, AllocError> {
+    ) -> Result<&'static [u8], AllocError> {
         if let Some(refusal) = self.refusal(put, condition) {
-            return text_line(alloc, refusal);
+            return Ok(refusal);
         }
         if let Some(i) = self.place(&put.key) {
             self.entries.remove(i);
         }
         let deadline = deadline_of(now, put.exptime);
         if deadline > now {
-            self.push(alloc, put, deadline)?;
+            self.last_cas = self.last_cas.saturating_add(1);
+            let entry = entry_of(alloc, put, deadline, self.last_cas)?;
+            self.entries.push(entry)?;
         }
-        text_line(alloc, "STORED")
+        Ok(b"STORED")
     }
 
+    /// Counts the number at the key up or down by the amount, and appends it.
     fn count(
         &mut self,
         alloc: Global,
         key: &ByteString,
-        amount: u64,
-        up: bool,
-    ) -> Result<Vec<u8>, AllocError> {
+        (amount, up): (u64, bool),
+        out: &mut Vec<u8>,
+    ) -> Result<(), AllocError> {
         let Some(i) = self.place(key) else {
-            return text_line(alloc, "NOT_FOUND");
+            return push_line(out, b"NOT_FOUND");
         };
         let Some(n) = number(self.entries[i].value.as_slice()) else {
-            return text_line(
-                alloc,
-                "CLIENT_ERROR cannot increment or decrement non-numeric value",
-            );
+            return push_line(out, NO_NUMBER);
         };
         let mut buffer = Buffer::new();
-        let text = buffer.format(counted(n, amount, up));
+        let counted = if up {
+            n.wrapping_add(amount)
+        } else {
+            n.saturating_sub(amount)
+        };
+        let text = buffer.format(counted);
         self.last_cas = self.last_cas.saturating_add(1);
         self.entries[i].cas = self.last_cas;
         self.entries[i].value = Vec::from_slice(alloc, text.as_bytes())?;
-        text_line(alloc, text)
+        push_line(out, text.as_bytes())
     }
 }
+
+const TOO_LARGE: &[u8] = b"SERVER_ERROR object too large for cache";
+
+const NO_NUMBER: &[u8] = b"CLIENT_ERROR cannot increment or decrement non-numeric value";
 
 /// The entry of a put, with copies of its key and value.
 fn entry_of(alloc: Global, put: &Put, deadline: u64, cas: u64) -> Result<ListEntry, AllocError> {
@@ -267,15 +258,6 @@ fn entry_of(alloc: Global, put: &Put, deadline: u64, cas: u64) -> Result<ListEnt
         deadline,
         cas,
     })
-}
-
-/// The number that an `incr` makes of this one, or a `decr`.
-fn counted(n: u64, amount: u64, up: bool) -> u64 {
-    if up {
-        n.wrapping_add(amount)
-    } else {
-        n.saturating_sub(amount)
-    }
 }
 
 /// When an entry is over that is put now.
@@ -291,12 +273,6 @@ fn deadline_of(now: u64, exptime: i64) -> u64 {
     }
 }
 
-fn text_line(alloc: Global, text: &str) -> Result<Vec<u8>, AllocError> {
-    let mut out = Vec::from_slice(alloc, text.as_bytes())?;
-    out.extend_from_slice(b"\r\n")?;
-    Ok(out)
-}
-
 /// A number of at most 20 digits.
 fn number(value: &[u8]) -> Option<u64> {
     if value.len() > 20 || value.iter().any(|byte| *byte < b'0' || *byte > b'9') {
@@ -305,27 +281,20 @@ fn number(value: &[u8]) -> Option<u64> {
     str::from_utf8(value).ok()?.parse::<u64>().ok()
 }
 
-/// A space and the number.
-fn push_number(out: &mut Vec<u8>, n: u64) -> Result<(), AllocError> {
-    let mut buffer = Buffer::new();
-    out.extend_from_slice(b" ")?;
-    out.extend_from_slice(buffer.format(n).as_bytes())
-}
-
-/// The line before a value, without its end.
-fn push_head(out: &mut Vec<u8>, entry: &ListEntry, with_cas: bool) -> Result<(), AllocError> {
-    out.extend_from_slice(b"VALUE ")?;
-    out.extend_from_slice(entry.key.as_slice())?;
-    push_number(out, u64::from(entry.flags))?;
-    push_number(out, entry.value.len() as u64)?;
-    if with_cas {
-        push_number(out, entry.cas)?;
-    }
-    Ok(())
+fn push_line(out: &mut Vec<u8>, text: &[u8]) -> Result<(), AllocError> {
+    out.extend_from_slice(text)?;
+    out.extend_from_slice(b"\r\n")
 }
 
 fn push_value(out: &mut Vec<u8>, entry: &ListEntry, with_cas: bool) -> Result<(), AllocError> {
-    push_head(out, entry, with_cas)?;
+    out.extend_from_slice(b"VALUE ")?;
+    out.extend_from_slice(entry.key.as_slice())?;
+    let numbers = [u64::from(entry.flags), entry.value.len() as u64, entry.cas];
+    for n in &numbers[..if with_cas { 3 } else { 2 }] {
+        let mut buffer = Buffer::new();
+        out.extend_from_slice(b" ")?;
+        out.extend_from_slice(buffer.format(*n).as_bytes())?;
+    }
     out.extend_from_slice(b"\r\n")?;
     out.extend_from_slice(entry.value.as_slice())?;
     out.extend_from_slice(b"\r\n")

@@ -1,10 +1,10 @@
 //! Random requests, which the store is to answer as the list does.
 
 use crate::list_cache::ListCache;
-use crate::messages::shown;
+use crate::made::{Spelling, spell};
 use crate::same::check_same;
 use engine::{PlainStore, StorageEngine};
-use proto::{ByteString, Geometry, Keys, Message, NoMemory, Put, Reply, Request, Touch, Words};
+use proto::{ByteString, Geometry, Keys, NoMemory, Put, Request, Touch, Words, show_reply};
 use std::alloc::{AllocError, Global};
 use std::process::Abort;
 use std::test::Fail;
@@ -28,32 +28,39 @@ impl Random {
     }
 }
 
-fn bytes(alloc: Global, bytes: &[u8]) -> Result<ByteString, AllocError> {
-    Ok(ByteString::from_vec(Vec::from_slice(alloc, bytes)?))
-}
+/// What is drawn at random is a letter, or one of these.
+const KEYS: [Spelling; 3] = [("", b'k', 0, ""), ("", b'k', 251, ""), ("", b'k', 250, "")];
 
-fn random_key(alloc: Global, random: &mut Random) -> Result<ByteString, AllocError> {
-    match random.below(30) {
-        0 => bytes(alloc, b""),
-        1 => Ok(ByteString::from_vec(vec![in alloc; b'k'; 251]?)),
-        2 => Ok(ByteString::from_vec(vec![in alloc; b'k'; 250]?)),
-        n => bytes(alloc, &[b"kabcdef"[n as usize % 7]]),
+const VALUES: [Spelling; 9] = [
+    ("", b'v', 0, ""),
+    ("x", b'v', 0, ""),
+    ("18446744073709551615", b'v', 0, ""),
+    ("18446744073709551616", b'v', 0, ""),
+    ("", b'0', 19, "7"),
+    ("", b'0', 20, "7"),
+    ("+7", b'v', 0, ""),
+    ("", b'v', 487, ""),
+    ("", b'v', 488, ""),
+];
+
+fn random_key(random: &mut Random) -> Spelling {
+    match random.below(30) as usize {
+        n @ 0..=2 => KEYS[n],
+        n => ("", b"kabcdef"[n % 7], 1, ""),
     }
 }
 
-fn random_value(alloc: Global, random: &mut Random) -> Result<ByteString, AllocError> {
-    match random.below(12) {
-        0 => bytes(alloc, b""),
-        1 => bytes(alloc, b"x"),
-        2 => bytes(alloc, b"18446744073709551615"),
-        3 => bytes(alloc, b"18446744073709551616"),
-        4 => bytes(alloc, b"00000000000000000007"),
-        5 => bytes(alloc, b"000000000000000000007"),
-        6 => bytes(alloc, b"+7"),
-        7 => Ok(ByteString::from_vec(vec![in alloc; b'v'; 487]?)),
-        8 => Ok(ByteString::from_vec(vec![in alloc; b'v'; 488]?)),
-        _ => bytes(alloc, b"42"),
+fn random_value(random: &mut Random) -> Spelling {
+    match random.below(12) as usize {
+        n @ 0..=8 => VALUES[n],
+        _ => ("42", b'v', 0, ""),
     }
+}
+
+fn bytes(alloc: Global, spelling: Spelling) -> Result<ByteString, AllocError> {
+    let mut bytes = Vec::new(alloc);
+    spell(&mut bytes, spelling)?;
+    Ok(ByteString::from_vec(bytes))
 }
 
 fn random_exptime(random: &mut Random, now: u64) -> i64 {
@@ -71,61 +78,34 @@ fn random_exptime(random: &mut Random, now: u64) -> i64 {
 fn random_put(alloc: Global, random: &mut Random, now: u64) -> Result<Put, AllocError> {
     let exptime = random_exptime(random, now);
     Ok(Put {
-        key: random_key(alloc, random)?,
+        key: bytes(alloc, random_key(random))?,
         flags: (random.next() % 4_294_967_296) as u32,
         exptime,
-        value: random_value(alloc, random)?,
+        value: bytes(alloc, random_value(random))?,
     })
 }
 
-fn push_random_key(
-    alloc: Global,
-    random: &mut Random,
-    line: &mut Vec<u8>,
-) -> Result<(), AllocError> {
-    line.push(b' ')?;
-    let key = random_key(alloc, random)?;
-    line.extend_from_slice(key.as_slice())
-}
-
-fn push_random_line(
-    alloc: Global,
-    random: &mut Random,
-    line: &mut Vec<u8>,
-) -> Result<(), AllocError> {
+fn push_random_line(random: &mut Random, line: &mut Vec<u8>) -> Result<(), AllocError> {
     line.extend_from_slice(b"get")?;
     for _ in 0..random.below(4) {
-        push_random_key(alloc, random, line)?;
+        line.push(b' ')?;
+        spell(line, random_key(random))?;
     }
     Ok(())
 }
 
-/// The keys of a line.
-fn keys_of(alloc: Global, line: &[u8]) -> Result<Keys, NoMemory> {
-    let mut words = Words::new(line);
-    let _ = words.next();
-    Keys::from_words(alloc, words)
-}
-
-fn random_keys(alloc: Global, random: &mut Random) -> Result<Keys, NoMemory> {
-    let mut line = Vec::new(alloc);
-    push_random_line(alloc, random, &mut line)?;
-    keys_of(alloc, line.as_slice())
-}
-
-/// An amount that a counter may pass its ends by.
-fn random_amount(random: &mut Random) -> u64 {
-    match random.below(3) {
-        0 => 0,
-        1 => 50,
-        _ => u64::MAX,
-    }
-}
-
 fn random_get(alloc: Global, random: &mut Random) -> Result<Request, NoMemory> {
-    let keys = random_keys(alloc, random)?;
+    let mut line = Vec::new(alloc);
+    push_random_line(random, &mut line)?;
+    let mut words = Words::new(line.as_slice());
+    let _ = words.next();
+    let keys = Keys::from_words(alloc, words);
+    drop(line);
     let with_cas = random.below(2) == 0;
-    Ok(Request::Get { keys, with_cas })
+    Ok(Request::Get {
+        keys: keys?,
+        with_cas,
+    })
 }
 
 fn random_write(
@@ -140,6 +120,12 @@ fn random_write(
         5..=7 => Request::Set(put),
         8..=9 => Request::Add(put),
         10..=11 => Request::Replace(put),
+        20..=21 => Request::Append(put),
+        22..=23 => Request::Prepend(put),
+        24..=25 => Request::Touch(Touch {
+            key: put.key,
+            exptime: put.exptime,
+        }),
         _ => {
             let cas = list.cas_at(&put.key).saturating_add(random.below(3) / 2);
             Request::Cas(put, cas)
@@ -148,16 +134,21 @@ fn random_write(
 }
 
 fn random_change(alloc: Global, random: &mut Random, pick: u64) -> Result<Request, NoMemory> {
-    let key = random_key(alloc, random)?;
+    let key = bytes(alloc, random_key(random))?;
     if pick == 14 {
         return Ok(Request::Delete { key });
     }
-    let amount = random_amount(random);
-    if pick <= 16 {
-        Ok(Request::Incr { key, amount })
+    // A counter may pass its ends by the amount.
+    let amount = match random.below(3) {
+        0 => 0,
+        1 => 50,
+        _ => u64::MAX,
+    };
+    Ok(if pick <= 16 {
+        Request::Incr { key, amount }
     } else {
-        Ok(Request::Decr { key, amount })
-    }
+        Request::Decr { key, amount }
+    })
 }
 
 fn random_request(
@@ -168,70 +159,34 @@ fn random_request(
 ) -> Result<Request, NoMemory> {
     match random.below(26) {
         0..=4 => random_get(alloc, random),
-        pick @ 5..=13 => random_write(alloc, random, now, list, pick),
         pick @ 14..=18 => random_change(alloc, random, pick),
-        20..=21 => Ok(Request::Append(random_put(alloc, random, now)?)),
-        22..=23 => Ok(Request::Prepend(random_put(alloc, random, now)?)),
-        24..=25 => {
-            let put = random_put(alloc, random, now)?;
-            Ok(Request::Touch(Touch {
-                key: put.key,
-                exptime: put.exptime,
-            }))
-        }
-        _ => match random.below(6) {
-            delay @ 0..=3 => Ok(Request::FlushAll { delay }),
-            _ => Ok(Request::Stats),
-        },
+        19 => Ok(match random.below(6) {
+            delay @ 0..=3 => Request::FlushAll { delay },
+            _ => Request::Stats,
+        }),
+        pick => random_write(alloc, random, now, list, pick),
     }
 }
 
-fn reply_of(rt: &impl Abort, store: &mut PlainStore, now: u64, request: &mut Request) -> Reply {
-    assert!(rt; store.last_moment() <= now && now < 3_000_000);
-    store.handle(now, request)
-}
-
-/// The store's answer.
-fn answer_of(
+/// Appends the answers of the store and of the list.
+fn answer_both(
     rt: &impl Abort,
     alloc: Global,
-    store: &mut PlainStore,
+    (store, list): (&mut PlainStore, &mut ListCache),
     now: u64,
-    mut request: Request,
-) -> Result<Vec<u8>, Fail> {
-    let reply = reply_of(rt, store, now, &mut request);
-    let message = Message::Ask(request, false);
-    let given = shown(alloc, &message, Some(&reply));
-    drop(message);
+    request: &mut Request,
+    (given, wanted): (&mut Vec<u8>, &mut Vec<u8>),
+) -> Result<(), NoMemory> {
+    list.answer(alloc, now, request, wanted)?;
+    assert!(rt; store.last_moment() <= now && now < 3_000_000);
+    let mut reply = store.handle(now, request);
+    let shown = show_reply(&mut reply, given);
     drop(reply);
-    given
+    shown
 }
 
-/// The store's answer to the request is this.
-fn check_answer(
-    rt: &impl Abort,
-    alloc: Global,
-    store: &mut PlainStore,
-    request: Request,
-    (turn, now): (u64, u64),
-    wanted: &[u8],
-) -> Result<(), Fail> {
-    let given = answer_of(rt, alloc, store, now, request)?;
-    check_same(rt, given.as_slice(), wanted, turn);
-    Ok(())
-}
-
-/// The store and the list are as far, and have the same flush before them.
-fn check_moments(rt: &impl Abort, store: &PlainStore, list: &ListCache, (turn, now): (u64, u64)) {
-    check_same(
-        rt,
-        (store.last_moment(), store.pending()),
-        (now, list.pending),
-        turn,
-    );
-}
-
-/// The store answers a random request as the list does, and says whether a value is shown.
+/// The store answers a random request as the list does, is as far, and has the same flush before it. Says whether a
+/// value is shown.
 fn check_turn(
     rt: &impl Abort,
     alloc: Global,
@@ -239,14 +194,17 @@ fn check_turn(
     store: &mut PlainStore,
     list: &mut ListCache,
     (turn, now): (u64, u64),
-) -> Result<bool, Fail> {
-    let request = random_request(alloc, random, now, list)?;
-    let wanted = list.answer(alloc, now, &request)?;
-    let checked = check_answer(rt, alloc, store, request, (turn, now), wanted.as_slice());
+) -> Result<bool, NoMemory> {
+    let mut request = random_request(alloc, random, now, list)?;
+    let (mut given, mut wanted) = (Vec::new(alloc), Vec::new(alloc));
+    let answers = (&mut given, &mut wanted);
+    let answered = answer_both(rt, alloc, (store, list), now, &mut request, answers);
+    check_same(rt, given.as_slice(), wanted.as_slice(), turn);
     let is_shown = wanted.starts_with(b"VALUE");
-    drop(wanted);
-    checked?;
-    check_moments(rt, store, list, (turn, now));
+    drop((request, given, wanted));
+    answered?;
+    let moments = (store.last_moment(), store.pending());
+    check_same(rt, moments, (now, list.pending), turn);
     Ok(is_shown)
 }
 
@@ -256,7 +214,7 @@ fn check_turns(
     random: &mut Random,
     store: &mut PlainStore,
     list: &mut ListCache,
-) -> Result<(), Fail> {
+) -> Result<(), NoMemory> {
     let mut now = 2_591_995;
     let mut shown = 0u32;
     for turn in 0..5000 {
@@ -273,12 +231,10 @@ fn check_turns(
 #[test]
 fn as_a_list(rt: HostRuntime) -> Result<(), Fail> {
     let alloc = rt.alloc();
-    let geometry = Geometry::new(4096, 8)?;
     let mut random = Random(2_463_534_242);
-    let mut store = PlainStore::new(alloc, geometry)?;
+    let mut store = PlainStore::new(alloc, Geometry::new(4096, 8)?)?;
     let mut list = ListCache::new(alloc, 512);
     let checked = check_turns(&rt, alloc, &mut random, &mut store, &mut list);
-    drop(store);
-    drop(list);
-    checked
+    drop((store, list));
+    Ok(checked?)
 }

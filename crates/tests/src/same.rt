@@ -12,8 +12,3 @@ pub fn check_same<T: Copy + PartialEq + Debug, P: Copy + Debug>(
 ) {
     assert_eq!(rt; given, wanted, "at {place:?}");
 }
-
-/// Checks that the bytes are the same, and else names the place at which they aren't.
-pub fn check_bytes(rt: &impl Abort, given: &[u8], wanted: &[u8], place: &str) {
-    check_same(rt, given, wanted, place);
-}

@@ -2,7 +2,6 @@
 
 use crate::same::check_same;
 use proto::Geometry;
-use std::process::Abort;
 use std::test::Fail;
 
 /// The size of a segment, how many there are, and whether that is within the limits.
@@ -19,16 +18,12 @@ const SIZES: [(u32, u32, bool); 10] = [
     (12_288, 8, false),
 ];
 
-fn check_sizes(rt: &impl Abort, rows: &[(u32, u32, bool)]) {
-    for (size, segments, is_good) in rows {
-        let is_made = Geometry::new(*size, *segments).is_ok();
-        check_same(rt, is_made, *is_good, (*size, *segments));
-    }
-}
-
 #[test]
 fn sizes_are_within_their_limits(rt: HostRuntime) -> Result<(), Fail> {
-    check_sizes(&rt, &SIZES);
+    for (size, segments, is_good) in &SIZES {
+        let is_made = Geometry::new(*size, *segments).is_ok();
+        check_same(&rt, is_made, *is_good, (*size, *segments));
+    }
     let geometry = Geometry::new(4096, 9)?;
     let sizes = (geometry.segment_size(), geometry.segments());
     check_same(

@@ -114,13 +114,25 @@ impl StorageBatch {
         ensures told { MatchOption result (self.new.told ≡ self.old.told) (λ worker. IsUntold self.old worker
             × (worker ≢ answered.worker) × (self.new.told ≡ self.old.end.history)) }
     {
-        let told = if self.untold_lane == answered.worker {
+        let told = self.flush_others(answered.worker);
+        self.add_answer(answered);
+        told
+    }
+
+    /// Tells the workers of all answers, unless all that they weren't told of are this worker's. It gives the worker that was
+    /// told, if one was.
+    fn flush_others(&mut self, worker: usize) -> Option<usize>
+        ensures end { self.new.end ≡ self.old.end }
+        ensures told { MatchOption result (self.new.told ≡ self.old.told) (λ other. IsUntold self.old other
+            × (other ≢ worker) × (self.new.told ≡ self.old.end.history)) }
+        ensures others { (j : ℕ) → j ≢ worker
+            → worker_share self.new.end.history j ≡ worker_share self.new.told j }
+    {
+        if self.untold_lane == worker {
             None
         } else {
             self.flush_answers()
-        };
-        self.add_answer(answered);
-        told
+        }
     }
 
     /// Answers the open request, if all untold answers are of its lane.

@@ -1,9 +1,9 @@
 -- Where the data of a request stands in its spelling: in front of the last two bytes.
-use Rattle.std.proofs.Common.{◌≡◌, ℕ, ◌+◌, ◌-◌, ◌≤◌, Bool, true, false, List, [], ◌∷◌, ◌++◌, length, take, drop, Option, Some, None}
+use Rattle.std.proofs.Common.{◌≡◌, ℕ, ◌+◌, ◌-◌, ◌≤◌, Bool, true, false, List, [], ◌∷◌, ◌++◌, length, take, drop, Some}
 use Rattle.std.proofs.Common.{refl, sym, ap, ◌∙◌, arith, inl, inr, append_assoc, take_at, drop_at, take-append-drop, length-take-le, length-append}
 use Rattle.std.proofs.lemmas.Bool.{both_ways, leb-true}
 use Rattle.std.proofs.lemmas.List.{drop-drop, drop-take}
-use Rattle.std.specs.Prelude.{cond, not, ◌&&◌, ◌||◌, ◌==◌, codes, bytes_eq, ℤ}
+use Rattle.std.specs.Prelude.{cond, not, ◌&&◌, ◌||◌, ◌==◌, codes, bytes_eq}
 use Rattle.std.specs.List.{list_any, slice_split}
 use Rattle.proto.specs.declared.dialect.Dialect.{Dialect}
 use Rattle.proto.specs.declared.message.Put.{Put}
@@ -22,7 +22,8 @@ use Rattle.proto.specs.Lines.{IsSearched, line_text}
 use Rattle.proto.specs.Needs.{NeedsMore}
 use Rattle.proto.specs.PlainReader.{message_by}
 use Rattle.proto.proofs.Options.{some_is, none_is_some}
-use Rattle.session_book.specs.Input.{InputState, MayDrop, Begins, Takes}
+use Rattle.session_book.specs.Input.{InputState, MayDrop, Begins, BeginsBy, Takes, put_by}
+use Rattle.session_book.specs.declared.input.OwnedLine.{OwnedLine}
 use Rattle.session_book.proofs.Inputs.{none_gone}
 use Rattle.session_book.proofs.Needing.{needs_one}
 use Rattle.std.proofs.Common.{subst}
@@ -119,26 +120,54 @@ taken_out i d gone kept left need n m same none within spells left_is =
       taken = ap (λ (x : List ℕ). record { dialect = d; unread = x; need = 1 }) left_is;
     }))
 
--- the same, where the request was made of a storage line with its data
-pub taken_put : (i : InputState) (d : Dialect) (gone kept left seen : List ℕ) (need n : ℕ) (how : StoreMode)
-    (key key_seen value value_seen : List ℕ) (flags : ℕ) (exptime : ℤ) (quiet : Bool) (q : Request)
-    → record { dialect = d; unread = gone ++ kept; need = need } ≡ i → gone ≡ [] → seen ≡ kept → n ≤ length seen
-    → Spells d (take n seen)
-    (message_by how (record { key = key_seen; flags = flags; exptime = exptime; value = value_seen }) quiet)
-    → Ask q quiet ≡ message_by how (record { key = key; flags = flags; exptime = exptime; value = value }) quiet
-    → key ≡ key_seen → value ≡ value_seen → left ≡ drop n kept
-    → Takes i (Ask q quiet) (record { dialect = d; unread = gone ++ left; need = 1 })
-taken_put i d gone kept left seen need n how key key_seen value value_seen flags exptime quiet q same none seen_is within spells made
-    key_is value_is left_is =
-    let put : List ℕ → List ℕ → Put = λ k v. record { key = k; flags = flags; exptime = exptime; value = v } in
-    let message : Ask q quiet ≡ message_by how (put key_seen value_seen) quiet =
-    made ∙ ap (λ (k : List ℕ). message_by how (put k value) quiet) key_is
-    ∙ ap (λ (v : List ℕ). message_by how (put key_seen v) quiet) value_is in
-    let spelled : Spells d (take n seen) (Ask q quiet) =
-    subst (λ (m : Message). Spells d (take n seen) m) (sym message) spells in
-    taken_out i d gone kept left need n (Ask q quiet) same none
-    (subst (λ (b : List ℕ). n ≤ length b) seen_is within)
-    (subst (λ (b : List ℕ). Spells d (take n b) (Ask q quiet)) seen_is spelled) left_is
+-- What the kept bytes begin with, where none were dropped.
+pub record BeginsKept (d : Dialect) (kept : List ℕ) (m : Message) (n : ℕ) : Type 0 where
+  pub within : n ≤ length kept
+  pub spells : Spells d (take n kept) m
+
+pub begins_kept : (i : InputState) (d : Dialect) (gone kept : List ℕ) (need n : ℕ) (m : Message)
+    → record { dialect = d; unread = gone ++ kept; need = need } ≡ i → gone ≡ [] → Begins i m n → BeginsKept d kept m n
+begins_kept i d gone kept need n m same none h =
+    let found : Begins (record { dialect = d; unread = gone ++ kept; need = need }) m n =
+    subst (λ (j : InputState). Begins j m n) (sym same) h in
+    let unread : gone ++ kept ≡ kept = ap (λ (x : List ℕ). x ++ kept) none in
+    record {
+      within = subst (λ (b : List ℕ). n ≤ length b) unread found.within;
+      spells = subst (λ (b : List ℕ). Spells d (take n b) m) unread found.spells;
+    }
+
+-- The request of a line whose block has this size: its value stands before the last two of the first n bytes, and none were dropped.
+pub record Cut (d : Dialect) (gone kept : List ℕ) (line : OwnedLine) (value : List ℕ) (size n : ℕ) : Type 0 where
+  pub none : gone ≡ []
+  pub begins : BeginsKept d kept (message_by line.mode (put_by line value) line.noreply) n
+  pub fits : size + 2 ≤ n
+  pub cut : drop (n - 2 - size) (take (n - 2) kept) ≡ value
+
+pub cut_by : (i : InputState) (d : Dialect) (gone kept : List ℕ) (need size n : ℕ) (quiet : Bool) (line : OwnedLine)
+    → record { dialect = d; unread = gone ++ kept; need = need } ≡ i → MayDrop d gone kept need quiet → i.need ≤ MAX_KEPT
+    → (h : BeginsBy i line size n) → Cut d gone kept line h.value size n
+cut_by i d gone kept need size n quiet line same may few h =
+    let none = none_gone d gone kept need quiet may (subst (λ (j : InputState). j.need ≤ MAX_KEPT) (sym same) few) in
+    let begins = begins_kept i d gone kept need n (message_by line.mode (put_by line h.value) line.noreply) same none h.begins in
+    let found = data_within d kept line.mode (put_by line h.value) line.noreply n begins.within begins.spells in
+    record {
+      none = none;
+      begins = begins;
+      fits = subst (λ (k : ℕ). k + 2 ≤ n) h.size_is found.0;
+      cut = subst (λ (k : ℕ). drop (n - 2 - k) (take (n - 2) kept) ≡ h.value) h.size_is found.1;
+    }
+
+-- the same, where the request was made of a line with the data that were cut out
+pub taken_put : (i : InputState) (d : Dialect) (gone kept left : List ℕ) (need n : ℕ) (line : OwnedLine) (value cut : List ℕ)
+    (q : Request) → record { dialect = d; unread = gone ++ kept; need = need } ≡ i → gone ≡ []
+    → BeginsKept d kept (message_by line.mode (put_by line value) line.noreply) n
+    → Ask q line.noreply ≡ message_by line.mode (put_by line cut) line.noreply → cut ≡ value → left ≡ drop n kept
+    → Takes i (Ask q line.noreply) (record { dialect = d; unread = gone ++ left; need = 1 })
+taken_put i d gone kept left need n line value cut q same none h made cut_is left_is =
+    let message : Ask q line.noreply ≡ message_by line.mode (put_by line value) line.noreply =
+    made ∙ ap (λ (v : List ℕ). message_by line.mode (put_by line v) line.noreply) cut_is in
+    taken_out i d gone kept left need n (Ask q line.noreply) same none h.within
+    (subst (λ (m : Message). Spells d (take n kept) m) (sym message) h.spells) left_is
 
 -- what is left is read anew
 pub taken_anew : (d : Dialect) (gone kept left : List ℕ) (old count : ℕ) (quiet_then quiet : Bool)

@@ -368,6 +368,38 @@ settles_starved before now after answered s same open_now something only oldest 
       settles = record { oldest = oldest; only_at = only; rest = rest };
     })
 
+-- a session is open no more, if it was
+pub closes_book : (before after : BookState) (session : ℕ) → IsBook before → OnlyAt before after session None
+    → after.greatest ≡ before.greatest → after.unsettled ≡ before.unsettled → IsBook after
+closes_book before after session is only greatest unsettled =
+    let closed = at_session before after session None only in
+    record {
+      asked = λ other s open_now.
+          elim (cases_eq other session) [
+            | inl same ↦ absurd (let none = sym (ap (session_of after) same ∙ closed) ∙ open_now in cc)
+            | inr apart ↦ is.asked other s (sym (at_other before after session other None only apart) ∙ open_now)
+          ];
+      queued = λ other s open_now.
+          elim (cases_eq other session) [
+            | inl same ↦ absurd (let none = sym (ap (session_of after) same ∙ closed) ∙ open_now in cc)
+            | inr apart ↦ is.queued other s (sym (at_other before after session other None only apart) ∙ open_now)
+                ∙ ap (λ (us : List Unsettled). unsettled_in us other) (sym unsettled)
+          ];
+      open_below = λ other above.
+          elim (cases_eq other session) [
+            | inl same ↦ ap (session_of after) same ∙ closed
+            | inr apart ↦ at_other before after session other None only apart
+                ∙ is.open_below other (omega (arith, greatest, above))
+          ];
+      unsettled_below = λ other above.
+          ap (λ (us : List Unsettled). unsettled_in us other) unsettled ∙ is.unsettled_below other (omega (arith, greatest, above));
+    }
+
+pub closed_at : (before after now : BookState) → before ≡ now → (session : ℕ) → OnlyAt before after session None
+    → after ≡ record before { sessions = after.sessions } → ChangesSession now after session None
+closed_at before after now same session only rest =
+    subst (λ (b : BookState). ChangesSession b after session None) same (record { only_at = only; rest = rest })
+
 -- only an open session has changed
 changed : (before after now : BookState) → before ≡ now
     → (session : ℕ) (s t u : SessionState) (Changes : SessionState → SessionState → Type 0)

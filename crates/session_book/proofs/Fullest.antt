@@ -1,5 +1,5 @@
 -- The walk that looks for the session with the most output.
-use Rattle.std.proofs.Common.{ℕ, ◌≡◌, ◌≢◌, ◌+◌, ◌≤◌, ◌<◌, Option, Some, None, List, [], ◌∷◌, ◌++◌, length, ⊎_elim, inl, inr}
+use Rattle.std.proofs.Common.{ℕ, ◌≡◌, ◌⊎◌, ◌+◌, ◌≤◌, ◌<◌, Option, Some, None, List, [], ◌∷◌, ◌++◌, length, ⊎_elim, inl, inr}
 use Rattle.std.proofs.Common.{refl, sym, ap, ◌∙◌, arith}
 use Rattle.std.specs.Prelude.{MatchOption, IfSome, slice_get, min, ◌^◌, ◌-◌}
 use Rattle.std.specs.Bool.{nat_eq}
@@ -11,6 +11,7 @@ use Rattle.std.proofs.lemmas.Map.Entries.{hash_map_get_place}
 use Rattle.indexmap.specs.IndexMap.{IndexMap}
 use Rattle.session_book.specs.Session.{SessionState}
 use Rattle.session_book.specs.Book.{BookState, IsFullest, IsWithinOutput, all_output}
+use Rattle.session_book.specs.declared.book.TheConstants.{MAX_OUTPUT}
 use Rattle.session_book.proofs.Emptied.{HoldsOrIn, holds_or_later, all_hold}
 
 -- no more output than this
@@ -128,20 +129,20 @@ has_all book later (Some n) most others none alone h =
       omega (arith, all_of book later (Some n) most others none h, h.is_found.2, h.counted, alone),
     )
 
--- what was counted is all, as far as a number goes
-pub within : (book : BookState) (later : List (ℕ × SessionState)) (found : Option ℕ) (most others sum : ℕ) → later ≡ []
-    → sum ≡ min (most + others) (2 ^ 64 - 1) → sum ≤ 67108864 → Seeks book.sessions later found most others → IsWithinOutput book
-within book later found most others sum none e few h =
-    inl (omega (arith, all_of book later found most others none h, h.counted, e, few))
+-- what was counted is all, unless it is more than may wait
+pub within : (book : BookState) (later : List (ℕ × SessionState)) (found : Option ℕ) (most others : ℕ) → later ≡ []
+    → (others ≡ 0) ⊎ (most + others ≤ MAX_OUTPUT) → Seeks book.sessions later found most others → IsWithinOutput book
+within book later found most others none (inl alone) h = has_all book later found most others none alone h
+within book later found most others none (inr few) h =
+    inl (omega (arith, all_of book later found most others none h, h.counted, few))
 
-pub beyond : (book : BookState) (later : List (ℕ × SessionState)) (found : Option ℕ) (most others sum : ℕ) → later ≡ []
-    → sum ≡ min (most + others) (2 ^ 64 - 1) → 67108864 < sum → Seeks book.sessions later found most others
-    → 67108864 < all_output book.sessions
-beyond book later found most others sum none e much h =
-    omega (arith, all_of book later found most others none h, h.counted, e, much)
+pub beyond : (book : BookState) (later : List (ℕ × SessionState)) (found : Option ℕ) (most others : ℕ) → later ≡ []
+    → MAX_OUTPUT < most + others → Seeks book.sessions later found most others → MAX_OUTPUT < all_output book.sessions
+beyond book later found most others none much h =
+    omega (arith, all_of book later found most others none h, h.counted, much)
 
 -- if the others have some, one was found
-pub is_found : {P : Type 0} (entries later : List (ℕ × SessionState)) (found : Option ℕ) (most others : ℕ) → others ≢ 0 → found ≡ None
+pub is_found : {P : Type 0} (entries later : List (ℕ × SessionState)) (found : Option ℕ) (most others : ℕ) → 0 < others → found ≡ None
     → Seeks entries later found most others → P
-is_found entries later None most others some none h = absurd (some (omega (arith, h.counted, h.is_found.1)))
+is_found entries later None most others some none h = absurd (omega (arith, some, h.counted, h.is_found.1))
 is_found entries later (Some n) most others some none h = absurd (cc)

@@ -32,6 +32,12 @@ pub none_gone : (d : Dialect) (gone kept : List ℕ) (need : ℕ) (quiet : Bool)
 none_gone d gone kept need quiet (inl h) few = absurd (let l = h.large in omega (arith, l, few))
 none_gone d gone kept need quiet (inr h) few = h.1
 
+-- then all are kept that there are
+pub all_kept : (d : Dialect) (gone kept seen : List ℕ) (need : ℕ) (quiet : Bool) → MayDrop d gone kept need quiet → need ≤ MAX_KEPT
+    → seen ≡ kept → seen ≡ gone ++ kept
+all_kept d gone kept seen need quiet may few seen_is =
+    seen_is ∙ ap (λ (x : List ℕ). x ++ kept) (sym (none_gone d gone kept need quiet may few))
+
 -- either all of the message has gone, or nothing is kept
 all_or_none : (d : Dialect) (gone kept : List ℕ) (need : ℕ) (quiet : Bool) → IsDropping d gone kept need quiet
     → (length gone ≡ need) ⊎ ((length gone < need) × (kept ≡ []))

@@ -18,6 +18,7 @@ use Rattle.session_book.specs.declared.causes.EndCause.{EndCause}
 use Rattle.session_book.specs.declared.session.TheConstants.{MAX_WAITING}
 use Rattle.session_book.specs.Session.{SessionState, messages_left, ended_by, need_after, begins_asked, ReadsMessages}
 use Rattle.session_book.specs.Session.{AskAtLast, Stops, no_message, IsReady, ReadsMessage, TakesNothing, ReadsAsk}
+use Rattle.session_book.specs.Session.{TriesNext, looked, at_rest}
 use Rattle.proto.specs.declared.no_memory.NoMemory.{NoMemory}
 use Rattle.session_book.proofs.Needing.{unfinished_short}
 use Rattle.session_book.proofs.Answering.{said-append, left-append, left_waits, said_waits}
@@ -334,3 +335,32 @@ reads_refused before now after looks looks_now looks_after no_memory h ready one
   none = λ e. absurd cc;
   refused = λ f e. rw same ready;
 }
+
+-- ---- what one try for a message has come to
+
+-- a message was read, so the session was ready
+pub record HasRead (now after : SessionState) (looks_now looks_after : ℕ) (m : Message) : Type 0 where
+  pub ready : IsReady now
+  pub one : looks_after ≤ looks_now + 1
+  pub read : ReadsMessage now m after
+
+pub has_read : (now after : SessionState) (looks_now looks_after : ℕ) (m : Message)
+    → TriesNext now looks_now (Ok (Some m)) after looks_after → HasRead now after looks_now looks_after m
+has_read now after looks_now looks_after m (looked is one read) = record { ready = is; one = one; read = read }
+has_read now after looks_now looks_after m (at_rest stops none same looks) = absurd cc
+
+-- none was
+pub tries_none : (before now after : SessionState) (looks looks_now looks_after : ℕ) → HasReadLocals before looks now looks_now
+    → TriesNext now looks_now (Ok None) after looks_after → ReadsAsk before looks (Ok None) after looks_after
+tries_none before now after looks looks_now looks_after h (looked is one read) =
+    reads_none before now after looks looks_now looks_after h is one read
+tries_none before now after looks looks_now looks_after h (at_rest stops none same looks_same) =
+    rw (same, looks_same) (reads_stops before now looks looks_now h stops)
+
+-- there was no memory for one
+pub tries_refused : (before now after : SessionState) (looks looks_now looks_after : ℕ) (no_memory : NoMemory)
+    → HasReadLocals before looks now looks_now → TriesNext now looks_now (Err no_memory) after looks_after
+    → ReadsAsk before looks (Err no_memory) after looks_after
+tries_refused before now after looks looks_now looks_after no_memory h (looked is one same) =
+    reads_refused before now after looks looks_now looks_after no_memory h is one same
+tries_refused before now after looks looks_now looks_after no_memory h (at_rest stops none same looks_same) = absurd cc

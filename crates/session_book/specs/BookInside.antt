@@ -1,4 +1,8 @@
--- The state that the fields of a `Book` stand for.
+-- The state that the fields of a `Book` stand for, and its table of sessions.
+use Rattle.std.specs.Prelude.{◌≡◌, ℕ, List, Option, ◌==◌, if◌then◌else◌}
+use Rattle.std.specs.Bool.{nat_eq}
+use Rattle.std.specs.Map.{lookup}
+use Rattle.session_book.specs.Session.{SessionState}
 use Rattle.session_book.specs.declared.book.Book.TheInside.{Inside}
 use Rattle.session_book.specs.Book.{BookState, IsBook}
 
@@ -17,3 +21,8 @@ state_of a =
 
 abbrev pub IsBookKept : Inside → Type 0
 IsBookKept a = IsBook (state_of a)
+
+-- only what stands in the table under this number is another session, or none
+abbrev pub ChangesAt : List (ℕ × SessionState) → ℕ → Option SessionState → List (ℕ × SessionState) → Type 0
+ChangesAt before session s after = (other : ℕ)
+    → lookup (nat_eq other) after ≡ (if other == session then s else lookup (nat_eq other) before)

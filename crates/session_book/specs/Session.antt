@@ -190,6 +190,14 @@ ReadsNext before (Ok (Some m)) after = ReadsMessage before m after
 ReadsNext before (Ok None) after = TakesNothing before after
 ReadsNext before (Err e) after = after ≡ before
 
+-- The next message is looked for, and the call of the parser counted, where the session is ready; where it stops, nothing changes.
+pub data TriesNext (before : SessionState) (looks : ℕ) (result : Result (Option Message) NoMemory) (after : SessionState)
+    (looks_after : ℕ) : Type 0 where
+  looked : IsReady before → looks_after ≤ looks + 1 → ReadsNext before result after
+      → TriesNext before looks result after looks_after
+  at_rest : Stops before → result ≡ Ok None → after ≡ before → looks_after ≡ looks
+      → TriesNext before looks result after looks_after
+
 -- Messages of a session are read, none where too much output waits, and looks counts the calls of the parser.
 -- Only the last message may be a request: these are the requests read.
 pub record ReadsUpTo (before : SessionState) (looks : ℕ) (messages : List Message) (requests : List Request)

@@ -82,7 +82,7 @@ impl Model for Session {
 
 impl Session {
     ghost use Rattle.session_book.specs.Session.{new_session, IsInputFull, once_fed, TakesPiece, FeedsHeld};
-    ghost use Rattle.session_book.specs.Session.{ReadsNext, ReadsAsk};
+    ghost use Rattle.session_book.specs.Session.{ReadsNext, TriesNext, ReadsAsk};
     ghost use Rattle.session_book.specs.Session.{with_reply, gave, finished_by, once_input_ended, HasReadAll, IsReady};
     ghost use Rattle.session_book.specs.Session.{IsEmptied, Stops};
 
@@ -178,6 +178,27 @@ impl Session {
         }
     }
 
+    /// Reads the next message if the parser is to be called, and counts that call. With a message, `unsettled` has room for a
+    /// request. NoMemory if out of memory: then the message stays unread.
+    fn next_message(
+        &mut self,
+        unsettled: &mut VecDeque<Unsettled>,
+        looks: &mut u64,
+        upkeep: &mut Upkeep,
+    ) -> Result<Option<Message>, NoMemory>
+        ensures tries { TriesNext self.old looks.old result self.new looks.new }
+        ensures kept { unsettled.new.items ≡ unsettled.old.items }
+        ensures room { (message : Message) → result ≡ Ok (Some message)
+            → deque_len unsettled.new < deque_capacity unsettled.new }
+    {
+        if !self.is_ready() {
+            return Ok(None);
+        }
+        unsettled.reserve(1)?;
+        *looks = looks.saturating_add(1);
+        self.read_message(upkeep)
+    }
+
     /// Reads messages up to and including the next request, and counts the calls of the parser. On Ok, `unsettled` has room
     /// for the request. NoMemory if out of memory: then that message stays unread.
     pub fn next_ask(
@@ -193,12 +214,7 @@ impl Session {
     {
         // This read is for the proof: with it is known that the queue begins with a request.
         let _ = &self.alloc;
-        while self.is_ready() {
-            unsettled.reserve(1)?;
-            *looks = looks.saturating_add(1);
-            let Some(message) = self.read_message(upkeep)? else {
-                return Ok(None);
-            };
+        while let Some(message) = self.next_message(unsettled, looks, upkeep)? {
             if let Message::Ask(request, _) = message {
                 return Ok(Some(request));
             }
@@ -254,7 +270,6 @@ impl Session {
             }
             Err(NoMemory) => {
                 self.queue.clear();
-                self.forget(&mut upkeep.load);
                 Err(NoMemory)
             }
         }
@@ -448,9 +463,23 @@ fn answer_first(
     ensures out { OnOk result (out.new ≡ out.old ++ said queue.old.items (reply.old ∷ [])) }
     ensures silent { said queue.old.items (reply.old ∷ []) ≡ [] → IsOk result }
 {
-    if let Some(pending) = queue.pop_front() {
-        out.show(&pending, Some(reply), upkeep)?;
-    }
+    let Some(pending) = queue.pop_front() else {
+        unreachable!()
+    };
+    out.show(&pending, Some(reply), upkeep)?;
+    answer_up_to_ask(queue, out, upkeep)
+}
+
+/// Answers the messages of the queue up to its first request.
+fn answer_up_to_ask(
+    queue: &mut VecDeque<PendingAnswer>,
+    out: &mut Buffer,
+    upkeep: &mut Upkeep,
+) -> Result<(), NoMemory>
+    ensures queue { OnOk result (queue.new.items ≡ messages_left queue.old.items []) }
+    ensures out { OnOk result (out.new ≡ out.old ++ said queue.old.items []) }
+    ensures silent { said queue.old.items [] ≡ [] → IsOk result }
+{
     while let Some(pending) = queue.front() {
         if pending.is_ask() {
             break;

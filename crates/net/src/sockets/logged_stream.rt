@@ -1,12 +1,12 @@
 //! A stream that knows, for clauses alone, which bytes were read from it and which it took. Its `read` and `write` are proved
 //! for any stream inside, so they can't alter, drop or double a byte of it; no clause says what a socket delivers.
 
-ghost use Rattle.std.specs.Prelude.{◌≡◌, ◌≤◌, ◌<◌, ◌++◌, ◌∷◌, [], true, false, ◌==◌, length, take, IfOk, OnErr};
+ghost use Rattle.std.specs.Prelude.{◌≡◌, ◌≤◌, ◌<◌, ◌++◌, ◌∷◌, [], false, ◌==◌, length, take, IfOk, OnErr};
 ghost use Rattle.std.specs.Prelude.{ℕ, List};
 ghost use Rattle.proto.specs.declared.message.Message.{Message};
 ghost use Rattle.proto.specs.Reading.{Reads, asks};
 ghost use Rattle.exchange.specs.Beginnings.{StartsWith};
-ghost use Rattle.worker_port.specs.Giving.{MayBeSent, sent_for};
+ghost use Rattle.worker_port.specs.Giving.{MayBeSent, by_system_clock, sent_for};
 ghost use Rattle.std.specs.Io.KnownBytes.{ReadConsumes, WriteAppends};
 
 use crate::owner::Owner;
@@ -109,8 +109,8 @@ impl<S: Read + Write + Drop> LoggedStream<S> {
         _history: &ToldHistory,
     ) -> io::Result<usize>
         requires exchange { _history.now.exchange ≡ _exchange.now }
-        requires due { MayBeSent (record { geometry = _owner.geometry; system_clock = true; may_refuse = false })
-            _owner.dialect _owner.worker _history.now.items _session self.old.received.items self.old.sent.items bytes.now }
+        requires due { MayBeSent (by_system_clock _owner.geometry) _owner.dialect _owner.worker _history.now.items _session
+            self.old.received.items self.old.sent.items bytes.now }
         ensures within { IfOk result (λ n. n ≤ length bytes.now) }
         ensures sent { IfOk result (λ n. self.new.sent.items ≡ self.old.sent.items ++ take n bytes.now) }
         ensures failed { OnErr result (self.new.sent.items ≡ self.old.sent.items) }

@@ -1,6 +1,7 @@
 use Rattle.std.proofs.Common.{rules, ℕ, List, length, ap}
+use Rattle.std.proofs.lemmas.Bool.{OnTrue_at, OnFalse_at}
 use Rattle.session_book.specs.Book.{BookState}
-use Rattle.session_book.proofs.Fullest.{seeks_more, seeks_on, sought}
+use Rattle.session_book.proofs.Fullest.{seeks_more, seeks_on, sought, within, beyond, is_found}
 use Rattle.session_book.proofs.book.Book.find_fullest.Goals as goal
 
 pub loop-session-preserved-then-length-most : goal.loop-session-preserved-then-length-most
@@ -19,3 +20,17 @@ loop-session-preserved c = seeks_on c.args.self.now.sessions c.loop-session.sess
 pub returns-clause-fullest : goal.returns-clause-fullest
 returns-clause-fullest c = sought c.args.self.now c.loop-session.session-iterator c.loop-session.fullest c.loop-session.most
     c.loop-session.others (search rules) c.loop-session.invariant
+
+pub returns-then-not-is_too_much-clause-none : goal.returns-then-not-is_too_much-clause-none
+returns-then-not-is_too_much-clause-none c = λ none. within c.args.self.now c.loop-session.session-iterator c.loop-session.fullest
+    c.loop-session.most c.loop-session.others (search rules) (OnFalse_at c.if-not-is_too_much.true c.is_too_much.ensures.few)
+    c.loop-session.invariant
+
+pub returns-clause-above : goal.returns-clause-above
+returns-clause-above c = λ some. beyond c.args.self.now c.loop-session.session-iterator c.loop-session.fullest c.loop-session.most
+    c.loop-session.others (search rules) (OnTrue_at c.if-not-is_too_much.false c.is_too_much.ensures.much) c.loop-session.invariant
+
+pub returns-clause-none : goal.returns-clause-none
+returns-clause-none c = λ none. is_found c.args.self.now.sessions c.loop-session.session-iterator c.loop-session.fullest
+    c.loop-session.most c.loop-session.others (OnTrue_at c.if-not-is_too_much.false c.is_too_much.ensures.some) none
+    c.loop-session.invariant

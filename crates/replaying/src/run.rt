@@ -1,12 +1,12 @@
 //! `segcached replay`.
 
-ghost use Rattle.std.specs.Prelude.{◌≡◌, ℕ, List, IfOk, OnOk, IfSome, map};
+ghost use Rattle.std.specs.Prelude.{◌≡◌, ℕ, List, [], IfOk, OnOk, IfSome, map};
 ghost use Rattle.std.specs.String.{string_bytes};
 ghost use Rattle.std.specs.Io.KnownBytes.{Appends};
 ghost use Rattle.script.specs.Clocks.{clock_at};
 ghost use Rattle.script.specs.Scripts.{AreEventsOf};
 ghost use Rattle.replaying.specs.Printed.{in_hexadecimal, printed_line, printed_lines, lines_from, events_of};
-ghost use Rattle.replaying.specs.Printed.{ArePorts, IsPlayedAt, ArePlayed, IsReplayStore, IsPrinted};
+ghost use Rattle.replaying.specs.Printed.{IsPort, ArePorts, IsPlayedAt, ArePlayed, IsReplayStore, IsPrinted};
 ghost use Rattle.replaying.specs.Replayed.{IsReplayOf};
 
 use crate::fault::Fault;
@@ -24,6 +24,16 @@ use std::thread::Threads;
 use std::time;
 use worker::OpenGate;
 
+/// The events of a script's bytes, by worker.
+fn events_in(alloc: Global, options: &Options, script: &[u8]) -> Result<Vec<WorkerScript>, Fault>
+    ensures { IfOk result (λ scripts. AreEventsOf options.entry.now.workers script.now scripts.items) }
+{
+    match read_script(alloc, script, options.workers as usize) {
+        Ok(scripts) => Ok(scripts),
+        Err(fault) => Err(Fault::Script(fault)),
+    }
+}
+
 /// The events of the script, by worker, and the bytes that its reads gave.
 fn read_events<R: Read + Drop>(
     alloc: Global,
@@ -34,9 +44,7 @@ fn read_events<R: Read + Drop>(
     ensures all { IfOk result (λ r. IfSome (R.remaining script) (λ text. r.1.items ≡ text)) }
 {
     let (bytes, text) = script_bytes(alloc, options, script)?;
-    let scripts = read_script(alloc, bytes.as_slice(), options.workers as usize).map_err(
-        Fault::Script,
-    )?;
+    let scripts = events_in(alloc, options, bytes.as_slice())?;
     Ok((scripts, text))
 }
 
@@ -102,31 +110,50 @@ fn write_lines<W: Write>(
     Ok(())
 }
 
-/// A port of the exchange for the events of each worker, with the faults that the options ask for.
+/// The port of a worker of the exchange for the events of its script, with the faults that the options ask for.
+fn port_of(
+    alloc: Global,
+    options: &Options,
+    geometry: Geometry,
+    exchange: &Exchange,
+    worker: usize,
+    script: WorkerScript,
+) -> ScriptPort
+    ensures { IsPort geometry options.entry.now.dialect exchange.entry.now.id options.entry.now.accept
+        options.entry.now.fail_give worker script result }
+{
+    let name = exchange.name();
+    let events = script.into_events();
+    let port = ScriptPort::new(alloc, geometry, options.dialect, worker, name, events);
+    port.with_faults(options.accept as usize, options.fail_give)
+}
+
+/// A port of the exchange for the events of each worker.
 fn ports_of(
     alloc: Global,
     options: &Options,
     geometry: Geometry,
     exchange: &Exchange,
     scripts: Vec<WorkerScript>,
-) -> Result<Vec<ScriptPort>, Fault>
+) -> Result<Vec<ScriptPort>, AllocError>
     ensures { IfOk result (λ ports. ArePorts geometry options.entry.now.dialect exchange.entry.now.id
         options.entry.now.accept options.entry.now.fail_give scripts.items ports.items) }
 {
     let mut ports = Vec::with_capacity(alloc, scripts.len())?;
     for script in scripts {
         let worker = ports.len();
-        let port = ScriptPort::new(
-            alloc,
-            geometry,
-            options.dialect,
-            worker,
-            exchange.name(),
-            script.into_events(),
-        );
-        ports.push(port.with_faults(options.accept as usize, options.fail_give))?;
+        let port = port_of(alloc, options, geometry, exchange, worker, script);
+        ports.push_reserved(port);
     }
     Ok(ports)
+}
+
+/// The clock that the options ask for. It gave no answer yet.
+fn clock_of(options: &Options) -> RecordingClock
+    ensures clock { result.clock ≡ clock_at options.entry.now.now options.entry.now.tick }
+    ensures answers { result.answers.items ≡ [] }
+{
+    RecordingClock::new(ScriptClock::new(options.now, options.tick))
 }
 
 /// A new store, as the options say.
@@ -182,7 +209,7 @@ pub fn replay<H: Threads + Wait + time::Clock + Sync, R: Read + Drop, W: Write>(
     };
     let exchange = Exchange::new(alloc, scripts.len(), config.terms)?;
     let ports = ports_of(alloc, options, geometry, &exchange, scripts)?;
-    let clock = RecordingClock::new(ScriptClock::new(options.now, options.tick));
+    let clock = clock_of(options);
     let store = new_store(alloc, options, geometry)?;
     let report = run_group(rt, alloc, ports, exchange, config, store, clock, &OpenGate)?;
     write_lines(alloc, out, report.workers.as_slice())?;

@@ -34,11 +34,11 @@ returns-clause-ran g c =
         ports_are = c.in_ok-ports.ensures;
         store = c.in_ok-store.store;
         store_is = c.in_ok-store.ensures;
-        told = c.new-clock.result;
-        told_is = (c.new-clock.ensures.clock ∙ c.new-2.ensures, c.new-clock.ensures.answers);
+        told = c.clock_of-clock.result;
+        told_is = (c.clock_of-clock.ensures.clock, c.clock_of-clock.ensures.answers);
         report = c.in_ok-report.report;
         run = keeping_run trace_told PlaysOn
-            (λ (k : RecordingClock). Some k.answers.items) GivesAnswers _ _ _ c.args.geometry c.in_ok-ports.ports.items c.new-clock.result
+            (λ (k : RecordingClock). Some k.answers.items) GivesAnswers _ _ _ c.args.geometry c.in_ok-ports.ports.items c.clock_of-clock.result
             c.in_ok-report.report
             c.in_ok-report.ensures.run c.in_ok-store.ensures.new.sizes_are c.in_ok-store.ensures.new.keeps;
         printed_is = refl;
@@ -52,10 +52,10 @@ returns-clause-printed g c =
       lines_from 0 (map events_of c.in_ok-report.report.workers.items),
       replayed c.args.geometry c.args.options.now.dialect _ c.args.options.now.workers c.args.options.now.accept c.args.options.now.fail_give
           c.in_ok-scripts.text.items c.in_ok-scripts.scripts.items c.in_ok-scripts.ensures.events
-          c.in_ok-exchange.exchange.id c.in_ok-ports.ports.items c.in_ok-ports.ensures c.new-clock.result
-          (c.new-clock.ensures.clock ∙ c.new-2.ensures) c.new-clock.ensures.answers c.in_ok-report.report
+          c.in_ok-exchange.exchange.id c.in_ok-ports.ports.items c.in_ok-ports.ensures c.clock_of-clock.result
+          c.clock_of-clock.ensures.clock c.clock_of-clock.ensures.answers c.in_ok-report.report
           (keeping_run trace_told PlaysOn
-          (λ (k : RecordingClock). Some k.answers.items) GivesAnswers _ _ _ c.args.geometry c.in_ok-ports.ports.items c.new-clock.result
+          (λ (k : RecordingClock). Some k.answers.items) GivesAnswers _ _ _ c.args.geometry c.in_ok-ports.ports.items c.clock_of-clock.result
           c.in_ok-report.report
           c.in_ok-report.ensures.run c.in_ok-store.ensures.new.sizes_are c.in_ok-store.ensures.new.keeps)
           all.1,

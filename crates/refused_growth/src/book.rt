@@ -15,22 +15,20 @@ enum Course {
     Starved,
 }
 
-fn open(book: &mut Book) -> Option<()> {
+/// Opens the session and feeds it, again if out of memory.
+fn begin(book: &mut Book) -> Option<()> {
     match book.open(1) {
-        Ok(()) => Some(()),
-        Err(OpenFault::NoMemory) => book.open(1).ok(),
-        Err(OpenFault::Known) => None,
+        Ok(()) => {}
+        Err(OpenFault::NoMemory) => book.open(1).ok()?,
+        Err(OpenFault::Known) => return None,
     }
-}
-
-fn feed(book: &mut Book) -> Option<()> {
-    match book.receive(1, Bytes::from_static(INPUT)) {
+    let received = match book.receive(1, Bytes::from_static(INPUT)) {
+        Received::Refused => book.receive(1, Bytes::from_static(INPUT)),
+        received => received,
+    };
+    match received {
         Received::Fed => Some(()),
-        Received::Refused => match book.receive(1, Bytes::from_static(INPUT)) {
-            Received::Fed => Some(()),
-            _ => None,
-        },
-        Received::Held | Received::Unknown => None,
+        _ => None,
     }
 }
 
@@ -42,20 +40,18 @@ fn next_ask(book: &mut Book) -> Result<Option<(Request, u64)>, NoMemory> {
     }
 }
 
-/// Settles the next request with this reply.
+/// Settles the next request with this reply. None if there is none, or no memory for it.
 fn answer_next(book: &mut Book, reply: Reply) -> Option<Settled> {
-    match next_ask(book) {
-        Ok(Some((request, number))) => Some(book.settle(Answered {
-            worker: 0,
-            session: 1,
-            number,
-            request,
-            moment: 1000,
-            clock: ClockAnswers::none(),
-            reply,
-        })),
-        _ => None,
-    }
+    let (request, number) = next_ask(book).ok()??;
+    Some(book.settle(Answered {
+        worker: 0,
+        session: 1,
+        number,
+        request,
+        moment: 1000,
+        clock: ClockAnswers::none(),
+        reply,
+    }))
 }
 
 /// Settles both requests, or the first one alone if it isn't kept.
@@ -85,8 +81,7 @@ fn finish(book: &mut Book) -> Option<Course> {
 }
 
 fn play(book: &mut Book) -> Option<Course> {
-    open(book)?;
-    feed(book)?;
+    begin(book)?;
     match answer_both(book)? {
         Settled::Kept => finish(book),
         Settled::Starved if book.out(1).is_empty() => Some(Course::Starved),
@@ -94,15 +89,13 @@ fn play(book: &mut Book) -> Option<Course> {
     }
 }
 
-fn run(alloc: Global) -> Option<Course> {
-    let mut book = Book::new(alloc, 0, Dialect::Strict);
-    play(&mut book)
-}
-
 /// A session is answered, or it is closed because memory ran out and the next one is answered.
 pub fn is_repeatable(alloc: Global) -> bool {
     for _ in 0..2 {
-        match run(alloc) {
+        let mut book = Book::new(alloc, 0, Dialect::Strict);
+        let course = play(&mut book);
+        drop(book);
+        match course {
             Some(Course::Answered) => return true,
             Some(Course::Starved) => {}
             None => return false,

@@ -1,9 +1,9 @@
-//! A store is made after a refusal. Where memory is refused, it keeps its entries, its cas counter, its pending flush and
-//! its moment, and executes the request when it is asked again.
+//! A store is made after a refusal. Where memory is refused, it keeps its entries, its cas counter, its pending flush
+//! and its moment, and executes the request when it is asked again.
 
-use crate::protocol::read_request;
+use crate::protocol::{is_shown, read_request};
 use engine::StorageEngine;
-use proto::{Geometry, Message, Reply, Request, show};
+use proto::{Geometry, Message, Reply, Request};
 use segcache::Store;
 use std::alloc::Global;
 
@@ -45,6 +45,7 @@ fn make(alloc: Global, geometry: Geometry) -> Option<Store> {
     None
 }
 
+/// The store's reply, if the moment isn't before its last one.
 fn handle(store: &mut Store, now: u64, request: &mut Request) -> Option<Reply> {
     if store.last_moment() > now || now > LAST_MOMENT {
         return None;
@@ -52,33 +53,30 @@ fn handle(store: &mut Store, now: u64, request: &mut Request) -> Option<Reply> {
     Some(store.handle(now, request))
 }
 
-/// The answer; None if out of memory.
-fn shown(alloc: Global, request: Request, reply: &Reply) -> Option<Vec<u8>> {
-    let mut out = Vec::new(alloc);
+/// Appends what stands in the store, and says whether there was memory for it.
+fn push_once(alloc: Global, store: &mut Store, now: u64, out: &mut Vec<u8>) -> bool {
+    let Some(mut request) = read_request(alloc, ALL) else {
+        return false;
+    };
+    let reply = handle(store, now, &mut request);
     let message = Message::Ask(request, false);
-    match show(&message, Some(reply), &mut out) {
-        Ok(()) => Some(out),
-        Err(_) => None,
-    }
+    let is_pushed = match &reply {
+        None | Some(Reply::NoMemory) => false,
+        Some(reply) => is_shown(&message, reply, out),
+    };
+    drop(message);
+    drop(reply);
+    is_pushed
 }
 
-/// What stands in the store; None inside if out of memory.
-fn entries_once(alloc: Global, store: &mut Store, now: u64) -> Option<Option<Vec<u8>>> {
-    let mut request = read_request(alloc, ALL)?;
-    match handle(store, now, &mut request)? {
-        Reply::NoMemory => Some(None),
-        reply => Some(shown(alloc, request, &reply)),
-    }
-}
-
-/// What stands in the store, if it is shown at the first, the second or the third try.
-fn entries(alloc: Global, store: &mut Store, now: u64) -> Option<Vec<u8>> {
+/// Appends what stands in the store, and says whether it is shown at the first, the second or the third try.
+fn push_entries(alloc: Global, store: &mut Store, now: u64, out: &mut Vec<u8>) -> bool {
     for _ in 0..3 {
-        if let Some(out) = entries_once(alloc, store, now)? {
-            return Some(out);
+        if push_once(alloc, store, now, out) {
+            return true;
         }
     }
-    None
+    false
 }
 
 /// Whether the store has these entries, this flush to come and this moment.
@@ -89,12 +87,11 @@ fn is_kept(
     before: &[u8],
     pending: Option<u64>,
 ) -> bool {
-    let Some(after) = entries(alloc, store, now) else {
-        return false;
-    };
+    let mut after = Vec::new(alloc);
+    let is_shown = push_entries(alloc, store, now, &mut after);
     let is_same = after.as_slice() == before;
     drop(after);
-    is_same && store.pending() == pending && store.last_moment() == now
+    is_shown && is_same && store.pending() == pending && store.last_moment() == now
 }
 
 /// The reply, if the request is executed at the first try, or at the second one while the store is kept.
@@ -116,45 +113,53 @@ fn handled(
     handle(store, now, request)
 }
 
-/// The reply, if the request is executed at the first or the second try, and a refusal changes
-/// nothing.
+/// The reply, if the request is executed at the first or the second try, and a refusal changes nothing.
 fn reply_to(alloc: Global, store: &mut Store, now: u64, request: &mut Request) -> Option<Reply> {
-    let before = entries(alloc, store, now)?;
-    handled(alloc, store, now, request, before.as_slice())
+    let mut before = Vec::new(alloc);
+    let reply = if push_entries(alloc, store, now, &mut before) {
+        handled(alloc, store, now, request, before.as_slice())
+    } else {
+        None
+    };
+    drop(before);
+    reply
 }
 
-/// The answer, if it is shown at the first or the second try.
-fn shown_again(alloc: Global, request: Request, reply: &Reply) -> Vec<u8> {
-    let mut out = Vec::new(alloc);
+/// Appends the answer, and says whether the request was read, executed and shown.
+fn push_answer(
+    alloc: Global,
+    store: &mut Store,
+    now: u64,
+    input: &[u8],
+    out: &mut Vec<u8>,
+) -> bool {
+    let Some(mut request) = read_request(alloc, input) else {
+        return false;
+    };
+    let reply = reply_to(alloc, store, now, &mut request);
     let message = Message::Ask(request, false);
-    for _ in 0..2 {
-        if show(&message, Some(reply), &mut out).is_ok() {
-            break;
-        }
-    }
-    out
-}
-
-fn answer(alloc: Global, store: &mut Store, now: u64, input: &[u8]) -> Option<Vec<u8>> {
-    let mut request = read_request(alloc, input)?;
-    let reply = reply_to(alloc, store, now, &mut request)?;
-    Some(shown_again(alloc, request, &reply))
+    let is_pushed = match &reply {
+        None => false,
+        Some(reply) => is_shown(&message, reply, out),
+    };
+    drop(message);
+    drop(reply);
+    is_pushed
 }
 
 /// Writes the answer, and says whether it was given.
 fn is_answered<R: Print + AllocGlobal>(rt: &R, store: &mut Store, now: u64, input: &[u8]) -> bool {
-    let Some(out) = answer(rt.alloc(), store, now, input) else {
-        return false;
-    };
+    let mut out = Vec::new(rt.alloc());
+    let is_given = push_answer(rt.alloc(), store, now, input, &mut out);
     match str::from_utf8(out.as_slice()) {
-        Ok(text) => rt.print(text).is_ok(),
+        Ok(text) => rt.print(text).is_ok() && is_given,
         Err(_) => false,
     }
 }
 
-fn are_answered<R: Print + AllocGlobal>(rt: &R, store: &mut Store, inputs: &[&[u8]]) -> bool {
+fn are_answered<R: Print + AllocGlobal>(rt: &R, store: &mut Store) -> bool {
     let mut now = 1000;
-    for input in inputs {
+    for input in &INPUTS {
         if !is_answered(rt, store, now, input) {
             return false;
         }
@@ -171,7 +176,7 @@ pub fn is_repeatable<R: Print + AllocGlobal>(rt: &R) -> bool {
         return false;
     };
     match make(rt.alloc(), geometry) {
-        Some(mut store) => are_answered(rt, &mut store, &INPUTS),
+        Some(mut store) => are_answered(rt, &mut store),
         None => false,
     }
 }

@@ -6,7 +6,7 @@ use std::sync::atomic::{AtomicU64, Ordering};
 /// How often the ports and the clock of a run were asked.
 #[derive(Drop)]
 pub struct Counters {
-    events: AtomicU64,
+    pub events: AtomicU64,
     moments: AtomicU64,
 }
 
@@ -16,11 +16,6 @@ impl Counters {
             events: AtomicU64::new(0),
             moments: AtomicU64::new(0),
         }
-    }
-
-    /// Counts that a port was asked for an event.
-    pub fn count_event(&self) {
-        self.events.fetch_add(1, Ordering::SeqCst);
     }
 
     /// Whether no event was taken and no moment asked.

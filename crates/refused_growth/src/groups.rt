@@ -1,5 +1,9 @@
 //! Two workers and storage serve two sessions each, where one growth is refused.
 
+ghost use Rattle.std.specs.Prelude.{◌≡◌};
+ghost use Rattle.proto.specs.Cache.{empty_cache};
+ghost use Rattle.segcache.specs.StoreState.{sizes_in, segmented_cache, last_moment};
+
 use crate::counters::{Counters, SteadyClock};
 use crate::quiet_port::QuietPort;
 use crate::served::{Outcome, Session, outcome_of};
@@ -44,40 +48,48 @@ const SESSIONS: [[Session; 2]; 2] = [
 /// What a session is given whose requests find nothing.
 const MISSES: &[u8] = b"END\r\nNOT_FOUND\r\n";
 
-fn port<'a>(counters: &'a Counters, sessions: &[Session; 2]) -> QuietPort<'a> {
-    QuietPort::new(counters, [sessions[0].input, sessions[1].input])
-}
-
 /// A port for each worker, at the second try if the first was refused.
 fn ports(alloc: Global, counters: &Counters) -> Option<Vec<QuietPort<'_>>> {
+    let port = |sessions: &[Session; 2]| {
+        QuietPort::new(counters, [sessions[0].input, sessions[1].input])
+    };
     for _ in 0..2 {
-        let ports = vec![in alloc; port(counters, &SESSIONS[0]), port(counters, &SESSIONS[1])];
-        if let Ok(ports) = ports {
+        if let Ok(ports) = vec![in alloc; port(&SESSIONS[0]), port(&SESSIONS[1])] {
             return Some(ports);
         }
     }
     None
 }
 
-fn judged(report: &GroupReport<QuietPort<'_>, SteadyClock<'_>>) -> Outcome {
-    match report.workers.as_slice() {
-        [first, second] => outcome_of(first, &SESSIONS[0]).and(outcome_of(second, &SESSIONS[1])),
-        _ => Outcome::Wrong,
+/// What a run came to. A fault is allowed before anything was taken or executed.
+fn judged(
+    ran: Result<GroupReport<QuietPort<'_>, SteadyClock<'_>>, GroupFault>,
+    counters: &Counters,
+) -> Outcome {
+    match ran {
+        Ok(report) => match report.workers.as_slice() {
+            [first, second] => {
+                outcome_of(first, &SESSIONS[0]).and(outcome_of(second, &SESSIONS[1]))
+            }
+            _ => Outcome::Wrong,
+        },
+        Err(GroupFault::NoMemory | GroupFault::NoThread) if counters.are_zero() => Outcome::Allowed,
+        Err(_) => Outcome::Wrong,
     }
 }
 
-/// Runs a group over these ports. A fault is allowed before anything was taken or executed.
+/// Runs a group over these ports.
 fn run_over<'a, R: Threads + Wait + time::Clock + Sync>(
     rt: &R,
     alloc: Global,
-    geometry: Geometry,
     counters: &'a Counters,
     ports: Vec<QuietPort<'a>>,
-) -> Outcome {
-    let clock = SteadyClock { counters };
-    let Ok(store) = Store::new(alloc, geometry) else {
-        return Outcome::Allowed;
-    };
+    geometry: Geometry,
+    store: Store,
+) -> Outcome
+    requires empty { (segmented_cache store ≡ empty_cache 0) × (last_moment store ≡ 0) }
+    requires sizes { sizes_in store ≡ geometry }
+{
     let config = Config {
         terms: Terms {
             geometry,
@@ -87,28 +99,40 @@ fn run_over<'a, R: Threads + Wait + time::Clock + Sync>(
         dialect: Dialect::Strict,
         spin: None,
     };
-    let exchange = match Exchange::new(alloc, ports.len(), config.terms) {
-        Ok(exchange) => exchange,
-        Err(MakeFault::NoMemory) => return Outcome::Allowed,
-        Err(MakeFault::BadCount) => return Outcome::Wrong,
-    };
-    match run_group(rt, alloc, ports, exchange, config, store, clock, &OpenGate) {
-        Ok(report) => judged(&report),
-        Err(GroupFault::NoMemory | GroupFault::NoThread) if counters.are_zero() => Outcome::Allowed,
-        Err(_) => Outcome::Wrong,
+    match Exchange::new(alloc, ports.len(), config.terms) {
+        Ok(exchange) => {
+            let clock = SteadyClock { counters };
+            let ran = run_group(rt, alloc, ports, exchange, config, store, clock, &OpenGate);
+            judged(ran, counters)
+        }
+        Err(MakeFault::NoMemory) => Outcome::Allowed,
+        Err(MakeFault::BadCount) => Outcome::Wrong,
     }
 }
 
 /// Two workers serve their sessions over a new store of 64 segments.
-fn run<R: Threads + Wait + time::Clock + Sync>(rt: &R, alloc: Global) -> Outcome {
+fn run_counted<R: Threads + Wait + time::Clock + Sync>(
+    rt: &R,
+    alloc: Global,
+    counters: &Counters,
+) -> Outcome {
     let Ok(geometry) = Geometry::new(65_536, 64) else {
         return Outcome::Wrong;
     };
-    let counters = Counters::new();
-    let Some(ports) = ports(alloc, &counters) else {
+    let Some(ports) = ports(alloc, counters) else {
         return Outcome::Wrong;
     };
-    run_over(rt, alloc, geometry, &counters, ports)
+    match Store::new(alloc, geometry) {
+        Ok(store) => run_over(rt, alloc, counters, ports, geometry, store),
+        Err(_) => Outcome::Allowed,
+    }
+}
+
+fn run<R: Threads + Wait + time::Clock + Sync>(rt: &R, alloc: Global) -> Outcome {
+    let counters = Counters::new();
+    let outcome = run_counted(rt, alloc, &counters);
+    drop(counters);
+    outcome
 }
 
 /// Whether each of two runs comes to what a refusal allows, and one of them, as no more than one of them meets the

@@ -21,32 +21,25 @@ const INPUTS: [&[u8]; 8] = [
     b"stats\r\n",
 ];
 
-/// The message, if it is read at the first or the second try.
-fn read(alloc: Global, input: &[u8]) -> Option<Message> {
+/// The request, if it is read at the first or the second try.
+pub fn read_request(alloc: Global, input: &[u8]) -> Option<Request> {
     for _ in 0..2 {
-        if let Ok(Next::Found(message, _)) = next_message_in(alloc, Dialect::Lenient, input) {
-            return Some(message);
+        let next = next_message_in(alloc, Dialect::Lenient, input);
+        if let Ok(Next::Found(Message::Ask(request, _), _)) = next {
+            return Some(request);
         }
     }
     None
 }
 
-/// The request, if it is read so.
-pub fn read_request(alloc: Global, input: &[u8]) -> Option<Request> {
-    match read(alloc, input) {
-        Some(Message::Ask(request, _)) => Some(request),
-        _ => None,
-    }
-}
-
 /// Whether the answer is appended at the first or the second try, and a refusal leaves what was there.
-fn is_shown(message: &Message, out: &mut Vec<u8>) -> bool
+pub fn is_shown(message: &Message, reply: &Reply, out: &mut Vec<u8>) -> bool
     requires { is_ask message.now ≡ true }
 {
     for _ in 0..2 {
         let before = out.len();
-        if show(message, Some(&Reply::Stored), out).is_ok() {
-            return out.as_slice().ends_with(b"STORED\r\n");
+        if show(message, Some(reply), out).is_ok() {
+            return true;
         }
         if out.len() != before {
             return false;
@@ -56,13 +49,13 @@ fn is_shown(message: &Message, out: &mut Vec<u8>) -> bool
 }
 
 fn check_input(alloc: Global, input: &[u8]) -> bool {
-    match read(alloc, input) {
-        Some(Message::Ask(request, quiet)) => {
-            let mut out = Vec::new(alloc);
-            is_shown(&Message::Ask(request, quiet), &mut out)
-        }
-        _ => false,
-    }
+    let Some(request) = read_request(alloc, input) else {
+        return false;
+    };
+    let message = Message::Ask(request, false);
+    let mut out = Vec::new(alloc);
+    let is_shown = is_shown(&message, &Reply::Stored, &mut out);
+    is_shown && out.as_slice().ends_with(b"STORED\r\n")
 }
 
 /// The lines of a `stats` before any request; None if out of memory.

@@ -3,6 +3,7 @@
 use crate::counters::Counters;
 use bytes::Bytes;
 use exchange::WorkerBatch;
+use std::sync::atomic::Ordering;
 use worker_port::{Gone, Port, PortEvent, ToldHistory};
 
 /// The most bytes that are kept of a session's output.
@@ -13,7 +14,7 @@ const ROOM: usize = 64;
 pub struct Output {
     bytes: [u8; ROOM],
     length: usize,
-    is_shut: bool,
+    pub is_shut: bool,
 }
 
 impl Output {
@@ -32,10 +33,6 @@ impl Output {
                 self.length += 1;
             }
         }
-    }
-
-    pub fn is_shut(&self) -> bool {
-        self.is_shut
     }
 
     pub fn bytes(&self) -> &[u8] {
@@ -85,7 +82,7 @@ impl Port for QuietPort<'_> {
     ghost leads_to = { λ _ _. Unit {0} };
 
     fn next(&mut self, _may_wait: bool, _sender: &WorkerBatch) -> PortEvent {
-        self.counters.count_event();
+        self.counters.events.fetch_add(1, Ordering::SeqCst);
         self.step = self.step.saturating_add(1);
         match self.step {
             1 => PortEvent::Opened(1),

@@ -34,23 +34,17 @@ pub struct Session {
 }
 
 impl Session {
-    /// Whether one of its outputs begins with this one.
-    fn has_beginning(&self, output: &[u8]) -> bool {
-        self.whole.starts_with(output) || self.refused.starts_with(output)
-    }
-
     /// It has one of its outputs, or the beginning of one if it was shut.
     fn outcome(&self, given: &Output) -> Outcome {
         let output = given.bytes();
-        if given.is_shut() {
-            if self.has_beginning(output) {
-                return Outcome::Allowed;
-            }
-            return Outcome::Wrong;
-        }
-        if self.whole == output {
+        let is_allowed = if given.is_shut {
+            self.whole.starts_with(output) || self.refused.starts_with(output)
+        } else {
+            self.refused == output
+        };
+        if self.whole == output && !given.is_shut {
             Outcome::Whole
-        } else if self.refused == output {
+        } else if is_allowed {
             Outcome::Allowed
         } else {
             Outcome::Wrong
@@ -61,7 +55,7 @@ impl Session {
 /// What the sessions of a worker come to. One that is counted as unopened was shut.
 pub fn outcome_of(worker: &GroupWorker<QuietPort<'_>>, sessions: &[Session; 2]) -> Outcome {
     let port = &worker.port;
-    let shut = u64::from(port.first.is_shut()) + u64::from(port.second.is_shut());
+    let shut = u64::from(port.first.is_shut) + u64::from(port.second.is_shut);
     if worker.unopened > shut || worker.strangers != 0 {
         return Outcome::Wrong;
     }

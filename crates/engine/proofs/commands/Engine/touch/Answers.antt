@@ -54,7 +54,12 @@ returns-in-Ok g c =
     let made = c.dated-dated.ensures in
     let w : Entry = entry_of c.dated-dated.result in
     let same : w ≡ asking e asked =
-    (λ i. record { value = (made.value ∙ value) i; flags = made.flags i; deadline = made.deadline i; cas = made.cas i }) in
+    (λ i. record {
+      value = (made.value ∙ value) i;
+      flags = made.flags i;
+      deadline = made.deadline i;
+      cas = made.cas i;
+    }) in
     let new = record old { map = c.write.new.self; scratch = c.put.new.self } in
     subst (λ (k : List ℕ). Leaves m as_touched old new
     (touch (map.get (m.entries old.map) k) (cache_in m.entries old) (m.moment old.map) k exptime) Touched) c.as_slice-key.ensures

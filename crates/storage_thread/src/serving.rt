@@ -112,9 +112,7 @@ fn handle<S: StorageEngine, C: Clock, R: time::Clock>(
 {
     let evictions = store.evictions();
     let reply = store.handle(moment, request);
-    if store.evictions() != evictions {
-        source.note_eviction(clock.at());
-    }
+    source.note_evictions(clock.at(), evictions, store.evictions());
     reply
 }
 

@@ -37,11 +37,13 @@ impl<'a, R: Clock> StatsSource<'a, R> {
         }
     }
 
-    /// Room was made by a request for which the clock was read then.
-    pub fn note_eviction(&self, since: Option<Instant>) {
-        self.signals
-            .storage_gauges()
-            .raise_micros(Gauge::MergeLongest, self.passed(since));
+    /// If room was made more often than before, it was by a request for which the clock was read then.
+    pub fn note_evictions(&self, since: Option<Instant>, before: u64, now: u64) {
+        if now != before {
+            self.signals
+                .storage_gauges()
+                .raise_micros(Gauge::MergeLongest, self.passed(since));
+        }
     }
 
     // Sets the gauges, this long after the thread began.

@@ -164,7 +164,7 @@ inline take_next() {                               /* storage_thread/serving.rt:
 
 inline execute() {                                 /* storage_thread/serving.rt: execute */
   assert(untold < EIGHTH);
-  if                                               /* exchange/storage.rt: answer_later */
+  if                                               /* exchange/storage.rt: flush_others */
   :: waiting && waiting_lane != lane -> flush_answers()
   :: else
   fi;

@@ -297,10 +297,10 @@ pub fn run_worker<P: Port, G: Gate, R: Wait + Clock>(
     for _ in rt.forever() {
         if take_turn(rt, &mut worker, &mut pauses, gate, storage) {
             pauses.reset(parking);
+            tell_changes(&worker, &mut pauses, storage);
         } else if has_drained(&mut worker) {
             return leave(worker, storage);
         } else {
-            tell_changes(&worker, &mut pauses, storage);
             pauses.turn(rt, worker.state.batch.outstanding() > 0, parking);
         }
     }

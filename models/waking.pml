@@ -351,7 +351,7 @@ proctype worker(byte me) {                         /* worker/run.rt: run_worker 
   do
   :: OWN {                                         /* worker/run.rt: take_turn */
        take_events();
-       if :: !moved -> ask_sessions() :: moved fi;
+       ask_sessions();
        moved = (moved || put > 0)
      };
      flush();

@@ -17,8 +17,6 @@ pub(crate) struct Pauses<'a> {
     backoff: Backoff,
     /// Whether it spins for a time.
     is_timed: bool,
-    /// Whether something was done since the worker left what a `stats` tells of it.
-    pub(crate) is_untold: bool,
     /// How long the worker waited, for answers or in its port.
     pub(crate) waits: Waits<'a>,
 }
@@ -30,7 +28,6 @@ impl<'a> Pauses<'a> {
             idle: IdleTurns::new(IDLE_TURNS, spin),
             backoff: Backoff::new(),
             is_timed: spin.is_some(),
-            is_untold: false,
             waits,
         }
     }

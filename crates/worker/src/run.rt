@@ -46,28 +46,14 @@ pub struct WorkerReport<P> {
     pub strangers: u64,
 }
 
-/// Leaves what is told of the worker in a `stats`, if something was done since it was left last.
-fn tell_changes<P: Port>(worker: &Worker<P>, pauses: &mut Pauses, storage: &StorageSignals) {
-    if pauses.is_untold {
-        worker.tell(storage);
-        pauses.is_untold = false;
-    }
-}
-
-/// Takes one event. The time for which the port may wait isn't busy, and before it all is told. True if there was one.
-fn take_event<P: Port, R: Clock>(
-    rt: &R,
-    worker: &mut Worker<P>,
-    pauses: &mut Pauses,
-    storage: &StorageSignals,
-) -> bool
+/// Takes one event. The time for which the port may wait isn't busy. True if there was one.
+fn take_event<P: Port, R: Clock>(rt: &R, worker: &mut Worker<P>, pauses: &mut Pauses) -> bool
     ensures { Continues P.told P.leads_to worker.old worker.new }
 {
     let may_wait = worker.may_wait();
     if !may_wait {
         return worker.take_event(may_wait);
     }
-    tell_changes(worker, pauses, storage);
     pauses.waits.begin(rt);
     let came = worker.take_event(may_wait);
     pauses.waits.end(rt);
@@ -88,11 +74,10 @@ fn take_events<P: Port, G: Gate, R: Clock>(
 {
     let mut moved = false;
     for taken in 1..=EVENTS_A_TURN {
-        if !take_event(rt, worker, pauses, storage) {
+        if !take_event(rt, worker, pauses) {
             break;
         }
         moved = true;
-        pauses.is_untold = true;
         ask_sessions(worker, gate, storage);
         if worker.state.book.ready(Task::Ask) > 0 {
             worker.flush(storage);
@@ -207,8 +192,7 @@ fn limit_output<P: Port>(worker: &mut Worker<P>) -> bool
 }
 
 /// One turn. True if something was done. It puts the held request, then what has come and what fits by now. Storage knows of
-/// all of it before the answers are looked for, so nothing is kept back while the worker waits. Before it does, it finds what is
-/// told of the worker.
+/// all of it before the answers are looked for, so nothing is kept back while the worker waits.
 fn take_turn<P: Port, G: Gate, R: Clock>(
     rt: &R,
     worker: &mut Worker<P>,
@@ -221,26 +205,13 @@ fn take_turn<P: Port, G: Gate, R: Clock>(
     let held = worker.put_held(gate, storage);
     let came = take_events(rt, worker, pauses, gate, storage);
     let fed = feed_pieces(worker);
-    // (the sessions were asked after the last event that came)
-    let asked = (fed || !came) && ask_sessions(worker, gate, storage);
-    pauses.is_untold |= held || fed || asked;
-    if worker.flush(storage) {
-        pauses.is_untold = false;
-    }
-    let answered = answer_sessions(worker, gate);
-    pauses.is_untold |= answered;
-    held || came || fed || asked || answered
-}
-
-/// Takes the answers, and gives output. True if something was done.
-fn answer_sessions<P: Port, G: Gate>(worker: &mut Worker<P>, gate: &G) -> bool
-    ensures { Continues P.told P.leads_to worker.old worker.new }
-{
+    let asked = ask_sessions(worker, gate, storage);
+    worker.flush(storage);
     let settled = settle_answers(worker, gate);
     let given = give_output(worker, Task::Give, usize::MAX);
     let given_slowly = give_output(worker, Task::RetryWrite, SLOW_A_TURN);
     let shut = limit_output(worker);
-    settled || given || given_slowly || shut
+    held || came || fed || asked || settled || given || given_slowly || shut
 }
 
 /// Whether all is done: the port has ended, nothing is held or outstanding, and no open session has input or output left. One
@@ -297,7 +268,7 @@ pub fn run_worker<P: Port, G: Gate, R: Wait + Clock>(
     for _ in rt.forever() {
         if take_turn(rt, &mut worker, &mut pauses, gate, storage) {
             pauses.reset(parking);
-            tell_changes(&worker, &mut pauses, storage);
+            worker.tell(storage);
         } else if has_drained(&mut worker) {
             return leave(worker, storage);
         } else {
@@ -307,7 +278,7 @@ pub fn run_worker<P: Port, G: Gate, R: Wait + Clock>(
     unreachable!()
 }
 
-/// Says bye, and leaves the report. A `stats` finds all that the worker did.
+/// Says bye, and leaves the report.
 fn leave<P: Port>(worker: Worker<P>, storage: &StorageSignals) -> WorkerReport<P>
     requires { IsDrained worker }
     ensures port { result.port ≡ worker.port }
@@ -319,7 +290,6 @@ fn leave<P: Port>(worker: Worker<P>, storage: &StorageSignals) -> WorkerReport<P
     ensures spelled { (trace : PortTrace) → P.told result.port ≡ Some trace
         → trace.dialect ≡ worker.book.dialect }
 {
-    worker.tell(storage);
     let Worker { state } = worker;
     let WorkerState {
         port,

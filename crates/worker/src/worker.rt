@@ -317,18 +317,14 @@ impl<P: Port> Worker<P> {
         }
     }
 
-    /// Tells storage of all that was put, and unparks it. A `stats` among it finds what is told of this worker by now. True if
-    /// something was put.
-    pub(crate) fn flush(&mut self, storage: &StorageSignals) -> bool
+    /// Tells storage of all that was put, and unparks it. A `stats` among it finds what is told of this worker by now.
+    pub(crate) fn flush(&mut self, storage: &StorageSignals)
         ensures { Continues P.told P.leads_to self.old self.new }
     {
         if self.state.batch.unflushed() > 0 {
             self.tell(storage);
             self.state.batch.flush();
             storage.parking().unpark();
-            true
-        } else {
-            false
         }
     }
 

@@ -5,7 +5,7 @@
     tools/prove.py --kept   proves nothing: status 0 if the program was built so, and nothing that it is built of has changed since
 
 It calls the prover for each crate once those below it are proved, as many side by side as there are processors and memory for. The crates
-from which the way to the program takes longest get several processes, and the others yield to them. What is proved stands in out/proofs: after an
+from which the way to the program takes longest get two processes if a processor is idle, and the others yield to them. What is proved stands in out/proofs: after an
 interrupt the next run goes on from there. What the prover says of each crate stands beside the program, as segcached.log.
 
 What each crate takes stands in tools/gate_minutes.tsv, by a run of the gate; how long the rest may take is an estimate from that.
@@ -35,7 +35,7 @@ IGNORED = ("out", "wrong")
 # A crate that no run of the gate has measured is taken to need half a minute, and one more for each of these numbers of lines.
 LINES_A_MINUTE = 2500
 # From a crate the way is near the longest one if it is shorter by at most this share of the longest of all. Such a crate is proved by several
-# processes, which is faster by this factor.
+# processes, if processors are idle, which is faster by this factor.
 NEAR = 0.15
 JOBS = 2
 FASTER = 1.5
@@ -278,22 +278,23 @@ class Proof:
         self.ran.wait()
 
 
-def how_to_prove(name, crates, ways, proved):
-    """How to prove a crate that is ready."""
+def how_to_prove(name, crates, ways, proved, idle):
+    """How to prove a crate that is ready, if so many processors would have nothing to do were it proved by one process."""
     whole, longest = max(ways.values()), max(way for it, way in ways.items() if it not in proved)
     is_near = longest - ways[name] <= NEAR * whole
     nice = 0 if is_near else NICE
     if not crates[name]:
         return How(machine.processors(), nice)
     # (Most of what the program's own crate takes is that the libraries are read, which each process does.)
-    return How(min(JOBS, machine.processors()) if is_near and name != NAME else 1, nice)
+    return How(JOBS if is_near and idle > 0 and name != NAME else 1, nice)
 
 
 def to_start(crates, ways, proved, running):
     """The crates to start now, those with the longest way first, and how to prove each."""
     ready = [name for name in ways if name not in proved and name not in running and proved.issuperset(crates[name])]
     chosen = sorted(ready, key=ways.get, reverse=True)[: machine.at_once() - len(running)]
-    return [(name, how_to_prove(name, crates, ways, proved)) for name in chosen]
+    idle = machine.processors() - len(running) - len(chosen)
+    return [(name, how_to_prove(name, crates, ways, proved, idle)) for name in chosen]
 
 
 def prove_side_by_side(crates, proved, progress, interrupts):

@@ -53,6 +53,9 @@ def test_those_with_the_longest_way_start_first_and_are_proved_by_several_proces
     assert prove.to_start(CRATES, ways, {"base"}, {"left": None, "right": None}) == []
     assert prove.to_start(CRATES, ways, {"base", "right"}, {"left": None}) == [("aside", how(1, nice))]
     assert prove.to_start(CRATES, ways, {"base", "left"}, {}) == [("right", how(2, 0)), ("aside", how(2, 0))]
+    monkeypatch.setattr(machine, "processors", lambda: 2)
+    assert prove.to_start(CRATES, ways, {"base"}, {}) == [("left", how(1, 0)), ("right", how(1, nice))]
+    monkeypatch.setattr(machine, "processors", lambda: 4)
     assert prove.to_start(CRATES, ways, {"base", "left", "right", "aside"}, {}) == [("top", how(1, 0))]
     monkeypatch.setattr(machine, "processors", lambda: 1)
     assert prove.to_start(CRATES, ways, {"base"}, {"right": None}) == [("left", how(1, 0))]

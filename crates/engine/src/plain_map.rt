@@ -148,8 +148,8 @@ impl LiveMap for PlainMap {
 
     fn prefetch(&self, _hashes: &[u64]) {}
 
-    fn tell(&self, gauges: &Gauges) {
-        gauges.set(Gauge::CurrItems, self.map.len() as u64);
+    fn set_gauges(&self, gauges: &Gauges) {
+        gauges.set(&[(Gauge::CurrItems, self.map.len() as u64)]);
     }
 
     fn evictions(&self) -> u64 {

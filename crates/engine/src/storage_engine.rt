@@ -44,8 +44,8 @@ pub trait StorageEngine {
     /// No clause speaks of what it reads.
     fn prefetch(&self, hashes: &[u64]);
 
-    /// Leaves what it tells of itself for `stats`. No clause speaks of it.
-    fn tell(&self, gauges: &Gauges);
+    /// Sets the gauges that it knows, for `stats`. No clause speaks of it.
+    fn set_gauges(&self, gauges: &Gauges);
 
     /// How often room was made so far by forgetting something. No clause speaks of it.
     fn evictions(&self) -> u64;

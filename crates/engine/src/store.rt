@@ -161,8 +161,8 @@ impl<M: StoreMap> StorageEngine for Engine<M> {
         self.map.prefetch(hashes);
     }
 
-    fn tell(&self, gauges: &Gauges) {
-        self.map.tell(gauges);
+    fn set_gauges(&self, gauges: &Gauges) {
+        self.map.set_gauges(gauges);
     }
 
     fn evictions(&self) -> u64 {

@@ -155,12 +155,10 @@ impl StorageSignals {
     /// Adds up what the workers tell, into what the storage thread does. What the listener tells is as this worker left it.
     pub fn gather_gauges(&self, worker: usize) {
         for gauge in WORKER_GAUGES {
-            self.storage_gauges.set(gauge, self.sum_of(gauge));
+            self.storage_gauges.set(&[(gauge, self.sum_of(gauge))]);
         }
         if let Some(left) = self.gauges.get(worker) {
-            for gauge in LISTENER_GAUGES {
-                self.storage_gauges.set(gauge, left.get(gauge));
-            }
+            self.storage_gauges.copy(left, &LISTENER_GAUGES);
         }
     }
 

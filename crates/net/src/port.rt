@@ -264,8 +264,8 @@ impl<R: Wait + Clock + Drop> Port for MioPort<R> {
         self.served.shut(&self.rt, session);
     }
 
-    fn tell(&self, gauges: &Gauges) {
-        gauges.set(Gauge::IdleKicks, self.idle_kicks);
-        self.hand.tell(gauges);
+    fn set_gauges(&self, gauges: &Gauges) {
+        gauges.set(&[(Gauge::IdleKicks, self.idle_kicks)]);
+        self.hand.set_gauges(gauges);
     }
 }

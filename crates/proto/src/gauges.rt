@@ -256,11 +256,28 @@ impl Gauges {
         })
     }
 
-    /// Sets it. A store takes much longer than a load, so a word that has the number already is only loaded.
-    pub fn set(&self, gauge: Gauge, n: u64) {
-        if let Some(word) = self.words.get(gauge as usize) {
-            if word.load(Ordering::Relaxed) != n {
-                word.store(n, Ordering::Relaxed);
+    /// Sets each gauge to its number. A store takes much longer than a load, so a word that has the number already is only
+    /// loaded.
+    pub fn set(&self, values: &[(Gauge, u64)]) {
+        for value in values {
+            let (gauge, n) = *value;
+            if let Some(word) = self.words.get(gauge as usize) {
+                if word.load(Ordering::Relaxed) != n {
+                    word.store(n, Ordering::Relaxed);
+                }
+            }
+        }
+    }
+
+    /// Sets these gauges to what they are there.
+    pub fn copy(&self, from: &Gauges, gauges: &[Gauge]) {
+        for gauge in gauges {
+            let place = *gauge as usize;
+            if let (Some(word), Some(there)) = (self.words.get(place), from.words.get(place)) {
+                let n = there.load(Ordering::Relaxed);
+                if word.load(Ordering::Relaxed) != n {
+                    word.store(n, Ordering::Relaxed);
+                }
             }
         }
     }
@@ -274,7 +291,7 @@ impl Gauges {
 
     /// Sets it to the duration in microseconds, if that is more than it is.
     pub fn raise_micros(&self, gauge: Gauge, duration: Duration) {
-        self.set(gauge, self.get(gauge).max(micros(duration)));
+        self.set(&[(gauge, self.get(gauge).max(micros(duration)))]);
     }
 
     /// The thread waits, and was busy for this long.

@@ -149,8 +149,8 @@ fn pool_evicting_by(alloc: Global, geometry: Geometry, eviction: Eviction) -> Re
 }
 
 impl SegmentMap {
-    /// What the pool tells, and the bytes of what is current.
-    fn tell_of_pool(&self, gauges: &Gauges) {
+    /// Sets the gauges of the pool, and of the bytes of what is current.
+    fn set_pool_gauges(&self, gauges: &Gauges) {
         let geometry = self.pool.geometry();
         let size = u64::from(geometry.segment_size());
         let (segments, free) = (
@@ -158,13 +158,15 @@ impl SegmentMap {
             self.pool.free_count() as u64,
         );
         let used = size.wrapping_mul(segments.saturating_sub(free));
-        gauges.set(Gauge::LimitBytes, size.wrapping_mul(segments));
-        gauges.set(Gauge::SegmentSize, size);
-        gauges.set(Gauge::Segments, segments);
-        gauges.set(Gauge::SegmentsFree, free);
-        gauges.set(Gauge::CurrItems, self.index.len() as u64);
-        gauges.set(Gauge::Bytes, self.counts.bytes);
-        gauges.set(Gauge::DeadBytes, used.saturating_sub(self.counts.bytes));
+        gauges.set(&[
+            (Gauge::LimitBytes, size.wrapping_mul(segments)),
+            (Gauge::SegmentSize, size),
+            (Gauge::Segments, segments),
+            (Gauge::SegmentsFree, free),
+            (Gauge::CurrItems, self.index.len() as u64),
+            (Gauge::Bytes, self.counts.bytes),
+            (Gauge::DeadBytes, used.saturating_sub(self.counts.bytes)),
+        ]);
     }
 }
 
@@ -218,16 +220,18 @@ impl LiveMap for SegmentMap {
         self.read_ahead.store(read, Ordering::Relaxed);
     }
 
-    fn tell(&self, gauges: &Gauges) {
+    fn set_gauges(&self, gauges: &Gauges) {
         let counts = &self.counts;
-        self.tell_of_pool(gauges);
-        gauges.set(Gauge::Evictions, counts.evicted_keys());
-        gauges.set(Gauge::EvictedByMerge, counts.merged_keys);
-        gauges.set(Gauge::EvictedByClearing, counts.cleared_keys);
-        gauges.set(Gauge::Reclaimed, counts.expired_keys);
-        gauges.set(Gauge::SegmentsEmptied, counts.emptied);
-        gauges.set(Gauge::Merges, counts.merges);
-        gauges.set(Gauge::SegmentsCleared, counts.cleared);
+        self.set_pool_gauges(gauges);
+        gauges.set(&[
+            (Gauge::Evictions, counts.evicted_keys()),
+            (Gauge::EvictedByMerge, counts.merged_keys),
+            (Gauge::EvictedByClearing, counts.cleared_keys),
+            (Gauge::Reclaimed, counts.expired_keys),
+            (Gauge::SegmentsEmptied, counts.emptied),
+            (Gauge::Merges, counts.merges),
+            (Gauge::SegmentsCleared, counts.cleared),
+        ]);
     }
 
     fn evictions(&self) -> u64 {

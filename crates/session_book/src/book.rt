@@ -359,6 +359,11 @@ impl Book {
         self.upkeep.ready.reads_on()
     }
 
+    /// Whether a session is to be asked, also one that was put off.
+    pub fn has_to_ask(&self) -> bool {
+        self.ready(Task::Ask) > 0 || self.ready(Task::AskLarge) > 0
+    }
+
     /// Takes out the next session that is to be asked. One that was put off comes if no other is to be asked, or once as many
     /// others as a window has requests went before it. From then on no other is asked until the unsettled requests have few keys,
     /// so that it doesn't wait for ever.
@@ -397,12 +402,14 @@ impl Book {
         self.upkeep.load.output() <= MAX_WAITING
     }
 
-    /// Leaves what it counted, and how much is unfinished.
-    pub fn tell(&self, gauges: &Gauges) {
-        gauges.set(Gauge::CurrConnections, self.sessions.len() as u64);
-        gauges.set(Gauge::TotalConnections, self.opened);
-        gauges.set(Gauge::RequestsInFlight, self.unsettled.len() as u64);
-        self.upkeep.load.tell(gauges);
+    /// Sets the gauges of what it counted, and of how much is unfinished.
+    pub fn set_gauges(&self, gauges: &Gauges) {
+        gauges.set(&[
+            (Gauge::CurrConnections, self.sessions.len() as u64),
+            (Gauge::TotalConnections, self.opened),
+            (Gauge::RequestsInFlight, self.unsettled.len() as u64),
+        ]);
+        self.upkeep.load.set_gauges(gauges);
     }
 }
 

@@ -127,17 +127,19 @@ impl Load {
         self.counts.unread = self.counts.unread.wrapping_sub(unread as u64);
     }
 
-    /// Leaves what it counted.
-    pub(crate) fn tell(&self, gauges: &Gauges) {
+    /// Sets the gauges of what it counted.
+    pub(crate) fn set_gauges(&self, gauges: &Gauges) {
         let counts = &self.counts;
-        gauges.set(Gauge::BytesRead, counts.read);
-        gauges.set(Gauge::BytesWritten, counts.written);
-        gauges.set(Gauge::InputBytes, counts.unread);
-        gauges.set(Gauge::OutputBytes, self.output as u64);
-        gauges.set(Gauge::StoreTooLarge, counts.too_large);
-        gauges.set(Gauge::UnknownCommands, counts.unknown);
-        gauges.set(Gauge::BadLines, counts.bad_lines);
-        gauges.set(Gauge::ClosedMalformed, counts.malformed);
-        gauges.set(Gauge::ClosedBinary, counts.binary);
+        gauges.set(&[
+            (Gauge::BytesRead, counts.read),
+            (Gauge::BytesWritten, counts.written),
+            (Gauge::InputBytes, counts.unread),
+            (Gauge::OutputBytes, self.output as u64),
+            (Gauge::StoreTooLarge, counts.too_large),
+            (Gauge::UnknownCommands, counts.unknown),
+            (Gauge::BadLines, counts.bad_lines),
+            (Gauge::ClosedMalformed, counts.malformed),
+            (Gauge::ClosedBinary, counts.binary),
+        ]);
     }
 }

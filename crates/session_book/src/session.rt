@@ -310,7 +310,7 @@ impl Session {
     {
         let left = self.output.discard(n, Use::Output, &mut upkeep.spares);
         upkeep.load.gave_output(n);
-        if left.saturating_add(n) > MAX_WAITING {
+        if n > 0 && left.saturating_add(n) > MAX_WAITING {
             upkeep.ready.add(Task::Ask, session, &mut self.tickets.ask);
         }
         if n == 0 {

@@ -49,14 +49,16 @@ impl<'a, R: Clock> StatsSource<'a, R> {
     // Sets the gauges, this long after the thread began.
     fn set_gauges<S: StorageEngine>(&self, store: &S, worker: usize, passed: Duration) {
         let gauges = self.signals.storage_gauges();
-        gauges.set(Gauge::Pid, u64::from(libc::getpid().unsigned_abs()));
-        gauges.set(Gauge::Uptime, passed.as_secs());
-        gauges.set(Gauge::Time, store.last_moment());
-        gauges.set(Gauge::PointerSize, 64);
-        gauges.set(Gauge::Threads, self.signals.workers() as u64);
-        gauges.set(Gauge::StorageBusy, gauges.busy_micros(passed));
+        gauges.set(&[
+            (Gauge::Pid, u64::from(libc::getpid().unsigned_abs())),
+            (Gauge::Uptime, passed.as_secs()),
+            (Gauge::Time, store.last_moment()),
+            (Gauge::PointerSize, 64),
+            (Gauge::Threads, self.signals.workers() as u64),
+            (Gauge::StorageBusy, gauges.busy_micros(passed)),
+        ]);
         self.signals.gather_gauges(worker);
-        store.tell(gauges);
+        store.set_gauges(gauges);
     }
 
     // These counts, and the gauges, for a worker that asks.

@@ -11,7 +11,7 @@ use crate::gate::Gate;
 use crate::pauses::Pauses;
 use crate::session_list::SessionList;
 use crate::worker::{AskAgain, Worker, WorkerState};
-use exchange::{StorageSignals, Waits, WorkerBatch, WorkerEnd};
+use exchange::{ParkingWord, StorageSignals, Waits, WorkerBatch, WorkerEnd};
 use proto::{Dialect, WINDOW};
 use session_book::Task;
 use std::alloc::Global;
@@ -46,14 +46,21 @@ pub struct WorkerReport<P> {
     pub strangers: u64,
 }
 
-/// Takes one event. The time for which the port may wait isn't busy. True if there was one.
-fn take_event<P: Port, R: Clock>(rt: &R, worker: &mut Worker<P>, pauses: &mut Pauses) -> bool
+/// Takes one event. The time for which the port may wait isn't busy, and before it the worker sets its gauges. True if there
+/// was one.
+fn take_event<P: Port, R: Clock>(
+    rt: &R,
+    worker: &mut Worker<P>,
+    pauses: &mut Pauses,
+    storage: &StorageSignals,
+) -> bool
     ensures { Continues P.told P.leads_to worker.old worker.new }
 {
     let may_wait = worker.may_wait();
     if !may_wait {
         return worker.take_event(may_wait);
     }
+    worker.set_gauges(storage);
     pauses.waits.begin(rt);
     let came = worker.take_event(may_wait);
     pauses.waits.end(rt);
@@ -74,7 +81,7 @@ fn take_events<P: Port, G: Gate, R: Clock>(
 {
     let mut moved = false;
     for taken in 1..=EVENTS_A_TURN {
-        if !take_event(rt, worker, pauses) {
+        if !take_event(rt, worker, pauses, storage) {
             break;
         }
         moved = true;
@@ -139,7 +146,7 @@ fn ask_sessions<P: Port, G: Gate>(
         .ready(Task::Ask)
         .saturating_add(WINDOW as usize);
     for _ in 0..most {
-        if worker.is_busy() {
+        if !worker.state.book.has_to_ask() || worker.is_busy() {
             break;
         }
         let Some(session) = worker.state.book.next_to_ask() else {
@@ -268,14 +275,28 @@ pub fn run_worker<P: Port, G: Gate, R: Wait + Clock>(
     for _ in rt.forever() {
         if take_turn(rt, &mut worker, &mut pauses, gate, storage) {
             pauses.reset(parking);
-            worker.tell(storage);
         } else if has_drained(&mut worker) {
             return leave(worker, storage);
         } else {
-            pauses.turn(rt, worker.state.batch.outstanding() > 0, parking);
+            pass_turn(rt, &worker, &mut pauses, parking, storage);
         }
     }
     unreachable!()
+}
+
+/// An idle turn. The worker sets its gauges in one in which it waits for no answer, but for peers that accept no bytes.
+fn pass_turn<P: Port, R: Wait + Clock>(
+    rt: &R,
+    worker: &Worker<P>,
+    pauses: &mut Pauses,
+    parking: Option<&ParkingWord>,
+    storage: &StorageSignals,
+) {
+    let for_answers = worker.state.batch.outstanding() > 0;
+    if !for_answers {
+        worker.set_gauges(storage);
+    }
+    pauses.turn(rt, for_answers, parking);
 }
 
 /// Says bye, and leaves the report.

@@ -289,10 +289,10 @@ impl<P: Port> Worker<P> {
         ensures goes_on { Continues P.told P.leads_to self.old self.new }
         ensures put { result ≡ true → self.new.request ≡ None }
     {
-        let worker = self.state.batch.worker();
         let Some(held) = self.state.request.take() else {
             return false;
         };
+        let worker = self.state.batch.worker();
         if !gate.may_post(worker, held.number) {
             self.state.request = Some(held);
             return false;
@@ -309,20 +309,20 @@ impl<P: Port> Worker<P> {
         }
     }
 
-    /// Leaves what is told of it in a `stats`.
-    pub(crate) fn tell(&self, storage: &StorageSignals) {
+    /// Sets its gauges, for a `stats`.
+    pub(crate) fn set_gauges(&self, storage: &StorageSignals) {
         if let Some(gauges) = storage.gauges(self.state.batch.worker()) {
-            self.state.book.tell(gauges);
-            self.state.port.tell(gauges);
+            self.state.book.set_gauges(gauges);
+            self.state.port.set_gauges(gauges);
         }
     }
 
-    /// Tells storage of all that was put, and unparks it. A `stats` among it finds what is told of this worker by now.
+    /// Tells storage of all that was put, and unparks it. Before, it sets its gauges, for a `stats` among it.
     pub(crate) fn flush(&mut self, storage: &StorageSignals)
         ensures { Continues P.told P.leads_to self.old self.new }
     {
         if self.state.batch.unflushed() > 0 {
-            self.tell(storage);
+            self.set_gauges(storage);
             self.state.batch.flush();
             storage.parking().unpark();
         }

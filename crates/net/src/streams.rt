@@ -16,33 +16,15 @@ use crate::owner::Owner;
 use crate::sockets::{EndedStream, NewStream, SocketNote};
 use exchange::{ExchangeName, WorkerBatch};
 use mio::{Events, Poll};
-use proto::{Noted, Trace};
+use proto::Trace;
 use std::alloc::{AllocError, Global};
 use std::collections::{HashMap, VecDeque};
 use std::snapshot::Snapshot;
 use std::time::Clock;
-use worker_port::{Gone, MAX_PIECE, PortEvent, PortRecord, ToldHistory};
+use worker_port::{Gone, MAX_PIECE, PortEvent, PortNote, PortRecord, ToldHistory};
 
 /// The most sessions of a port that are open at a time, with those that were shut and are read still.
 pub(crate) const OPEN_SESSIONS: usize = 1024;
-
-/// What is told, for clauses alone.
-#[derive(Clone, Copy)]
-enum PortNote<'a> {
-    Opened(u64),
-    Data(u64, &'a [u8]),
-    EndOfInput(u64),
-    Gone(u64),
-    Ended,
-    Accepted(u64, &'a [u8]),
-    Shut(u64),
-}
-
-impl Noted<PortRecord> for PortNote<'_> {
-    ghost use Rattle.net.specs.Notes.{told_by};
-
-    ghost noted = { told_by };
-}
 
 /// The open streams, which of them are to be read, in turn, and what was told.
 #[derive(Drop)]

@@ -6,6 +6,7 @@ use command_line::{
 };
 use replaying::{cannot_read, replay};
 use serving::{seed_of, serve_to_end};
+use std::alloc::AllocError;
 use std::fmt::Display;
 use std::fs::File;
 use std::io::{self, BufWriter, Eprint};
@@ -28,7 +29,7 @@ fn replay_file<H: Threads + Wait + time::Clock + Sync>(
     let script: File = fs::open(rt, options.file.as_str()).map_err(|error| cannot_read(
         alloc, options, &error,
     ))?;
-    let mut out = BufWriter::new(alloc, io::writer(rt)).map_err(|_| replaying::Fault::NoMemory)?;
+    let mut out = BufWriter::new(alloc, io::writer(rt)).map_err(|_| AllocError)?;
     replay(threads, alloc, options, geometry, script, &mut out)?;
     Ok(())
 }
@@ -43,7 +44,7 @@ fn serve_at<H: Threads + Wait + Net + time::Clock + Eprint + Copy + Drop + Send 
     let geometry = geometry_of(options.segment_size, options.segments).ok_or(
         serving::Fault::BadGeometry,
     )?;
-    let mut out = BufWriter::new(alloc, io::writer(rt)).map_err(|_| serving::Fault::NoMemory)?;
+    let mut out = BufWriter::new(alloc, io::writer(rt)).map_err(|_| AllocError)?;
     serve_to_end(*threads, alloc, options, geometry, seed_of(rt), &mut out)
 }
 

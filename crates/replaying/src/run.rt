@@ -13,15 +13,12 @@ use crate::fault::Fault;
 use crate::reading::script_bytes;
 use command_line::Options;
 use exchange::Exchange;
-use group::{Config, GroupWorker, run_group};
+use group::{Config, GroupWorker, Runtime, run_group};
 use proto::{Geometry, NoMemory, Terms, Trace};
 use script::{RecordingClock, ScriptClock, ScriptPort, WorkerScript, read_script};
 use segcache::Store;
 use std::alloc::{AllocError, Global};
 use std::io::{Read, Write};
-use std::sync::Wait;
-use std::thread::Threads;
-use std::time;
 use worker::OpenGate;
 
 /// The events of the script, by worker, and the bytes that its reads gave.
@@ -165,7 +162,7 @@ fn new_store(alloc: Global, options: &Options, geometry: Geometry) -> Result<Sto
 /// CannotRead if a read of the script fails; Script if it is too large or a line has a fault; Exchange if the options ask
 /// for none or for more than 8 workers, or memory for the exchange is refused; Group if a thread can't be started, or the
 /// group has no memory; CannotWrite if a line can't be printed; NoMemory if out of memory elsewhere.
-pub fn replay<H: Threads + Wait + time::Clock + Sync, R: Read + Drop, W: Write>(
+pub fn replay<H: Runtime, R: Read + Drop, W: Write>(
     rt: &H,
     alloc: Global,
     options: &Options,

@@ -1,10 +1,10 @@
 -- What the words after the program's name may ask for.
 use Rattle.std.specs.Prelude.{ℕ, ◌≤◌, ⊤, IfSome}
 use Rattle.command_line.specs.declared.number_option.NumberOption.{NumberOption}
-use Rattle.command_line.specs.declared.words.Options.{Options}
-use Rattle.command_line.specs.declared.words.ServeOptions.{ServeOptions}
-use Rattle.command_line.specs.declared.words.Job.{Job}
-use Rattle.command_line.specs.declared.words.Job.TheVariants.{Help, Replay, Serve}
+use Rattle.command_line.specs.declared.options.Options.{Options}
+use Rattle.command_line.specs.declared.options.ServeOptions.{ServeOptions}
+use Rattle.command_line.specs.declared.options.Job.{Job}
+use Rattle.command_line.specs.declared.options.Job.TheVariants.{Help, Replay, Serve}
 
 -- the number is one that the option may have
 abbrev pub IsInRange : NumberOption → ℕ → Type 0

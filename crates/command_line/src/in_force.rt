@@ -1,7 +1,8 @@
 //! The options with which a server runs, as words.
 
+use crate::commands::{EVICT, LEAST_READ, LENIENT, LISTEN, UPDATE_IN_PLACE};
 use crate::number_option::{IDLE, NumberOption, SEGMENT_SIZE, SEGMENTS, SESSIONS, SPIN, WORKERS};
-use crate::words::{EVICT, LEAST_READ, LENIENT, LISTEN, ServeOptions, UPDATE_IN_PLACE};
+use crate::options::ServeOptions;
 use proto::{Dialect, Eviction};
 use std::alloc::{AllocError, Global};
 
@@ -70,16 +71,8 @@ fn push_rules(line: &mut String, options: &ServeOptions) -> Result<(), AllocErro
 /// option that is left out is not in force. Fails only if out of memory.
 pub fn options_in_force(alloc: Global, options: &ServeOptions) -> Result<String, AllocError> {
     let mut line = String::new(alloc);
-    push_options(alloc, &mut line, options)?;
+    push_value(&mut line, LISTEN, options.listen.as_str())?;
+    push_numbers(alloc, &mut line, options)?;
+    push_rules(&mut line, options)?;
     Ok(line)
-}
-
-fn push_options(
-    alloc: Global,
-    line: &mut String,
-    options: &ServeOptions,
-) -> Result<(), AllocError> {
-    push_value(line, LISTEN, options.listen.as_str())?;
-    push_numbers(alloc, line, options)?;
-    push_rules(line, options)
 }

@@ -105,12 +105,8 @@ pub(crate) const SPIN: NumberOption = NumberOption {
     default: &[],
 };
 
-/// The options of a replay: the workers, the segments, the clock, and the faults of the ports.
-pub(crate) static REPLAY_OPTIONS: [NumberOption; 7] = [
-    NumberOption {
-        default: &["1"],
-        ..WORKERS
-    },
+/// The options of a replay beside its workers: the segments, the clock, and the faults of the ports.
+pub(crate) static REPLAY_OPTIONS: [NumberOption; 6] = [
     SEGMENT_SIZE,
     SEGMENTS,
     NOW,
@@ -119,15 +115,5 @@ pub(crate) static REPLAY_OPTIONS: [NumberOption; 7] = [
     FAIL_GIVE,
 ];
 
-/// The options of a server beside its address.
-pub(crate) static SERVE_OPTIONS: [NumberOption; 6] = [
-    NumberOption {
-        default: &["2"],
-        ..WORKERS
-    },
-    SESSIONS,
-    IDLE,
-    SPIN,
-    SEGMENT_SIZE,
-    SEGMENTS,
-];
+/// The options of a server beside its address and its workers.
+pub(crate) static SERVE_OPTIONS: [NumberOption; 5] = [SESSIONS, IDLE, SPIN, SEGMENT_SIZE, SEGMENTS];

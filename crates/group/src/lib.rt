@@ -9,6 +9,7 @@ mod run;
 mod start;
 mod threads;
 
+pub use context::Runtime;
 pub use fault::GroupFault;
 pub use report::{Config, GroupReport, GroupWorker};
 pub use run::run_group;

@@ -6,7 +6,7 @@ ghost use Rattle.exchange.specs.Ends.{AreMade, AreTogether, IsCount};
 ghost use Rattle.group.specs.Threads.{ArePortsOf, AreJoined, IsLeftByStorage, StartsEmpty, ends_of, worker_of, workers_of};
 ghost use Rattle.group.specs.Headline.{IsRun};
 
-use crate::context::GroupContext;
+use crate::context::{GroupContext, Runtime};
 use crate::fault::GroupFault;
 use crate::report::{Config, GroupReport, GroupWorker};
 use crate::start::announce_start;
@@ -16,9 +16,8 @@ use crate::threads::{
 use engine::{Clock, StorageEngine};
 use exchange::{Exchange, StorageSignals, WorkerEnd, gather};
 use std::alloc::{AllocError, Global};
-use std::sync::{OnceLock, OnceToken, Wait};
-use std::thread::{Scope, Threads};
-use std::{thread, time};
+use std::sync::{OnceLock, OnceToken};
+use std::thread::{self, Scope};
 use storage_thread::StorageReport;
 use worker::{Gate, WorkerReport};
 use worker_port::Port;
@@ -104,8 +103,8 @@ fn room_for<'s, P: Port>(alloc: Global, count: usize) -> Result<Room<'s, P>, All
 }
 
 /// Joins all threads, which were told to begin, and gathers what they leave. The lists have room for it.
-fn join_all<'s, P: Port, E: StorageEngine, C: Clock, R: Threads>(
-    rt: &R,
+fn join_all<'s, P: Port, E: StorageEngine, C: Clock>(
+    rt: &impl Runtime,
     told: &OnceToken<'s, bool>,
     handles: Vec<WorkerHandle<'s, P>>,
     storage: StorageHandle<'s, E, C>,
@@ -131,18 +130,10 @@ fn join_all<'s, P: Port, E: StorageEngine, C: Clock, R: Threads>(
 
 /// Starts a thread for each port, has all threads begin, and joins them. The storage thread was started, with its end of the
 /// exchange that the other ends are of.
-fn run_started<
-    's,
-    'e,
-    P: Port + Send + 's,
-    E: StorageEngine,
-    C: Clock,
-    G: Gate + Sync,
-    R: Threads + Wait + time::Clock + Sync,
->(
-    rt: &'s R,
-    scope: &'s Scope<'s, &'e ()>,
-    context: &'s GroupContext<'s, G>,
+fn run_started<'s, P: Port + Send + 's, E: StorageEngine, C: Clock>(
+    rt: &'s impl Runtime,
+    scope: &'s Scope<'s, &()>,
+    context: &'s GroupContext<'s, impl Gate + Sync>,
     ports: Vec<P>,
     ends: Vec<WorkerEnd>,
     storage: StorageHandle<'s, E, C>,
@@ -172,7 +163,7 @@ fn run_started<
             if !*context.start.value(&told) {
                 return Err(GroupFault::NoThread);
             }
-            Ok(join_all::<P, E, C, R>(rt, &told, handles, storage, reports, workers, gathered))
+            Ok(join_all(rt, &told, handles, storage, reports, workers, gathered))
         }
         Err(fault) => {
             announce_start(rt, context.start, false);
@@ -182,18 +173,10 @@ fn run_started<
 }
 
 /// Makes all room that joining needs, starts the threads, and joins them.
-fn run_in<
-    's,
-    'e,
-    P: Port + Send + 's,
-    E: StorageEngine + Drop + Send + 's,
-    C: Clock + Send + 's,
-    G: Gate + Sync,
-    R: Threads + Wait + time::Clock + Sync,
->(
-    rt: &'s R,
-    scope: &'s Scope<'s, &'e ()>,
-    context: &'s GroupContext<'s, G>,
+fn run_in<'s, P: Port + Send + 's, E: StorageEngine + Drop + Send + 's, C: Clock + Send + 's>(
+    rt: &'s impl Runtime,
+    scope: &'s Scope<'s, &()>,
+    context: &'s GroupContext<'s, impl Gate + Sync>,
     ports: Vec<P>,
     exchange: Exchange,
     store: E,
@@ -223,21 +206,15 @@ fn run_in<
 /// NoMemory if out of memory at the start, where all room for joining and gathering is made too; NoThread
 /// if a thread couldn't be started. After both of them the threads that were started have ended, no event was taken
 /// and no request executed; ports, store and clock are dropped.
-pub fn run_group<
-    P: Port + Send,
-    E: StorageEngine + Drop + Send,
-    C: Clock + Send,
-    G: Gate + Sync,
-    R: Threads + Wait + time::Clock + Sync,
->(
-    rt: &R,
+pub fn run_group<P: Port + Send, E: StorageEngine + Drop + Send, C: Clock + Send>(
+    rt: &impl Runtime,
     alloc: Global,
     ports: Vec<P>,
     exchange: Exchange,
     config: Config,
     store: E,
     clock: C,
-    gate: &G,
+    gate: &(impl Gate + Sync),
 ) -> Result<GroupReport<P, C>, GroupFault>
     requires ports { ArePortsOf P.told exchange.id config.terms config.dialect ports.items }
     requires made { (exchange.workers ≡ vec_len ports) × (exchange.terms ≡ config.terms) }

@@ -9,16 +9,16 @@ ghost use Rattle.worker.specs.Starts.{IsPortAt, HasSentNothing};
 ghost use Rattle.group.specs.Threads.{IsFinished, StartsEmpty};
 ghost use Rattle.group.specs.Threads.{KeepsWorker, KeepsStorage, AreEach};
 
-use crate::context::GroupContext;
+use crate::context::{GroupContext, Runtime};
 use crate::fault::GroupFault;
 use crate::start::{Finished, wait_for_start};
 use engine::{Clock, StorageEngine};
 use exchange::{StorageEnd, StorageSignals, WorkerEnd};
 use os::set_thread_name;
 use std::snapshot::Snapshot;
-use std::sync::{OnceLock, OnceToken, Wait};
-use std::thread::{Promise, PromisedHandle, Scope, Threads};
-use std::{time, vec};
+use std::sync::{OnceLock, OnceToken};
+use std::thread::{Promise, PromisedHandle, Scope};
+use std::vec;
 use storage_thread::{StorageReport, run_storage};
 use worker::{Gate, WorkerReport, run_worker};
 use worker_port::Port;
@@ -72,9 +72,9 @@ fn thread_name(worker: usize) -> [u8; 8]
 }
 
 /// Runs a worker over a port and an end as they were made.
-fn run_new_worker<P: Port, G: Gate, R: Wait + time::Clock>(
-    rt: &R,
-    context: &GroupContext<'_, G>,
+fn run_new_worker<P: Port>(
+    rt: &impl Runtime,
+    context: &GroupContext<'_, impl Gate>,
     port: P,
     end: WorkerEnd,
 ) -> WorkerReport<P>
@@ -88,9 +88,9 @@ fn run_new_worker<P: Port, G: Gate, R: Wait + time::Clock>(
 }
 
 /// Names the thread, and runs a worker in it once it is told to begin.
-fn worker_thread<'a, P: Port, G: Gate, R: Wait + time::Clock>(
-    rt: &R,
-    context: &GroupContext<'a, G>,
+fn worker_thread<'a, P: Port>(
+    rt: &impl Runtime,
+    context: &GroupContext<'a, impl Gate>,
     port: P,
     end: WorkerEnd,
 ) -> Finished<'a, WorkerReport<P>>
@@ -110,8 +110,8 @@ fn worker_thread<'a, P: Port, G: Gate, R: Wait + time::Clock>(
 }
 
 /// Runs the storage loop over an end and a store as they were made.
-fn run_new_storage<E: StorageEngine + Drop, C: Clock, R: Wait + time::Clock>(
-    rt: &R,
+fn run_new_storage<E: StorageEngine + Drop, C: Clock>(
+    rt: &impl Runtime,
     store: E,
     clock: C,
     end: StorageEnd,
@@ -125,8 +125,8 @@ fn run_new_storage<E: StorageEngine + Drop, C: Clock, R: Wait + time::Clock>(
 }
 
 /// Names the thread, and runs the storage loop in it once it is told to begin.
-fn run_storage_thread<'a, E: StorageEngine + Drop, C: Clock, G, R: Wait + time::Clock>(
-    rt: &R,
+fn run_storage_thread<'a, E: StorageEngine + Drop, C: Clock, G>(
+    rt: &impl Runtime,
     context: &GroupContext<'a, G>,
     store: E,
     clock: C,
@@ -152,17 +152,10 @@ fn run_storage_thread<'a, E: StorageEngine + Drop, C: Clock, G, R: Wait + time::
 /// # Errors
 ///
 /// NoThread if the system starts no thread.
-pub fn start_storage<
-    's,
-    'e,
-    E: StorageEngine + Drop + Send + 's,
-    C: Clock + Send + 's,
-    G: Sync,
-    R: Threads + Wait + time::Clock + Sync,
->(
-    rt: &'s R,
-    scope: &'s Scope<'s, &'e ()>,
-    context: &'s GroupContext<'s, G>,
+pub fn start_storage<'s, E: StorageEngine + Drop + Send + 's, C: Clock + Send + 's>(
+    rt: &'s impl Runtime,
+    scope: &'s Scope<'s, &()>,
+    context: &'s GroupContext<'s, impl Sync>,
     store: E,
     clock: C,
     end: StorageEnd,
@@ -189,16 +182,10 @@ pub fn start_storage<
 }
 
 /// Starts the thread of one worker.
-fn start_worker<
-    's,
-    'e,
-    P: Port + Send + 's,
-    G: Gate + Sync,
-    R: Threads + Wait + time::Clock + Sync,
->(
-    rt: &'s R,
-    scope: &'s Scope<'s, &'e ()>,
-    context: &'s GroupContext<'s, G>,
+fn start_worker<'s, P: Port + Send + 's>(
+    rt: &'s impl Runtime,
+    scope: &'s Scope<'s, &()>,
+    context: &'s GroupContext<'s, impl Gate + Sync>,
     port: P,
     end: WorkerEnd,
 ) -> Result<WorkerHandle<'s, P>, GroupFault>
@@ -235,16 +222,10 @@ fn next_port<P: Port>(ports: &mut vec::IntoIter<P>) -> P
 /// # Errors
 ///
 /// NoThread if the system starts no thread. Those that were started wait for the start.
-pub fn start_workers<
-    's,
-    'e,
-    P: Port + Send + 's,
-    G: Gate + Sync,
-    R: Threads + Wait + time::Clock + Sync,
->(
-    rt: &'s R,
-    scope: &'s Scope<'s, &'e ()>,
-    context: &'s GroupContext<'s, G>,
+pub fn start_workers<'s, P: Port + Send + 's>(
+    rt: &'s impl Runtime,
+    scope: &'s Scope<'s, &()>,
+    context: &'s GroupContext<'s, impl Gate + Sync>,
     ports: Vec<P>,
     ends: Vec<WorkerEnd>,
     mut handles: Vec<WorkerHandle<'s, P>>,
@@ -268,8 +249,8 @@ pub fn start_workers<
 }
 
 /// What the storage thread leaves, which was told to begin.
-pub fn join_storage<'s, E: StorageEngine, C: Clock, R: Threads>(
-    rt: &R,
+pub fn join_storage<'s, E: StorageEngine, C: Clock>(
+    rt: &impl Runtime,
     told: &OnceToken<'s, bool>,
     handle: StorageHandle<'s, E, C>,
 ) -> StorageReport<C>
@@ -283,8 +264,8 @@ pub fn join_storage<'s, E: StorageEngine, C: Clock, R: Threads>(
 }
 
 /// What a worker's thread leaves, which was told to begin.
-fn join_worker<'s, P: Port, R: Threads>(
-    rt: &R,
+fn join_worker<'s, P: Port>(
+    rt: &impl Runtime,
     told: &OnceToken<'s, bool>,
     handle: WorkerHandle<'s, P>,
 ) -> WorkerReport<P>
@@ -297,8 +278,8 @@ fn join_worker<'s, P: Port, R: Threads>(
 }
 
 /// What the workers' threads leave, in order, which were told to begin. The list of reports has room for them.
-pub fn join_workers<'s, P: Port, R: Threads>(
-    rt: &R,
+pub fn join_workers<'s, P: Port>(
+    rt: &impl Runtime,
     told: &OnceToken<'s, bool>,
     handles: Vec<WorkerHandle<'s, P>>,
     mut reports: Vec<WorkerReport<P>>,

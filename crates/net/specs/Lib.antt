@@ -1,5 +1,4 @@
 pub mod Listening
-pub mod Notes
 pub mod Seen
 pub mod Shown
 pub mod Sockets

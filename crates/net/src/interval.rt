@@ -6,7 +6,7 @@ use std::time::{Clock, Duration, Instant};
 #[derive(Clone, Copy)]
 pub(crate) struct Interval {
     least: Duration,
-    // The last turn; none if there was none.
+    /// The last turn; none if there was none.
     last: Option<Instant>,
 }
 
@@ -18,7 +18,7 @@ impl Interval {
         }
     }
 
-    // The time to the next turn, none of it if one is due; `None` if the clock can't be read.
+    /// The time to the next turn, none of it if one is due; `None` if the clock can't be read.
     pub(crate) fn left<R: Clock>(&self, rt: &R) -> Option<Duration> {
         let Some(last) = self.last else {
             return Some(Duration::ZERO);
@@ -26,7 +26,7 @@ impl Interval {
         Some(self.least.saturating_sub(last.elapsed(rt).ok()?))
     }
 
-    // Whether a turn is due. It is taken to be made. None is due while the clock can't be read.
+    /// Whether a turn is due. It is taken to be made. None is due while the clock can't be read.
     pub(crate) fn take<R: Clock>(&mut self, rt: &R) -> bool {
         let Ok(now) = Instant::now(rt) else {
             return false;

@@ -23,7 +23,7 @@ const READS: usize = 64;
 pub(crate) struct LingeringStream {
     stream: EndedStream,
     since: Instant,
-    // How many more bytes are read at most.
+    /// How many more bytes are read at most.
     left: usize,
 }
 
@@ -57,7 +57,7 @@ impl LingeringStream {
 #[derive(Drop)]
 pub(crate) struct LingeringStreams {
     pub(crate) streams: VecDeque<LingeringStream>,
-    // Something may have come of one.
+    /// Something may have come of one.
     pub(crate) is_ready: bool,
 }
 
@@ -69,7 +69,7 @@ impl LingeringStreams {
         })
     }
 
-    // If the clock can't be read, the stream is closed.
+    /// If the clock can't be read, the stream is closed.
     pub(crate) fn add<R: Clock>(&mut self, rt: &R, stream: EndedStream) {
         let Ok(since) = Instant::now(rt) else {
             return;
@@ -85,7 +85,7 @@ impl LingeringStreams {
         self.is_ready = true;
     }
 
-    // Drops what came, and closes the streams that have ended or expired.
+    /// Drops what came, and closes the streams that have ended or expired.
     pub(crate) fn drain<R: Clock>(&mut self, rt: &R, scratch: &mut [u8]) {
         let was_ready = self.is_ready;
         self.is_ready = false;

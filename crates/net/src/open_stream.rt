@@ -85,12 +85,12 @@ pub(crate) struct OpenStream {
     pub(crate) stream: ServedStream,
     pub(crate) input: Input,
     output: Output,
-    // How many looks for idle sessions came before its last activity: it sent something, or took some of what it is owed.
+    /// How many looks for idle sessions came before its last activity: it sent something, or took some of what it is owed.
     active: u64,
 }
 
 impl OpenStream {
-    // The stream of a session that was just opened, after this many looks for idle sessions.
+    /// The stream of a session that was just opened, after this many looks for idle sessions.
     pub(crate) fn new(stream: ServedStream, looks: u64) -> OpenStream
         ensures { (socket : ℤ) → IsNewLog socket stream → seen_of result ≡ fresh socket }
     {
@@ -102,8 +102,8 @@ impl OpenStream {
         }
     }
 
-    // Takes note of what was heard of the stream, after this many looks for idle sessions, and lists it if something may be
-    // there to read. True if it has room that it had not.
+    /// Takes note of what was heard of the stream, after this many looks for idle sessions, and lists it if something may be
+    /// there to read. True if it has room that it had not.
     pub(crate) fn hear(&mut self, heard: Heard, looks: u64, ready: &mut VecDeque<u64>) -> bool
         ensures seen { seen_of self.new ≡ seen_of self.old }
         ensures listed { Lists heard.session self.old self.new ready.old.items ready.new.items }
@@ -123,8 +123,8 @@ impl OpenStream {
         is_freed
     }
 
-    // Puts the stream behind those that are to be read, until nothing is there if it drains. Without memory it waits for another
-    // event.
+    /// Puts the stream behind those that are to be read, until nothing is there if it drains. Without memory it waits for another
+    /// event.
     fn list(&mut self, session: u64, drains: bool, ready: &mut VecDeque<u64>)
         ensures seen { seen_of self.new ≡ then_paused false (seen_of self.old) }
         ensures behind { ready.new.items ≡ ready.old.items ++ listing session self.new }
@@ -138,8 +138,8 @@ impl OpenStream {
         }
     }
 
-    // Reads once if the stream is to be read, after this many looks for idle sessions. It was taken off the list, and goes
-    // behind the others if more may be there.
+    /// Reads once if the stream is to be read, after this many looks for idle sessions. It was taken off the list, and goes
+    /// behind the others if more may be there.
     pub(crate) fn read(
         &mut self,
         owner: Owner,
@@ -177,7 +177,7 @@ impl OpenStream {
         }
     }
 
-    // Takes note that the stream was taken off the list. It says whether the stream drains, or None if it isn't to be read.
+    /// Takes note that the stream was taken off the list. It says whether the stream drains, or None if it isn't to be read.
     fn take_turn(&mut self) -> Option<bool>
         ensures seen { seen_of self.new ≡ seen_of self.old }
         ensures off_list { is_listed self.new.input ≡ false }
@@ -196,8 +196,8 @@ impl OpenStream {
         Some(matches!(input, Input::Draining))
     }
 
-    // Writes once, after this many looks for idle sessions, unless the stream is known to have no room: a short write is tried
-    // again at each look, as the system tells of room only once there is much of it.
+    /// Writes once, after this many looks for idle sessions, unless the stream is known to have no room: a short write is tried
+    /// again at each look, as the system tells of room only once there is much of it.
     pub(crate) fn write(
         &mut self,
         owner: Owner,
@@ -246,7 +246,7 @@ impl OpenStream {
         };
     }
 
-    // What came meanwhile may not be told again, so the stream is listed, and read until nothing is there.
+    /// What came meanwhile may not be told again, so the stream is listed, and read until nothing is there.
     pub(crate) fn resume(&mut self, session: u64, ready: &mut VecDeque<u64>)
         ensures seen { seen_of self.new ≡ then_paused false (seen_of self.old) }
         ensures listed { Lists session self.old self.new ready.old.items ready.new.items }
@@ -265,8 +265,8 @@ impl OpenStream {
         }
     }
 
-    // Whether the session is to be ended at this look: for long enough it took nothing of what it is owed, or is owed nothing,
-    // sent nothing, and nothing of it waits to be read.
+    /// Whether the session is to be ended at this look: for long enough it took nothing of what it is owed, or is owed nothing,
+    /// sent nothing, and nothing of it waits to be read.
     pub(crate) fn is_idle(&self, looks: u64) -> bool {
         let is_owed = !matches!(self.output, Output::Free);
         let is_waiting = matches!(self.input, Input::Waiting);

@@ -16,33 +16,15 @@ use crate::owner::Owner;
 use crate::sockets::{EndedStream, NewStream, SocketNote};
 use exchange::{ExchangeName, WorkerBatch};
 use mio::{Events, Poll};
-use proto::{Noted, Trace};
+use proto::Trace;
 use std::alloc::{AllocError, Global};
 use std::collections::{HashMap, VecDeque};
 use std::snapshot::Snapshot;
 use std::time::Clock;
-use worker_port::{Gone, MAX_PIECE, PortEvent, PortRecord, ToldHistory};
+use worker_port::{Gone, MAX_PIECE, PortEvent, PortNote, PortRecord, ToldHistory};
 
 /// The most sessions of a port that are open at a time, with those that were shut and are read still.
 pub(crate) const OPEN_SESSIONS: usize = 1024;
-
-/// What is told, for clauses alone.
-#[derive(Clone, Copy)]
-enum PortNote<'a> {
-    Opened(u64),
-    Data(u64, &'a [u8]),
-    EndOfInput(u64),
-    Gone(u64),
-    Ended,
-    Accepted(u64, &'a [u8]),
-    Shut(u64),
-}
-
-impl Noted<PortRecord> for PortNote<'_> {
-    ghost use Rattle.net.specs.Notes.{told_by};
-
-    ghost noted = { told_by };
-}
 
 /// The open streams, which of them are to be read, in turn, and what was told.
 #[derive(Drop)]
@@ -104,14 +86,14 @@ impl Streams {
         })
     }
 
-    // Whether none is open or read still.
+    /// Whether none is open or read still.
     pub(crate) fn is_empty(&self) -> bool
         ensures { IsTrue result → HasNoneOpen (trace_of self.now) }
     {
         self.open.is_empty() && self.lingering.streams.is_empty()
     }
 
-    // How many are open, or were shut and are read still.
+    /// How many are open, or were shut and are read still.
     pub(crate) fn len(&self) -> usize {
         self.open.len().saturating_add(self.lingering.streams.len())
     }
@@ -136,7 +118,7 @@ impl Streams {
         Some(session)
     }
 
-    // Takes note of what a poll brought, and says whether the hand woke it.
+    /// Takes note of what a poll brought, and says whether the hand woke it.
     pub(crate) fn hear_all(&mut self, events: &Events) -> bool
         ensures { TellsNothing self.old self.new }
     {
@@ -151,7 +133,7 @@ impl Streams {
         was_woken
     }
 
-    // Takes note of an event. One that isn't of an open stream is of those that were shut.
+    /// Takes note of an event. One that isn't of an open stream is of those that were shut.
     fn hear(&mut self, heard: Heard)
         ensures { TellsNothing self.old self.new }
     {
@@ -163,7 +145,7 @@ impl Streams {
         self.has_room = self.has_room || has_room;
     }
 
-    // Reads those that were shut, and closes those that were read for long enough.
+    /// Reads those that were shut, and closes those that were read for long enough.
     pub(crate) fn drain<R: Clock>(&mut self, rt: &R)
         ensures { TellsNothing self.old self.new }
     {
@@ -186,7 +168,7 @@ impl Streams {
         None
     }
 
-    // Reads once from a stream that was taken off the list, if it is open and to be read, and tells what came.
+    /// Reads once from a stream that was taken off the list, if it is open and to be read, and tells what came.
     fn read(&mut self, session: u64, sender: &WorkerBatch) -> Option<PortEvent>
         requires goes_on { GoesOn (trace_of self.old) }
         requires asked { HasAskedOnly (trace_of self.old) sender.now.end }

@@ -1,13 +1,9 @@
 //! Why a replay failed.
 
-ghost use Rattle.std.specs.Prelude.{◌≡◌};
-ghost use Rattle.replaying.specs.declared.fault.Fault.TheVariants.{NoMemory, Group, Exchange};
-
 use exchange::MakeFault;
 use group::GroupFault;
-use proto::NoMemory;
 use script::ScriptFault;
-use std::alloc::{AllocError, AllocFailed};
+use std::alloc::AllocError;
 use thiserror::Error;
 
 /// A fault; its text is the line that the program prints. They are tested in this order.
@@ -19,55 +15,15 @@ pub enum Fault {
     #[error("fault: cannot read {0}")]
     CannotRead(String),
     #[error("fault: {0}")]
-    Script(ScriptFault),
+    Script(#[from] ScriptFault),
     /// The number of workers isn't 1 to 8, or memory is missing.
     #[error("fault: {0}")]
-    Exchange(MakeFault),
+    Exchange(#[from] MakeFault),
     /// Out of memory, or a thread can't be started.
     #[error("fault: {0}")]
-    Group(GroupFault),
+    Group(#[from] GroupFault),
     #[error("fault: cannot write")]
     CannotWrite,
     #[error("fault: out of memory")]
-    NoMemory,
-}
-
-impl From<NoMemory> for Fault {
-    ghost from_gives = { λ error fault. fault ≡ NoMemory };
-
-    fn from(_error: NoMemory) -> Fault {
-        Fault::NoMemory
-    }
-}
-
-impl From<AllocError> for Fault {
-    ghost from_gives = { λ error fault. fault ≡ NoMemory };
-
-    fn from(_error: AllocError) -> Fault {
-        Fault::NoMemory
-    }
-}
-
-impl<T: Drop> From<AllocFailed<T>> for Fault {
-    ghost from_gives = { λ error fault. fault ≡ NoMemory };
-
-    fn from(_failed: AllocFailed<T>) -> Fault {
-        Fault::NoMemory
-    }
-}
-
-impl From<GroupFault> for Fault {
-    ghost from_gives = { λ error fault. fault ≡ Group error };
-
-    fn from(fault: GroupFault) -> Fault {
-        Fault::Group(fault)
-    }
-}
-
-impl From<MakeFault> for Fault {
-    ghost from_gives = { λ error fault. fault ≡ Exchange error };
-
-    fn from(fault: MakeFault) -> Fault {
-        Fault::Exchange(fault)
-    }
+    NoMemory(#[from] AllocError),
 }

@@ -13,26 +13,13 @@ use crate::fault::Fault;
 use crate::reading::script_bytes;
 use command_line::Options;
 use exchange::Exchange;
-use group::{Config, GroupWorker, run_group};
+use group::{Config, GroupWorker, Runtime, run_group};
 use proto::{Geometry, NoMemory, Terms, Trace};
 use script::{RecordingClock, ScriptClock, ScriptPort, WorkerScript, read_script};
 use segcache::Store;
 use std::alloc::{AllocError, Global};
 use std::io::{Read, Write};
-use std::sync::Wait;
-use std::thread::Threads;
-use std::time;
 use worker::OpenGate;
-
-/// The events of a script's bytes, by worker.
-fn events_in(alloc: Global, options: &Options, script: &[u8]) -> Result<Vec<WorkerScript>, Fault>
-    ensures { IfOk result (λ scripts. AreEventsOf options.entry.now.workers script.now scripts.items) }
-{
-    match read_script(alloc, script, options.workers as usize) {
-        Ok(scripts) => Ok(scripts),
-        Err(fault) => Err(Fault::Script(fault)),
-    }
-}
 
 /// The events of the script, by worker, and the bytes that its reads gave.
 fn read_events<R: Read + Drop>(
@@ -44,7 +31,7 @@ fn read_events<R: Read + Drop>(
     ensures all { IfOk result (λ r. IfSome (R.remaining script) (λ text. r.1.items ≡ text)) }
 {
     let (bytes, text) = script_bytes(alloc, options, script)?;
-    let scripts = events_in(alloc, options, bytes.as_slice())?;
+    let scripts = read_script(alloc, bytes.as_slice(), options.workers as usize)?;
     Ok((scripts, text))
 }
 
@@ -175,7 +162,7 @@ fn new_store(alloc: Global, options: &Options, geometry: Geometry) -> Result<Sto
 /// CannotRead if a read of the script fails; Script if it is too large or a line has a fault; Exchange if the options ask
 /// for none or for more than 8 workers, or memory for the exchange is refused; Group if a thread can't be started, or the
 /// group has no memory; CannotWrite if a line can't be printed; NoMemory if out of memory elsewhere.
-pub fn replay<H: Threads + Wait + time::Clock + Sync, R: Read + Drop, W: Write>(
+pub fn replay<H: Runtime, R: Read + Drop, W: Write>(
     rt: &H,
     alloc: Global,
     options: &Options,
@@ -210,7 +197,7 @@ pub fn replay<H: Threads + Wait + time::Clock + Sync, R: Read + Drop, W: Write>(
     let exchange = Exchange::new(alloc, scripts.len(), config.terms)?;
     let ports = ports_of(alloc, options, geometry, &exchange, scripts)?;
     let clock = clock_of(options);
-    let store = new_store(alloc, options, geometry)?;
+    let store = new_store(alloc, options, geometry).map_err(|_| AllocError)?;
     let report = run_group(rt, alloc, ports, exchange, config, store, clock, &OpenGate)?;
     write_lines(alloc, out, report.workers.as_slice())?;
     Ok(text)

@@ -8,7 +8,6 @@ pub mod PortEvents
 pub mod Remaining
 pub mod PortSessions
 pub mod Records
-pub mod Notes
 pub mod Following
 pub mod States
 pub mod Players

@@ -6,7 +6,6 @@ mod clock;
 mod event;
 mod fault;
 mod line;
-mod notes;
 mod player;
 mod port;
 mod reader;

@@ -11,12 +11,11 @@ ghost use Rattle.script.specs.PortSessions.{is_closed, is_paused};
 ghost use Rattle.script.specs.Players.{is_left, is_ready, events_left, NoneReady, player_state};
 ghost use Rattle.script.specs.Players.{PlayerGoesOn, IsFirst, IsCausedAt, PlaysNext};
 ghost use Rattle.script.specs.Players.{RecordsClose, EndsSession, Keeps, CountsOffer, GivesAs};
-ghost use Rattle.script.specs.Notes.{noted_record};
 ghost use Rattle.script.specs.States.{CountsGive, SetsPaused, new_player, with_faults};
+ghost use Rattle.worker_port.specs.Notes.{noted_record};
 ghost use Rattle.worker_port.specs.Ports.{is_open};
 
 use crate::ScriptEvent;
-use crate::notes::PortNote;
 use crate::remaining::{Remaining, event_session};
 use crate::sessions::{Sessions, Stage};
 use bytes::Bytes;
@@ -24,7 +23,7 @@ use proto::Trace;
 use std::alloc::{AllocError, Global};
 use std::marker::Model;
 use std::snapshot::Snapshot;
-use worker_port::{Gone, MAX_PIECE, PortEvent, PortRecord};
+use worker_port::{Gone, MAX_PIECE, PortEvent, PortNote, PortRecord};
 
 /// A script that is played. Contracts see it as `PlayerParts`.
 #[derive(Drop)]

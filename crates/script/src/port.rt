@@ -13,14 +13,13 @@ ghost use Rattle.script.specs.States.{trace_told, PlaysOn, Plays, Gives, PortGoe
 ghost use Rattle.script.specs.States.{DropsSession, IsNewPort, IsOpenWhereTold, with_faults};
 
 use crate::ScriptEvent;
-use crate::notes::PortNote;
 use crate::player::Player;
 use crate::sessions::{ScriptSession, Stage};
 use exchange::{ExchangeName, WorkerBatch};
 use proto::{Dialect, Geometry};
 use std::alloc::Global;
 use std::marker::Model;
-use worker_port::{Gone, Port, PortEvent, ToldHistory};
+use worker_port::{Gone, Port, PortEvent, PortNote, ToldHistory};
 
 /// Plays the events of a script in order, and keeps what each session is given.
 ///

@@ -5,18 +5,16 @@ use command_line::{
     Job, Options, ServeOptions, WordsFault, geometry_of, parse_words, unreadable_words,
 };
 use replaying::{cannot_read, replay};
-use serving::{seed_of, serve_to_end};
+use serving::{System, seed_of, serve};
+use std::alloc::AllocError;
 use std::fmt::Display;
 use std::fs::File;
-use std::io::{self, BufWriter, Eprint};
-use std::net::Net;
+use std::io::{self, BufWriter};
 use std::process::ExitCode;
-use std::sync::Wait;
-use std::thread::Threads;
-use std::{env, fs, time};
+use std::{env, fs};
 
 /// Replays the script in the file that the options name, with these threads.
-fn replay_file<H: Threads + Wait + time::Clock + Sync>(
+fn replay_file<H: System>(
     rt: &HostRuntime,
     threads: &H,
     options: &Options,
@@ -28,13 +26,13 @@ fn replay_file<H: Threads + Wait + time::Clock + Sync>(
     let script: File = fs::open(rt, options.file.as_str()).map_err(|error| cannot_read(
         alloc, options, &error,
     ))?;
-    let mut out = BufWriter::new(alloc, io::writer(rt)).map_err(|_| replaying::Fault::NoMemory)?;
+    let mut out = BufWriter::new(alloc, io::writer(rt)).map_err(|_| AllocError)?;
     replay(threads, alloc, options, geometry, script, &mut out)?;
     Ok(())
 }
 
 /// Serves as the options say.
-fn serve_at<H: Threads + Wait + Net + time::Clock + Eprint + Copy + Drop + Send + Sync + 'static>(
+fn serve_at<H: System>(
     rt: &HostRuntime,
     threads: &H,
     options: &ServeOptions,
@@ -43,8 +41,9 @@ fn serve_at<H: Threads + Wait + Net + time::Clock + Eprint + Copy + Drop + Send 
     let geometry = geometry_of(options.segment_size, options.segments).ok_or(
         serving::Fault::BadGeometry,
     )?;
-    let mut out = BufWriter::new(alloc, io::writer(rt)).map_err(|_| serving::Fault::NoMemory)?;
-    serve_to_end(*threads, alloc, options, geometry, seed_of(rt), &mut out)
+    let mut out = BufWriter::new(alloc, io::writer(rt)).map_err(|_| AllocError)?;
+    serve(*threads, alloc, options, geometry, seed_of(rt), &mut out)?;
+    Ok(())
 }
 
 /// What the words after the program's name ask for.
@@ -70,11 +69,7 @@ fn status<F: Display + Drop>(rt: &HostRuntime, done: Result<(), F>) -> u8 {
 }
 
 /// Does the job, and answers the exit status.
-fn run<H: Threads + Wait + Net + time::Clock + Eprint + Copy + Drop + Send + Sync + 'static>(
-    rt: &HostRuntime,
-    threads: &H,
-    job: Job,
-) -> u8 {
+fn run<H: System>(rt: &HostRuntime, threads: &H, job: Job) -> u8 {
     match job {
         Job::Help(text) => status(rt, rt.print(text).map_err(|_| "fault: cannot write")),
         Job::Replay(options) => status(rt, replay_file(rt, threads, &options)),

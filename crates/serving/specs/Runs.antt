@@ -2,7 +2,7 @@
 use Rattle.std.specs.Prelude.{◌≡◌, ℕ, ⊤, false, List, [], map, length, Option, Some}
 use mathlib.Core.Option.{some}
 use lib.ListN.{get_elem?}
-use Rattle.command_line.specs.declared.words.ServeOptions.{ServeOptions}
+use Rattle.command_line.specs.declared.options.ServeOptions.{ServeOptions}
 use Rattle.proto.specs.declared.dialect.Dialect.{Dialect}
 use Rattle.proto.specs.Sizes.{Sizes}
 use Rattle.exchange.specs.Ends.{ExchangeId}

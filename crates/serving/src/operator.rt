@@ -19,7 +19,7 @@ pub(crate) struct Watch {
 }
 
 impl Watch {
-    // None if standard error can't be watched, as where it is a file, which keeps no writer waiting.
+    /// None if standard error can't be watched, as where it is a file, which keeps no writer waiting.
     pub(crate) fn new<H: Net>(rt: &H, alloc: Global) -> Option<Watch> {
         let poll = Poll::new(rt).ok()?;
         let events = Events::with_capacity(alloc, 1).ok()?;
@@ -29,8 +29,8 @@ impl Watch {
         Some(Watch { poll, events })
     }
 
-    // A pipe that takes anything takes at least 4,096 bytes. It is registered anew, since a poll tells only of what has
-    // changed.
+    /// A pipe that takes anything takes at least 4,096 bytes. It is registered anew, since a poll tells only of what has
+    /// changed.
     fn takes_a_line(&mut self) -> bool {
         let registered = self.poll.registry().reregister(
             &mut SourceFd(&STANDARD_ERROR),

@@ -5,7 +5,6 @@ ghost use Rattle.std.specs.String.{string_bytes};
 ghost use Rattle.std.specs.Io.KnownBytes.{Appends};
 ghost use Rattle.serving.specs.Listening.{IsListeningLine};
 ghost use Rattle.worker_port.specs.Giving.{by_system_clock};
-ghost use Rattle.proto.specs.ClockAnswers.{ClockLog};
 ghost use Rattle.net.specs.Traces.{trace_of, IsNew};
 ghost use Rattle.serving.specs.Runs.{AreNewPorts, IsStoreFor, IsServed};
 
@@ -13,17 +12,20 @@ use crate::fault::Fault;
 use crate::operator::{Operator, Watch};
 use command_line::{ServeOptions, on_one_line, options_in_force};
 use exchange::{Exchange, ExchangeName};
-use group::{Config, GroupReport, run_group};
+use group::{Config, GroupReport, Runtime, run_group};
 use net::{Hand, ListenReport, Listener, MioPort, NetFault, Owner, StreamSender};
 use proto::{Geometry, MAX_SESSIONS, NoMemory, SystemClock, Terms};
 use segcache::Store;
-use std::alloc::Global;
+use std::alloc::{AllocError, Global};
 use std::io::{Eprint, Write};
 use std::net::Net;
-use std::sync::Wait;
-use std::thread::{self, JoinHandle, Threads};
-use std::time;
+use std::thread::{self, JoinHandle};
 use worker::OpenGate;
+
+/// What serving asks of the system.
+pub trait System: Runtime + Net + Eprint + Copy + Drop + Send + 'static {}
+
+impl<H: Runtime + Net + Eprint + Copy + Drop + Send + 'static> System for H {}
 
 /// What a served group leaves.
 pub type Report<H> = GroupReport<MioPort<H>, SystemClock<H>>;
@@ -31,18 +33,18 @@ pub type Report<H> = GroupReport<MioPort<H>, SystemClock<H>>;
 /// That it can't listen, for this reason.
 fn cannot_listen(alloc: Global, options: &ServeOptions, fault: NetFault) -> Fault {
     match fault {
-        NetFault::NoMemory => Fault::NoMemory,
+        NetFault::NoMemory(error) => Fault::NoMemory(error),
         NetFault::BadAddress | NetFault::Bind | NetFault::Poll => {
             match on_one_line(alloc, options.listen.as_str()) {
                 Ok(addr) => Fault::CannotListen(addr),
-                Err(_) => Fault::NoMemory,
+                Err(error) => Fault::NoMemory(error),
             }
         }
     }
 }
 
 /// A port of this exchange, with the limits of the options.
-fn new_port<H>(
+fn new_port<H: System>(
     rt: H,
     alloc: Global,
     hand: Hand,
@@ -50,8 +52,6 @@ fn new_port<H>(
     exchange: ExchangeName,
     options: &ServeOptions,
 ) -> Result<MioPort<H>, NetFault>
-where
-    H: Wait + Net + time::Clock + Copy + Drop,
     ensures { IfOk result (λ port. IsNew owner.geometry owner.dialect owner.worker exchange (trace_of port.served)) }
 {
     let mut port = MioPort::new(rt, alloc, hand, owner, exchange)?;
@@ -66,7 +66,7 @@ where
 
 /// The listener's end of the hand of a worker of the exchange, which takes as many streams as it opens sessions in a run,
 /// and its port.
-fn make_port<H>(
+fn make_port<H: System>(
     rt: H,
     alloc: Global,
     geometry: Geometry,
@@ -74,8 +74,6 @@ fn make_port<H>(
     options: &ServeOptions,
     worker: usize,
 ) -> Result<(StreamSender, MioPort<H>), NetFault>
-where
-    H: Wait + Net + time::Clock + Copy + Drop,
     ensures { IfOk result (λ made. IsNew geometry options.entry.now.dialect worker exchange.entry.now.id
         (trace_of made.1.served)) }
 {
@@ -91,15 +89,13 @@ where
 }
 
 /// A port for each worker of the exchange, and the listener's ends of their hands.
-fn make_ports<H>(
+fn make_ports<H: System>(
     rt: H,
     alloc: Global,
     geometry: Geometry,
     exchange: &Exchange,
     options: &ServeOptions,
 ) -> Result<(Vec<StreamSender>, Vec<MioPort<H>>), NetFault>
-where
-    H: Wait + Net + time::Clock + Copy + Drop,
     ensures new { IfOk result (λ made. AreNewPorts geometry options.entry.now.dialect exchange.entry.now.id
         made.1.items) }
     ensures count { IfOk result (λ made. vec_len made.1 ≡ options.entry.now.workers) }
@@ -202,15 +198,13 @@ struct Opened<H: Drop> {
 }
 
 /// Listens on the options' address, and makes the rest.
-fn open<H>(
+fn open<H: System>(
     rt: H,
     alloc: Global,
     options: &ServeOptions,
     geometry: Geometry,
     seed: u64,
 ) -> Result<Opened<H>, Fault>
-where
-    H: Wait + Net + time::Clock + Copy + Drop,
     ensures store { IfOk result (λ opened. IsStoreFor geometry seed options.entry.now opened.store) }
     ensures exchange { IfOk result (λ opened. (opened.exchange.workers ≡ options.entry.now.workers)
         × (opened.exchange.terms ≡ by_system_clock geometry)) }
@@ -227,7 +221,7 @@ where
         Ok(made) => made,
         Err(fault) => return Err(cannot_listen(alloc, options, fault)),
     };
-    let store = new_store(alloc, options, geometry, seed)?;
+    let store = new_store(alloc, options, geometry, seed).map_err(|_| AllocError)?;
     Ok(Opened {
         listener,
         hands,
@@ -238,16 +232,13 @@ where
 }
 
 /// Accepts streams in a thread of its own, up to the limit. The address is free again once it has ended.
-fn start_listening<H>(
+fn start_listening<H: System>(
     rt: H,
     watch: Option<Watch>,
     mut listener: Listener,
     mut hands: Vec<StreamSender>,
     limit: Option<u64>,
-) -> Result<JoinHandle<ListenReport>, Fault>
-where
-    H: Threads + Wait + time::Clock + Eprint + Copy + Drop + Send + 'static,
-{
+) -> Result<JoinHandle<ListenReport>, Fault> {
     thread::spawn(&rt, move || {
         os::set_thread_name(b"listener");
         let mut operator = Operator { rt, watch };
@@ -257,7 +248,7 @@ where
 }
 
 /// Runs a worker of the exchange for each port over the store, as the options say, until all have ended.
-fn run_workers<H>(
+fn run_workers<H: System>(
     rt: H,
     alloc: Global,
     ports: Vec<MioPort<H>>,
@@ -267,8 +258,6 @@ fn run_workers<H>(
     _seed: u64,
     options: &ServeOptions,
 ) -> Result<Report<H>, Fault>
-where
-    H: Threads + Wait + time::Clock + Copy + Drop + Send + Sync + 'static,
     requires store { IsStoreFor geometry _seed options.now store }
     requires count { vec_len ports ≡ options.now.workers }
     requires exchange { (exchange.workers ≡ vec_len ports) × (exchange.terms ≡ by_system_clock geometry) }
@@ -282,7 +271,7 @@ where
 }
 
 /// Accepts streams up to the options' limit, and runs the workers until they have ended.
-fn run<H>(
+fn run<H: System>(
     rt: H,
     alloc: Global,
     opened: Opened<H>,
@@ -290,8 +279,6 @@ fn run<H>(
     seed: u64,
     options: &ServeOptions,
 ) -> Result<Report<H>, Fault>
-where
-    H: Threads + Wait + Net + time::Clock + Eprint + Copy + Drop + Send + Sync + 'static,
     requires store { IsStoreFor geometry seed options.now opened.store }
     requires count { vec_len opened.ports ≡ options.now.workers }
     requires exchange { (opened.exchange.workers ≡ vec_len opened.ports)
@@ -320,15 +307,13 @@ where
 }
 
 /// Tells the operator the options in force, and prints that it listens.
-fn announce_all<H, W: Write>(
+fn announce_all<H: System, W: Write>(
     rt: H,
     alloc: Global,
     options: &ServeOptions,
     port: u16,
     out: &mut W,
 ) -> Result<(), Fault>
-where
-    H: Eprint + Net + Drop,
     ensures { OnOk result ((line : List ℕ) × IsListeningLine (string_bytes options.entry.now.listen) port line
         × Appends (W.contents out.old) (W.contents out.new) line) }
 {
@@ -348,7 +333,7 @@ where
 /// can't be printed; NoThread if the thread that accepts can't be started; Exchange if out of memory for the
 /// exchange; Group if the group doesn't run, since a thread of it can't be started or it has no memory; NoMemory if
 /// memory is missing elsewhere.
-pub fn serve<H, W: Write>(
+pub fn serve<H: System, W: Write>(
     rt: H,
     alloc: Global,
     options: &ServeOptions,
@@ -356,8 +341,6 @@ pub fn serve<H, W: Write>(
     seed: u64,
     out: &mut W,
 ) -> Result<Report<H>, Fault>
-where
-    H: Threads + Wait + Net + time::Clock + Eprint + Copy + Drop + Send + Sync + 'static,
     ensures announced { OnOk result ((port : ℕ) × (line : List ℕ)
         × IsListeningLine (string_bytes options.entry.now.listen) port line
         × Appends (W.contents out.old) (W.contents out.new) line) }
@@ -366,30 +349,4 @@ where
     let opened = open(rt, alloc, options, geometry, seed)?;
     announce_all(rt, alloc, options, opened.listener.port(), out)?;
     run(rt, alloc, opened, geometry, seed, options)
-}
-
-/// Serves as `serve` does, and drops what the group left.
-///
-/// # Errors
-///
-/// As of `serve`.
-pub fn serve_to_end<H, W: Write>(
-    rt: H,
-    alloc: Global,
-    options: &ServeOptions,
-    geometry: Geometry,
-    seed: u64,
-    out: &mut W,
-) -> Result<(), Fault>
-where
-    H: Threads + Wait + Net + time::Clock + Eprint + Copy + Drop + Send + Sync + 'static,
-    ensures announced { OnOk result ((port : ℕ) × (line : List ℕ)
-        × IsListeningLine (string_bytes options.entry.now.listen) port line
-        × Appends (W.contents out.old) (W.contents out.new) line) }
-    // there was such a report
-    ensures served { OnOk result ((report : GroupReport (MioPort H) ClockLog)
-        × IsServed geometry seed options.entry.now report) }
-{
-    serve(rt, alloc, options, geometry, seed, out)?;
-    Ok(())
 }

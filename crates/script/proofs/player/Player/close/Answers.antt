@@ -4,6 +4,7 @@ use Rattle.worker_port.specs.declared.events.PortRecord.{PortRecord}
 use Rattle.worker_port.specs.declared.events.PortRecord.TheVariants as was
 use Rattle.worker_port.specs.Ports.{is_in, fed, is_entry}
 use Rattle.worker_port.specs.PortFacts.{port_facts}
+use Rattle.worker_port.specs.Notes.{noted_record}
 use Rattle.worker_port.proofs.Facts.{about}
 use Rattle.worker_port.proofs.Lists.{ended_same}
 use Rattle.script.specs.declared.sessions.Stage.TheVariants.{Closed}
@@ -13,7 +14,6 @@ use Rattle.script.specs.PortSessions.{with_stage}
 use Rattle.script.specs.PortEvents.{plays_from}
 use Rattle.script.specs.Remaining.{in_order}
 use Rattle.script.specs.Records.{opened_by}
-use Rattle.script.specs.Notes.{noted_record}
 use Rattle.script.specs.declared.player.Player.{Player}
 use Rattle.script.specs.Players.{Agrees, events_left, parts_of, IsCausedAt}
 use Rattle.script.specs.Following.{MayGo}

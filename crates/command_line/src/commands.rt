@@ -1,0 +1,131 @@
+//! The commands and their options, as they are shown and read.
+
+use crate::number_option::{NumberOption, REPLAY_OPTIONS, SERVE_OPTIONS, WORKERS};
+use clap::builder::ValueParser;
+use clap::{Arg, ArgAction, Command};
+use proto::VERSION;
+use std::alloc::{AllocError, Global};
+
+/// The names of the options that have no number.
+pub(crate) const FILE: &str = "file";
+
+pub(crate) const LISTEN: &str = "listen";
+
+pub(crate) const LENIENT: &str = "lenient";
+
+pub(crate) const UPDATE_IN_PLACE: &str = "update-in-place";
+
+/// The name that this option had before.
+const COUNTERS_IN_PLACE: &str = "counters-in-place";
+
+pub(crate) const EVICT: &str = "evict";
+
+/// The values of `--evict`.
+const OLDEST: &str = "oldest";
+
+pub(crate) const LEAST_READ: &str = "least-read";
+
+const LENIENT_HELP: &str =
+    "Take what many clients send: spaces before a line's end, lines of up to 32768 bytes in place of 2048, delete with a time of 0, and the commands touch, append, prepend, stats, version and verbosity";
+
+const UPDATE_IN_PLACE_HELP: &str =
+    "incr, decr, append and prepend change a value where it stands if the new one fits there, so that it keeps its TTL";
+
+const EVICT_HELP: &str =
+    "Which segments are merged or evicted: the oldest, or of the first quarter those whose items were read least";
+
+const REPLAY_HELP: &str = "A script has a line for each event, with single spaces between its words:
+  open W S      session S begins at worker W
+  send W S HEX  its bytes come, in hexadecimal
+  gone W S      its peer has gone
+Workers are counted from 0. A session that begins has a number above those before it at its worker, from 1 on.
+
+For each session that was opened, in order of worker and session, the line `W S HEX` is printed, where HEX is all that the session was given, or `-` where that is nothing.
+
+Exit status: 0 done, 1 a fault (one line on standard error), 2 bad words";
+
+const SERVE_HELP: &str =
+    "The first line on standard output is `listening on ADDR`, with the real port. The first line on standard error has all options that are in force.
+
+Exit status: 0 done, 1 a fault (the last line on standard error), 2 bad words";
+
+fn number_option<'a>(alloc: Global, option: &NumberOption) -> Arg<'a> {
+    Arg::new(alloc, option.name)
+        .long(option.name)
+        .value_name(option.value_name)
+        .help(option.help)
+        .value_parser(ValueParser::unsigned(0, u64::MAX))
+        .default_values(option.default)
+}
+
+/// An option that has no value.
+fn flag<'a>(alloc: Global, name: &'static str, help: &'static str) -> Arg<'a> {
+    Arg::new(alloc, name)
+        .long(name)
+        .action(ArgAction::SetTrue)
+        .help(help)
+}
+
+fn evict<'a>(alloc: Global) -> Arg<'a> {
+    Arg::new(alloc, EVICT)
+        .long(EVICT)
+        .value_name("RULE")
+        .help(EVICT_HELP)
+        .value_parser(ValueParser::Names(&[OLDEST, LEAST_READ]))
+        .default_values(&[OLDEST])
+}
+
+/// The command with these options, and with those that both jobs have. So many workers run if the words don't say.
+fn with_options<'a>(
+    alloc: Global,
+    command: Command<'a>,
+    workers: &'static [&'static str],
+    options: &[NumberOption],
+) -> Result<Command<'a>, AllocError> {
+    let mut command = command.arg(number_option(alloc, &WORKERS).default_values(workers))?;
+    for option in options {
+        command = command.arg(number_option(alloc, option))?;
+    }
+    command
+        .arg(flag(alloc, UPDATE_IN_PLACE, UPDATE_IN_PLACE_HELP).alias(COUNTERS_IN_PLACE)?)?
+        .arg(evict(alloc))?
+        .arg(flag(alloc, LENIENT, LENIENT_HELP))
+}
+
+fn replay_command<'a>(alloc: Global) -> Result<Command<'a>, AllocError> {
+    let file = Arg::new(alloc, FILE)
+        .value_name("FILE")
+        .help("The script")
+        .required(true);
+    Command::new(alloc, "replay")
+        .about("Runs a script and prints what each session was given")
+        .override_usage("segcached replay [OPTIONS] <FILE>")
+        .after_help(REPLAY_HELP)
+        .arg(file)
+}
+
+fn serve_command<'a>(alloc: Global) -> Result<Command<'a>, AllocError> {
+    let listen = Arg::new(alloc, LISTEN)
+        .long(LISTEN)
+        .value_name("ADDR")
+        .help("An IP address and a port; port 0 is any free one")
+        .required(true);
+    Command::new(alloc, "serve")
+        .about("Listens on an address and serves")
+        .override_usage("segcached serve [OPTIONS] --listen <ADDR>")
+        .after_help(SERVE_HELP)
+        .arg(listen)
+}
+
+/// The command of all words.
+pub(crate) fn command<'a>(alloc: Global) -> Result<Command<'a>, AllocError> {
+    let replay = with_options(alloc, replay_command(alloc)?, &["1"], &REPLAY_OPTIONS)?;
+    let serve = with_options(alloc, serve_command(alloc)?, &["2"], &SERVE_OPTIONS)?;
+    Command::new(alloc, "segcached")
+        .about("A cache server: memcached's text protocol over Segcache's segments")
+        .version(VERSION)
+        .no_binary_name(true)
+        .subcommand_required(true)
+        .subcommand(replay)?
+        .subcommand(serve)
+}

@@ -1,0 +1,61 @@
+//! What the program is asked to do.
+
+use proto::{Dialect, Eviction};
+
+/// What `segcached replay` is told.
+#[derive(Drop)]
+pub struct Options {
+    /// The path of the script.
+    pub file: String,
+    /// How many workers run, 1 to 8.
+    pub workers: u64,
+    /// The bytes of a segment, 4,096 to 1,048,576. Whether it is a power of two is tested later.
+    pub segment_size: u64,
+    /// The number of segments, 8 to 65,536.
+    pub segments: u64,
+    /// The clock's first answer, in seconds.
+    pub now: u64,
+    /// How many seconds more each further answer is.
+    pub tick: u64,
+    /// The most bytes that a port accepts at once, 1 to 65,536; 0 is any number.
+    pub accept: u64,
+    /// Which give of each worker's port finds its peer gone, counted from 1; 0 is none.
+    pub fail_give: u64,
+    pub dialect: Dialect,
+    /// Whether `incr`, `decr`, `append` and `prepend` change a value where it stands.
+    pub update_in_place: bool,
+    pub eviction: Eviction,
+}
+
+/// What `segcached serve` is told.
+#[derive(Drop)]
+pub struct ServeOptions {
+    /// The address: an IP address and a port.
+    pub listen: String,
+    /// How many workers run, 1 to 8.
+    pub workers: u64,
+    /// How many connections are accepted before serving ends; None is any number.
+    pub sessions: Option<u64>,
+    /// After how many seconds a silent connection is closed, 1 to 4,294,967,295; None is never.
+    pub idle: Option<u64>,
+    /// For how many microseconds a thread looks for work before it sleeps, 0 to 1,000,000; None leaves it to each
+    /// thread.
+    pub spin: Option<u32>,
+    /// The bytes of a segment, 4,096 to 1,048,576. Whether it is a power of two is tested later.
+    pub segment_size: u64,
+    /// The number of segments, 8 to 65,536.
+    pub segments: u64,
+    pub dialect: Dialect,
+    /// Whether `incr`, `decr`, `append` and `prepend` change a value where it stands.
+    pub update_in_place: bool,
+    pub eviction: Eviction,
+}
+
+/// What the words ask for.
+#[derive(Drop)]
+pub enum Job {
+    /// To print this text.
+    Help(String),
+    Replay(Options),
+    Serve(ServeOptions),
+}

@@ -4,7 +4,7 @@ ghost use Rattle.std.specs.Prelude.{◌≡◌, ℕ, ◌+◌, ◌<◌, [], ◌∷
 ghost use Rattle.std.specs.Prelude.{MatchOption, OnOk, OnErr};
 ghost use Rattle.script.specs.PortSessions.{ScriptSessionState, newest, session_entry};
 ghost use Rattle.script.specs.PortSessions.{is_session_open, is_closed, is_paused, with_stage};
-ghost use Rattle.script.specs.PortSessions.{IsPositionOf, ChangesAt, AcceptsAt};
+ghost use Rattle.script.specs.PortSessions.{IsPositionOf, ChangesScriptSession, AcceptsAt};
 ghost use Rattle.std.specs.List.Sorted.{IsStrictlyIncreasing};
 
 use std::alloc::{AllocError, Global};
@@ -185,7 +185,7 @@ impl Sessions {
     /// Writes what becomes of a session. False if it isn't open, and then nothing changes.
     pub(crate) fn change(&mut self, number: u64, stage: Stage) -> bool
         ensures open { result ≡ is_session_open self.old number }
-        ensures changes { result ≡ true → ChangesAt self.old number (with_stage stage) self.new }
+        ensures changes { result ≡ true → ChangesScriptSession self.old number (with_stage stage) self.new }
         ensures same { result ≡ false → self.new ≡ self.old }
     {
         let Some(at) = position_of(self.entries.as_slice(), number) else {

@@ -12,7 +12,4 @@ pub mod Notes
 pub mod Following
 pub mod States
 pub mod Players
-pub mod Execution
-pub mod SequentialSessions
-pub mod SequentialReplays
 pub mod ClockLeading

@@ -103,9 +103,11 @@ impl Model for Sessions {
 }
 
 /// What is found by its number.
-pub(crate) trait Numbered {
+pub trait Numbered {
+    /// Its number, in contracts.
     ghost number_of: { Self → ℕ };
 
+    /// Its number.
     fn number(&self) -> u64
         ensures { result ≡ Self.number_of self.now };
 }
@@ -121,7 +123,7 @@ impl Numbered for ScriptSession {
 }
 
 /// The position of the session with this number.
-pub(crate) fn position_of<S: Numbered>(sessions: &[S], number: u64) -> Option<usize>
+pub fn position_of<S: Numbered>(sessions: &[S], number: u64) -> Option<usize>
     requires { IsStrictlyIncreasing (map S.number_of sessions.now) }
     ensures { IsPositionOf (map S.number_of sessions.now) number result }
 {

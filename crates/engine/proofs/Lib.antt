@@ -7,5 +7,3 @@ pub mod TouchLemmas
 pub mod JoinLemmas
 pub mod KeepingLemmas
 pub mod ReachingLemmas
-pub mod PlainLemmas
-pub mod PlainSteps

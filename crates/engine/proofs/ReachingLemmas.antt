@@ -14,7 +14,7 @@ use Rattle.proto.specs.Sizes.{Sizes}
 use Rattle.proto.specs.Cache.{Cache, empty_cache}
 use Rattle.proto.specs.Steps.{Step}
 use Rattle.proto.specs.History.{max_moment, MomentsFrom, answers_by, Chain, NumbersFrom, worker_share, Legal}
-use Rattle.engine.specs.Reaching.{moments_after, last_or, last_cache, Reaches}
+use Rattle.engine.specs.Reaching.{last_or, last_cache, Reaches}
 use Rattle.proto.proofs.CountLemmas.{share_mine, share_other}
 use Rattle.proto.proofs.HistoryLemmas.{numbered}
 
@@ -117,11 +117,3 @@ legal_of sizes h c m r = record {
   numbers = λ worker. numbered (worker_share h worker) (r.numbers worker);
   counts = r.counts;
 }
-
--- the moment of one more request is that of the clock's next answer
-pub times_more : (last : ℕ) (answers : List ℕ) (n : ℕ)
-    → moments_after last (answers ++ n ∷ [])
-    ≡ moments_after last answers ++ moment_after (last_or last (moments_after last answers)) n ∷ []
-times_more last [] n = refl
-times_more last (a ∷ answers) n = ap (λ (l : List ℕ). moment_after last a ∷ l)
-    (times_more (moment_after last a) answers n)

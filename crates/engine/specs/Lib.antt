@@ -11,7 +11,3 @@ pub mod Finding
 pub mod Showing
 pub mod Engines
 pub mod Reaching
-pub mod PlainEntries
-pub mod PlainWrites
-pub mod PlainState
-pub mod Plain

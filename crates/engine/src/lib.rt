@@ -1,5 +1,4 @@
-//! The commands of the cache, over any map of live entries; what the storage thread asks of a store and of a clock;
-//! and the plain store, which forgets nothing and is there to be compared with.
+//! The commands of the cache, over any map of live entries; what the storage thread asks of a store and of a clock.
 #![tactic(auto)]
 
 mod commands;
@@ -8,7 +7,6 @@ mod hits;
 mod laws;
 mod live_map;
 mod number;
-mod plain_map;
 mod scratch;
 mod storage_engine;
 mod store;
@@ -17,7 +15,6 @@ pub use commands::Engine;
 pub use deadline::has_arrived;
 pub use laws::limits;
 pub use live_map::{EntryRef, LiveMap};
-pub use plain_map::{PlainMap, PlainStore};
 pub use proto::Clock;
 pub use storage_engine::{MAX_MOMENT, StorageEngine};
 pub use store::StoreMap;

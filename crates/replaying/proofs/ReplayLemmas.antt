@@ -24,9 +24,8 @@ use Rattle.engine.specs.Reaching.{moments_after}
 use Rattle.engine.proofs.ReachingLemmas.{moments, moment_after}
 use Rattle.storage_thread.specs.Serving.{IsTimed}
 use Rattle.script.specs.declared.event.ScriptEvent.{ScriptEvent}
-use Rattle.script.specs.Clocks.{ClockState, answer_of, first_answers}
+use Rattle.script.specs.Clocks.{ClockState, answer_of, first_answers, AreTimed}
 use Rattle.script.specs.Scripts.{Workers, AreEventsOf}
-use Rattle.script.specs.SequentialSessions.{AreTimed}
 use Rattle.worker_port.specs.declared.events.PortRecord.{PortRecord}
 use Rattle.worker_port.specs.declared.events.PortRecord.TheVariants as was
 use Rattle.worker_port.specs.Ports.{fed, given, is_in}

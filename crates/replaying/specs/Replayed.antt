@@ -20,9 +20,8 @@ use Rattle.session_book.specs.declared.causes.EndCause.TheVariants as causes
 use Rattle.storage_thread.specs.Keeping.{MayAlwaysForgetNothing}
 use Rattle.script.specs.declared.event.ScriptEvent.{ScriptEvent}
 use Rattle.script.specs.Events.{sessions_opened, sent_bytes, goes_in_script}
-use Rattle.script.specs.Clocks.{ClockState}
+use Rattle.script.specs.Clocks.{ClockState, AreTimed}
 use Rattle.script.specs.Scripts.{Workers, AreEventsOf}
-use Rattle.script.specs.SequentialSessions.{AreTimed}
 use Rattle.replaying.specs.Printed.{printed_line}
 
 -- What came of a session: its bytes that were read, those that it was given, and why it ended; None where it found no

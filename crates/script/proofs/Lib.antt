@@ -10,9 +10,5 @@ pub mod ToldLemmas
 pub mod FollowLemmas
 pub mod PlayedLemmas
 pub mod StageLemmas
-pub mod MessageLists
-pub mod Histories
-pub mod Serving
 pub mod Positions
-pub mod Running
 pub mod Sends

@@ -20,7 +20,7 @@ use Rattle.script.specs.declared.sessions.Stage.TheVariants.{Closed}
 use Rattle.script.specs.PortEvents.{event_session, events_without, plays_from, is_playable}
 use Rattle.script.specs.PortSessions.{ScriptSessionState, numbers, newest, last_from, session_entry, is_some_and}
 use Rattle.script.specs.PortSessions.{is_closed, is_paused, was_closed, is_session_open}
-use Rattle.script.specs.PortSessions.{is_session_paused, with_stage, with_output, ChangesAt}
+use Rattle.script.specs.PortSessions.{is_session_paused, with_stage, with_output, ChangesScriptSession}
 use Rattle.script.specs.Remaining.{RemainingState, in_order}
 use Rattle.script.specs.Records.{opened_sessions, opened_by}
 use Rattle.script.specs.Players.{is_left, is_ready, events_left, NoneReady, Agrees, IsPlayerConsistent, IsFirst}
@@ -239,7 +239,7 @@ map_some f None x e = absurd (cc)
 
 -- if no entry's number is above the newest, none is after one session has changed
 pub rising_at : (ss ss' : List ScriptSessionState) (s : ℕ) (f : ScriptSessionState → ScriptSessionState)
-    → ChangesAt ss s f ss'
+    → ChangesScriptSession ss s f ss'
     → ((t : ℕ) (x : ScriptSessionState) → session_entry ss t ≡ Some x → t ≤ newest ss)
     → (t : ℕ) (x : ScriptSessionState)
     → session_entry ss' t ≡ Some x → t ≤ newest ss'
@@ -253,19 +253,19 @@ rising_at ss ss' s f a rising t x e =
 -- a change of one session leaves what a test says of another
 pub test_other : (p : ScriptSessionState → Bool) (ss ss' : List ScriptSessionState) (s : ℕ)
     (f : ScriptSessionState → ScriptSessionState)
-    → ChangesAt ss s f ss' → (t : ℕ) → t ≢ s → is_some_and p (session_entry ss' t) ≡ is_some_and p (session_entry ss t)
+    → ChangesScriptSession ss s f ss' → (t : ℕ) → t ≢ s → is_some_and p (session_entry ss' t) ≡ is_some_and p (session_entry ss t)
 test_other p ss ss' s f a t ne = ap (is_some_and p) (a.others t ne)
 
 -- what a test says of the session that changes is what it says of the changed entry
 pub test_here : (p : ScriptSessionState → Bool) (ss ss' : List ScriptSessionState) (s : ℕ)
     (f : ScriptSessionState → ScriptSessionState) (x : ScriptSessionState)
-    → ChangesAt ss s f ss' → session_entry ss s ≡ Some x → is_some_and p (session_entry ss' s) ≡ p (f x)
+    → ChangesScriptSession ss s f ss' → session_entry ss s ≡ Some x → is_some_and p (session_entry ss' s) ≡ p (f x)
 test_here p ss ss' s f x a e = ap (is_some_and p) (a.here ∙ ap (option_map f) e)
 
 -- a test that the change leaves as it was
 pub test_same : (p : ScriptSessionState → Bool) (ss ss' : List ScriptSessionState) (s : ℕ)
     (f : ScriptSessionState → ScriptSessionState) (x : ScriptSessionState)
-    → ChangesAt ss s f ss' → session_entry ss s ≡ Some x → p (f x) ≡ p x → (t : ℕ)
+    → ChangesScriptSession ss s f ss' → session_entry ss s ≡ Some x → p (f x) ≡ p x → (t : ℕ)
     → is_some_and p (session_entry ss' t) ≡ is_some_and p (session_entry ss t)
 test_same p ss ss' s f x a e same t =
     either_way t s
@@ -364,7 +364,7 @@ brought_back stay r =
 -- if bytes are put after a session's output and recorded as accepted, its entry still agrees with the list
 pub agrees_accepted : (ss ss' : List ScriptSessionState) (l : List PortRecord) (s : ℕ) (b : List ℕ)
     (x : ScriptSessionState)
-    → ChangesAt ss s (with_output b) ss' → session_entry ss s ≡ Some x → Agrees (session_entry ss s) (port_facts l s)
+    → ChangesScriptSession ss s (with_output b) ss' → session_entry ss s ≡ Some x → Agrees (session_entry ss s) (port_facts l s)
     → Agrees (session_entry ss' s) (port_facts (l ++ was.Accepted s b ∷ []) s)
 agrees_accepted ss ss' l s b x a e h =
     let old : Agrees (Some x) (port_facts l s) =
@@ -382,7 +382,7 @@ or_yes false = refl
 
 -- if a session is closed and its peer recorded as gone, its entry still agrees with the list
 pub agrees_gone : (ss ss' : List ScriptSessionState) (l : List PortRecord) (s : ℕ) (x : ScriptSessionState)
-    → ChangesAt ss s (with_stage Closed) ss' → session_entry ss s ≡ Some x
+    → ChangesScriptSession ss s (with_stage Closed) ss' → session_entry ss s ≡ Some x
     → Agrees (session_entry ss s) (port_facts l s)
     → Agrees (session_entry ss' s) (port_facts (l ++ was.Gone s ∷ []) s)
 agrees_gone ss ss' l s x a e h =
@@ -395,7 +395,7 @@ agrees_gone ss ss' l s x a e h =
 
 -- if a session is closed and recorded as shut, its entry still agrees with the list
 pub agrees_shut : (ss ss' : List ScriptSessionState) (l : List PortRecord) (s : ℕ) (x : ScriptSessionState)
-    → ChangesAt ss s (with_stage Closed) ss' → session_entry ss s ≡ Some x
+    → ChangesScriptSession ss s (with_stage Closed) ss' → session_entry ss s ≡ Some x
     → Agrees (session_entry ss s) (port_facts l s)
     → Agrees (session_entry ss' s) (port_facts (l ++ was.Shut s ∷ []) s)
 agrees_shut ss ss' l s x a e h =
@@ -410,7 +410,7 @@ agrees_shut ss ss' l s x a e h =
 -- if a session that stays open, or stays closed, gets another stage, its entry still agrees with the list
 pub agrees_stage : (ss ss' : List ScriptSessionState) (l : List PortRecord) (s : ℕ) (stage : Stage)
     (x : ScriptSessionState)
-    → ChangesAt ss s (with_stage stage) ss' → session_entry ss s ≡ Some x → is_closed stage ≡ is_closed x.stage
+    → ChangesScriptSession ss s (with_stage stage) ss' → session_entry ss s ≡ Some x → is_closed stage ≡ is_closed x.stage
     → Agrees (session_entry ss s) (port_facts l s)
     → Agrees (session_entry ss' s) (port_facts l s)
 agrees_stage ss ss' l s stage x a e same h =

@@ -33,16 +33,6 @@ pub rises : (numbers : List ℕ) (i j : ℕ) → IsStrictlyIncreasing numbers �
     → get_or numbers i 0 < get_or numbers j 0
 rises numbers i j rising lt within = AllPairs-from_increasing numbers rising i j 0 lt within
 
--- two numbers at different positions differ
-pub apart_at : (numbers : List ℕ) (i j : ℕ) → IsStrictlyIncreasing numbers → i < length numbers → j < length numbers
-    → (i ≡ j → ⊥)
-    → get_or numbers i 0 ≡ get_or numbers j 0 → ⊥
-apart_at numbers i j rising within inside apart is =
-    elim (cases_lt i j) [
-      | inl below ↦ let less = rises numbers i j rising below inside in omega arith
-      | inr above ↦ let more = rises numbers j i rising (omega arith) within in omega arith
-    ]
-
 -- if the search finds the number, it stands there
 pub position_found : {A : Type 0} (f : A → ℕ) (xs : List A) (n i : ℕ) → i < length xs
     → HoldsAt (λ (s : A). nat_cmp (f s) n ≡ Equal) xs i

@@ -9,7 +9,7 @@ use Rattle.std.specs.Prelude.{Contains}
 use Rattle.script.specs.declared.sessions.Stage.{Stage}
 use Rattle.script.specs.PortSessions.{ScriptSessionState, numbers, newest, last_from, session_entry, is_closed}
 use Rattle.script.specs.PortSessions.{is_session_open, is_some_and, with_stage}
-use Rattle.script.specs.PortSessions.{with_output, ChangesAt, AcceptsAt}
+use Rattle.script.specs.PortSessions.{with_output, ChangesScriptSession, AcceptsAt}
 use Rattle.script.proofs.Positions.{rises, rising_more}
 
 -- ---- rising numbers
@@ -157,7 +157,7 @@ rises_set xs s at y h lt is y_is = subst IsStrictlyIncreasing (sym (numbers_set 
 changed : (xs : List ScriptSessionState) (s at : ℕ) (f : ScriptSessionState → ScriptSessionState)
     (x : ScriptSessionState) → IsStrictlyIncreasing (numbers xs)
     → at < length xs → ((e : ScriptSessionState) → (get_or xs at e).number ≡ s) → x ≡ get_or xs at x → (f x).number ≡ s
-    → ChangesAt xs s f (slice_set xs at (f x))
+    → ChangesScriptSession xs s f (slice_set xs at (f x))
 changed xs s at f x h lt is x_is y_is =
     let y = f x in
     let old : session_entry xs s ≡ Some x = placed_as xs s at x h lt is x_is in record {
@@ -172,7 +172,7 @@ changed xs s at f x h lt is x_is y_is =
 pub stage_changed : (xs : List ScriptSessionState) (s at : ℕ) (stage : Stage) (x : ScriptSessionState)
     → IsStrictlyIncreasing (numbers xs)
     → at < length xs → ((e : ScriptSessionState) → (get_or xs at e).number ≡ s) → x ≡ get_or xs at x
-    → ChangesAt xs s (with_stage stage) (slice_set xs at (with_stage stage x))
+    → ChangesScriptSession xs s (with_stage stage) (slice_set xs at (with_stage stage x))
 stage_changed xs s at stage x h lt is x_is =
     changed xs s at (with_stage stage) x h lt is x_is (ap (λ (z : ScriptSessionState). z.number) x_is ∙ is x)
 

@@ -9,7 +9,7 @@ use Rattle.script.specs.declared.sessions.Stage.{Stage}
 use Rattle.script.specs.PortEvents.{event_session}
 use Rattle.script.specs.Remaining.{RemainingState, in_order}
 use Rattle.script.specs.PortSessions.{ScriptSessionState, newest, last_from, session_entry, is_session_open, is_closed}
-use Rattle.script.specs.PortSessions.{is_paused, was_closed, with_stage, ChangesAt}
+use Rattle.script.specs.PortSessions.{is_paused, was_closed, with_stage, ChangesScriptSession}
 use Rattle.script.specs.States.{SetsPaused}
 use Rattle.script.specs.Players.{Agrees, events_left, NoneReady, player_state, IsPlayerConsistent}
 use Rattle.proto.proofs.CountLemmas.{either_way}
@@ -23,7 +23,7 @@ pub record ChangesStage (p : Player) (ss' : List ScriptSessionState) (r : Remain
     : Type 0 where
   pub was_open : is_session_open p.sessions s ≡ true
   pub stays_open : is_closed stage ≡ false
-  pub at : ChangesAt p.sessions s (with_stage stage) ss'
+  pub at : ChangesScriptSession p.sessions s (with_stage stage) ss'
   pub order : in_order r ≡ in_order p.events
 
 -- the same sessions are closed

@@ -1,5 +1,9 @@
--- Clocks whose answers are known beforehand.
-use Rattle.std.specs.Prelude.{ℕ, zero, suc, ◌+◌, ◌-◌, ◌*◌, ◌^◌, min, List, [], ◌∷◌, ◌++◌}
+-- Clocks whose answers are known beforehand, and the histories that have them.
+use Rattle.std.specs.Prelude.{◌≡◌, ℕ, zero, suc, ◌+◌, ◌-◌, ◌*◌, ◌^◌, min, List, [], ◌∷◌, ◌++◌, length, map}
+use Rattle.proto.specs.declared.history.Answered.{Answered}
+use Rattle.proto.specs.ClockAnswers.{GivenAnswer}
+use Rattle.proto.specs.History.{answers_by}
+use Rattle.engine.specs.Reaching.{moments_after}
 
 -- the next answer, and how much more each further one is
 pub record ClockState : Type 0 where
@@ -17,3 +21,8 @@ answer_of clock n = min (clock.next + clock.tick * n) (2 ^ 64 - 1)
 abbrev pub first_answers : ClockState → ℕ → List ℕ
 first_answers clock zero = []
 first_answers clock (suc n) = first_answers clock n ++ answer_of clock n ∷ []
+
+-- the clock's first answers are those of the history, and gave it its moments
+pub record AreTimed (clock : ClockState) (history : List Answered) : Type 0 where
+  pub answers : map (λ (a : GivenAnswer). a.seconds) (answers_by [] history) ≡ first_answers clock (length history)
+  pub moments : map (λ e. e.moment) history ≡ moments_after 0 (first_answers clock (length history))

@@ -11,7 +11,4 @@ pub mod Records
 pub mod Following
 pub mod States
 pub mod Players
-pub mod Execution
-pub mod SequentialSessions
-pub mod SequentialReplays
 pub mod ClockLeading

@@ -66,7 +66,7 @@ abbrev pub with_output : List ℕ → ScriptSessionState → ScriptSessionState
 with_output bytes x = record x { output = x.output ++ bytes }
 
 -- one session changes, and the others stay
-pub record ChangesAt (old : List ScriptSessionState) (session : ℕ) (change : ScriptSessionState → ScriptSessionState)
+pub record ChangesScriptSession (old : List ScriptSessionState) (session : ℕ) (change : ScriptSessionState → ScriptSessionState)
     (new : List ScriptSessionState) : Type 0 where
   pub numbers_are : numbers new ≡ numbers old
   pub here : session_entry new session ≡ option_map change (session_entry old session)
@@ -76,4 +76,4 @@ pub record ChangesAt (old : List ScriptSessionState) (session : ℕ) (change : S
 pub record AcceptsAt (old : List ScriptSessionState) (session : ℕ) (bytes : List ℕ)
     (new : List ScriptSessionState) : Type 0 where
   pub was_open : is_session_open old session ≡ true
-  pub at : ChangesAt old session (with_output bytes) new
+  pub at : ChangesScriptSession old session (with_output bytes) new

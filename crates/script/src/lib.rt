@@ -1,5 +1,4 @@
-//! Scripts: what the peers of a run do, as lines of text; the clock and the port that play one to a group; and the
-//! sequential replay, the plain program on one thread that a group is compared with.
+//! Scripts: what the peers of a run do, as lines of text; and the clock and the port that play one to a group.
 #![tactic(auto)]
 
 mod clock;
@@ -10,8 +9,6 @@ mod player;
 mod port;
 mod reader;
 mod remaining;
-mod sequential_replay;
-mod sequential_session;
 mod sessions;
 mod worker_script;
 
@@ -20,6 +17,5 @@ pub use event::ScriptEvent;
 pub use fault::{LineFault, ScriptFault};
 pub use port::ScriptPort;
 pub use reader::{MAX_SCRIPT, read_script};
-pub use sequential_replay::{SessionOutput, replay_sequentially};
-pub use sessions::ScriptSession;
+pub use sessions::{Numbered, ScriptSession, position_of};
 pub use worker_script::WorkerScript;

@@ -4,7 +4,7 @@ ghost use Rattle.std.specs.Prelude.{◌≡◌, ℕ, ◌+◌, ◌<◌, [], ◌∷
 ghost use Rattle.std.specs.Prelude.{MatchOption, OnOk, OnErr};
 ghost use Rattle.script.specs.PortSessions.{ScriptSessionState, newest, session_entry};
 ghost use Rattle.script.specs.PortSessions.{is_session_open, is_closed, is_paused, with_stage};
-ghost use Rattle.script.specs.PortSessions.{IsPositionOf, ChangesAt, AcceptsAt};
+ghost use Rattle.script.specs.PortSessions.{IsPositionOf, ChangesScriptSession, AcceptsAt};
 ghost use Rattle.std.specs.List.Sorted.{IsStrictlyIncreasing};
 
 use std::alloc::{AllocError, Global};
@@ -103,9 +103,11 @@ impl Model for Sessions {
 }
 
 /// What is found by its number.
-pub(crate) trait Numbered {
+pub trait Numbered {
+    /// Its number, in contracts.
     ghost number_of: { Self → ℕ };
 
+    /// Its number.
     fn number(&self) -> u64
         ensures { result ≡ Self.number_of self.now };
 }
@@ -121,7 +123,7 @@ impl Numbered for ScriptSession {
 }
 
 /// The position of the session with this number.
-pub(crate) fn position_of<S: Numbered>(sessions: &[S], number: u64) -> Option<usize>
+pub fn position_of<S: Numbered>(sessions: &[S], number: u64) -> Option<usize>
     requires { IsStrictlyIncreasing (map S.number_of sessions.now) }
     ensures { IsPositionOf (map S.number_of sessions.now) number result }
 {
@@ -185,7 +187,7 @@ impl Sessions {
     /// Writes what becomes of a session. False if it isn't open, and then nothing changes.
     pub(crate) fn change(&mut self, number: u64, stage: Stage) -> bool
         ensures open { result ≡ is_session_open self.old number }
-        ensures changes { result ≡ true → ChangesAt self.old number (with_stage stage) self.new }
+        ensures changes { result ≡ true → ChangesScriptSession self.old number (with_stage stage) self.new }
         ensures same { result ≡ false → self.new ≡ self.old }
     {
         let Some(at) = position_of(self.entries.as_slice(), number) else {

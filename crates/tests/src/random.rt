@@ -3,8 +3,9 @@
 use crate::list_cache::ListCache;
 use crate::made::{Spelling, spell};
 use crate::same::check_same;
-use engine::{PlainStore, StorageEngine};
+use engine::StorageEngine;
 use proto::{ByteString, Geometry, Keys, NoMemory, Put, Request, Touch, Words, show_reply};
+use reference::PlainStore;
 use std::alloc::{AllocError, Global};
 use std::process::Abort;
 use std::test::Fail;

@@ -4,8 +4,8 @@
 use crate::cache::asking::answer;
 use crate::cache::random::Random;
 use crate::same::check_same;
-use engine::PlainStore;
 use proto::{Dialect, Eviction, Geometry, NoMemory};
+use reference::PlainStore;
 use segcache::Store;
 use std::alloc::{AllocError, Global};
 use std::process::Abort;

@@ -3,9 +3,9 @@
 use crate::limits::talk::{Shape, input_of, output_of, script_of};
 use crate::same::check_same;
 use crate::serving::{exchange_of_one, serve, sizes};
-use engine::PlainStore;
 use proto::{Dialect, Geometry};
-use script::{ScriptClock, ScriptPort, WorkerScript, read_script, replay_sequentially};
+use reference::{PlainStore, replay_sequentially};
+use script::{ScriptClock, ScriptPort, WorkerScript, read_script};
 use std::alloc::Global;
 use std::process::Abort;
 use std::sync::Wait;

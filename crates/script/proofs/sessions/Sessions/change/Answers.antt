@@ -1,5 +1,5 @@
 use Rattle.std.proofs.Common.{◌≡◌, List, true, false, not, subst, sym, ◌∙◌, ap, slice_set}
-use Rattle.script.specs.PortSessions.{ScriptSessionState, is_some_and, is_session_open, ChangesAt, with_stage, is_closed}
+use Rattle.script.specs.PortSessions.{ScriptSessionState, is_some_and, is_session_open, ChangesScriptSession, with_stage, is_closed}
 use Rattle.script.proofs.SessionLemmas.{none_at, placed_at, placed_as, closed_when, open_when, rises_set, stage_changed, same_item}
 use Rattle.script.proofs.sessions.Sessions.change.Goals as goal
 
@@ -42,9 +42,9 @@ returns-clause-changes c _ =
     ∙ sym (c.is_closed.ensures ∙ ap is_closed c.stage.ensures) ∙ c.if-is_closed.false in
     let done = stage_changed xs n at c.args.stage y c.self.invariant found.0 found.1 c.index_mut.ensures.value in
     let new = c.set_stage.new.self in
-    subst (λ (l : List ScriptSessionState). ChangesAt l n (with_stage c.args.stage) (slice_set xs at new))
+    subst (λ (l : List ScriptSessionState). ChangesScriptSession l n (with_stage c.args.stage) (slice_set xs at new))
     c.self.view_is
-    (subst (λ (z : ScriptSessionState). ChangesAt xs n (with_stage c.args.stage) (slice_set xs at z))
+    (subst (λ (z : ScriptSessionState). ChangesScriptSession xs n (with_stage c.args.stage) (slice_set xs at z))
     (sym c.set_stage.ensures) done)
 
 pub returns-in_default-clause-open : goal.returns-in_default-clause-open

@@ -1,5 +1,0 @@
-use Rattle.engine.proofs.PlainLemmas.{live-of-nil}
-use Rattle.engine.proofs.plain_map.PlainMapStoreMap.seeded.Goals as goal
-
-pub returns-clause-entries : goal.returns-clause-entries
-returns-clause-entries c = live-of-nil c.new.result.entries 0 c.new.ensures.empty

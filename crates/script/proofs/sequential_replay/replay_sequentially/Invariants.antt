@@ -1,7 +1,0 @@
-use Rattle.std.proofs.Common.{take}
-use Rattle.script.specs.SequentialReplays.{HasRun}
-use Rattle.script.proofs.sequential_replay.replay_sequentially.Given as goal
-
-abbrev pub invariant-loop-event : goal.invariant-loop-event
-invariant-loop-event g l = HasRun (record { sizes = l.initial.executor.sizes; clock = l.initial.executor.clock })
-    (take l.event-index l.events) l.executor l.sessions.items

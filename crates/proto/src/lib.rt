@@ -7,7 +7,6 @@ mod clock;
 mod counts;
 mod dialect;
 mod eviction;
-mod examples;
 mod gauges;
 mod geometry;
 mod history;

@@ -57,5 +57,5 @@ pub use system_clock::{ClockAnswer, SystemClock};
 pub use terms::Terms;
 pub use trace::{Noted, Trace};
 pub use version::VERSION;
-pub use view::{MessageView, NextView, next_view, next_view_behind, next_view_in};
+pub use view::{MessageView, NextView, next_view, next_view_behind};
 pub use words::{Words, number};

@@ -50,7 +50,7 @@ pub use line::RequestView;
 pub use message::{FatalKind, LocalKind, Message, Next, Put, Reply, Request, Touch};
 pub use next::{next_message, next_message_in, request_to_store, to_message};
 pub use no_memory::NoMemory;
-pub use pending_answer::{PendingAnswer, show, show_reply};
+pub use pending_answer::{PendingAnswer, show};
 pub use stats::StatsText;
 pub use storage_line::{StorageLineView, StoreMode};
 pub use system_clock::{ClockAnswer, SystemClock};

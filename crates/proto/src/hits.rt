@@ -174,10 +174,9 @@ impl SpareBuffer {
     }
 
     /// The memory of these bytes, which are gone.
-    pub fn emptied(bytes: Vec<u8>) -> SpareBuffer
+    pub fn from_vec(mut bytes: Vec<u8>) -> SpareBuffer
         ensures { result ≡ vec_capacity bytes }
     {
-        let mut bytes = bytes;
         bytes.clear();
         SpareBuffer { bytes }
     }

@@ -189,37 +189,22 @@ impl Gauge {
     }
 }
 
-/// The name of what a worker tells of itself alone, from its number: how many connections it has.
+/// The names of what a worker tells of itself alone, from its number: how many connections it has, and how many microseconds it
+/// was busy.
 #[tactic(auto, unfolding(crate::specs::StatTexts::names_gauge, crate::specs::StatTexts::count_lines, crate::specs::StatTexts::total_lines, crate::specs::StatTexts::tally_lines))]
-pub(crate) fn connections_name(worker: usize) -> &'static [u8]
-    ensures { (c : Counts) → IsTrue (names_gauge c result.now) }
+pub(crate) fn worker_names(worker: usize) -> (&'static [u8], &'static [u8])
+    ensures connections { (c : Counts) → IsTrue (names_gauge c result.0.now) }
+    ensures busy { (c : Counts) → IsTrue (names_gauge c result.1.now) }
 {
     match worker {
-        0 => b"curr_connections_0",
-        1 => b"curr_connections_1",
-        2 => b"curr_connections_2",
-        3 => b"curr_connections_3",
-        4 => b"curr_connections_4",
-        5 => b"curr_connections_5",
-        6 => b"curr_connections_6",
-        _ => b"curr_connections_7",
-    }
-}
-
-/// The same: how many microseconds it was busy.
-#[tactic(auto, unfolding(crate::specs::StatTexts::names_gauge, crate::specs::StatTexts::count_lines, crate::specs::StatTexts::total_lines, crate::specs::StatTexts::tally_lines))]
-pub(crate) fn busy_name(worker: usize) -> &'static [u8]
-    ensures { (c : Counts) → IsTrue (names_gauge c result.now) }
-{
-    match worker {
-        0 => b"worker_busy_us_0",
-        1 => b"worker_busy_us_1",
-        2 => b"worker_busy_us_2",
-        3 => b"worker_busy_us_3",
-        4 => b"worker_busy_us_4",
-        5 => b"worker_busy_us_5",
-        6 => b"worker_busy_us_6",
-        _ => b"worker_busy_us_7",
+        0 => (b"curr_connections_0", b"worker_busy_us_0"),
+        1 => (b"curr_connections_1", b"worker_busy_us_1"),
+        2 => (b"curr_connections_2", b"worker_busy_us_2"),
+        3 => (b"curr_connections_3", b"worker_busy_us_3"),
+        4 => (b"curr_connections_4", b"worker_busy_us_4"),
+        5 => (b"curr_connections_5", b"worker_busy_us_5"),
+        6 => (b"curr_connections_6", b"worker_busy_us_6"),
+        _ => (b"curr_connections_7", b"worker_busy_us_7"),
     }
 }
 

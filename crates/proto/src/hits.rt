@@ -101,10 +101,7 @@ impl Hits {
             (out.new.items ≡ out.old.items ++ flat_map hit_bytes self.now ++ codes "END" ++ line_end) }
         ensures err { OnErr result (out.new.items ≡ out.old.items) }
     {
-        out.reserve(self.text.len() + 5)?;
-        out.extend_from_slice(self.text.as_slice()).unwrap();
-        out.extend_from_slice(b"END\r\n").unwrap();
-        Ok(())
+        show_lines(out, self.text.as_slice())
     }
 
     /// The same. If the output is empty and has no more capacity than the text, the two buffers are swapped instead of copied.
@@ -124,6 +121,17 @@ impl Hits {
         self.count = 0;
         Ok(())
     }
+}
+
+/// Appends lines and the line that ends them, or changes nothing.
+pub(crate) fn show_lines(out: &mut Vec<u8>, lines: &[u8]) -> Result<(), NoMemory>
+    ensures ok { OnOk result (out.new.items ≡ out.old.items ++ lines.now ++ codes "END" ++ line_end) }
+    ensures err { OnErr result (out.new.items ≡ out.old.items) }
+{
+    out.reserve(lines.len() + 5)?;
+    out.extend_from_slice(lines).unwrap();
+    out.extend_from_slice(b"END\r\n").unwrap();
+    Ok(())
 }
 
 /// Appends a space and a number in decimal, for which there is room.
@@ -166,10 +174,9 @@ impl SpareBuffer {
     }
 
     /// The memory of these bytes, which are gone.
-    pub fn emptied(bytes: Vec<u8>) -> SpareBuffer
+    pub fn from_vec(mut bytes: Vec<u8>) -> SpareBuffer
         ensures { result ≡ vec_capacity bytes }
     {
-        let mut bytes = bytes;
         bytes.clear();
         SpareBuffer { bytes }
     }

@@ -1,12 +1,13 @@
 //! The bytes that answer a message, whether its reply is there already or is still to come. The room of a whole answer is
 //! reserved before its first byte is written.
 
-ghost use Rattle.std.specs.Prelude.{◌≡◌, ◌+◌, ◌≤◌, ◌++◌, length, codes, is_some, option_copied, None, IsOk, IsTrue};
+ghost use Rattle.std.specs.Prelude.{◌≡◌, ◌+◌, ◌≤◌, ◌++◌, length, is_some, option_copied, None, IsOk, IsTrue};
 ghost use Rattle.std.specs.Prelude.{OnOk, OnErr};
 ghost use Rattle.std.specs.Option.{option_copied_mut};
 ghost use Rattle.proto.specs.Answers.{answer, is_ask, is_silent, reply_bytes};
 ghost use Rattle.proto.specs.Lines.{line_end};
 
+use crate::hits::show_lines;
 use crate::message::{FatalKind, LocalKind, Message, Reply};
 use crate::no_memory::NoMemory;
 use crate::version::VERSION;
@@ -38,17 +39,6 @@ fn show_parts(out: &mut Vec<u8>, front: &[u8], behind: &[u8]) -> Result<(), NoMe
     Ok(())
 }
 
-/// Appends lines and the line that ends them, or changes nothing.
-fn show_lines(out: &mut Vec<u8>, lines: &[u8]) -> Result<(), NoMemory>
-    ensures ok { OnOk result (out.new.items ≡ out.old.items ++ lines.now ++ codes "END\r\n") }
-    ensures err { OnErr result (out.new.items ≡ out.old.items) }
-{
-    out.reserve(lines.len() + 5)?;
-    out.extend_from_slice(lines).unwrap();
-    out.extend_from_slice(b"END\r\n").unwrap();
-    Ok(())
-}
-
 /// Appends the answer that shows a reply, or changes nothing.
 fn show_copied(out: &mut Vec<u8>, reply: &Reply) -> Result<(), NoMemory>
     ensures ok { OnOk result (out.new.items ≡ out.old.items ++ reply_bytes reply.now) }
@@ -77,18 +67,6 @@ fn show_copied(out: &mut Vec<u8>, reply: &Reply) -> Result<(), NoMemory>
         }
         Reply::NoCas => show_line(out, b"SERVER_ERROR out of cas numbers"),
         Reply::Stats(lines) => show_lines(out, lines.as_slice()),
-    }
-}
-
-/// Appends the answer that shows a reply. The buffer of hits may be swapped with that of an empty output (`Hits::give`).
-/// NoMemory if out of memory: then the output is unchanged.
-pub fn show_reply(reply: &mut Reply, out: &mut Vec<u8>) -> Result<(), NoMemory>
-    ensures ok { OnOk result (out.new.items ≡ out.old.items ++ reply_bytes reply.old) }
-    ensures err { OnErr result (out.new.items ≡ out.old.items) }
-{
-    match reply {
-        Reply::Values(hits) => hits.give(out),
-        _ => show_copied(out, reply),
     }
 }
 
@@ -143,8 +121,8 @@ impl PendingAnswer {
         matches!(self.kind, AnswerKind::Ask | AnswerKind::QuietAsk)
     }
 
-    /// Appends the answer. The buffer of hits may be swapped with that of an empty output. NoMemory if out of memory: then the
-    /// output is unchanged. A message without an answer needs no memory.
+    /// Appends the answer. The buffer of hits may be swapped with that of an empty output (`Hits::give`). NoMemory if out of
+    /// memory: then the output is unchanged. A message without an answer needs no memory.
     pub fn show(&self, reply: Option<&mut Reply>, out: &mut Vec<u8>) -> Result<(), NoMemory>
         requires { is_some reply ≡ is_ask self.now }
         ensures ok { OnOk result (out.new.items ≡ out.old.items ++ answer self.now (option_copied_mut reply.entry)) }
@@ -152,7 +130,8 @@ impl PendingAnswer {
         ensures silent { IsTrue (is_silent self.now) → IsOk result }
     {
         match (self.kind, reply) {
-            (AnswerKind::Ask, Some(reply)) => show_reply(reply, out),
+            (AnswerKind::Ask, Some(Reply::Values(hits))) => hits.give(out),
+            (AnswerKind::Ask, Some(reply)) => show_copied(out, reply),
             _ => self.show_local(out),
         }
     }

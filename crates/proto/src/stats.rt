@@ -6,7 +6,7 @@ ghost use Rattle.proto.specs.StatTexts.{names_gauge, IsStats};
 
 use crate::byte_string::ByteString;
 use crate::counts::{Counts, Tally};
-use crate::gauges::{GAUGES, Gauges, busy_name, connections_name};
+use crate::gauges::{GAUGES, Gauges, worker_names};
 use crate::no_memory::NoMemory;
 use itoa::Buffer;
 use std::alloc::Global;
@@ -160,8 +160,9 @@ impl StatsText {
     ) -> Result<StatsText, NoMemory>
         ensures { IfOk result (λ text. text ≡ self) }
     {
-        self.with(connections_name(worker), connections)?
-            .with(busy_name(worker), busy)
+        let (connections_name, busy_name) = worker_names(worker);
+        self.with(connections_name, connections)?
+            .with(busy_name, busy)
     }
 
     pub fn into_lines(self) -> ByteString

@@ -34,7 +34,7 @@ impl Upkeep {
             self.load.asked_keys(keys.len());
             let mut hits = Vec::new(keys.allocator());
             self.spares.lend(Use::Hits, &mut hits);
-            let _ = request.lend_buffer(SpareBuffer::emptied(hits));
+            let _ = request.lend_buffer(SpareBuffer::from_vec(hits));
         }
     }
 

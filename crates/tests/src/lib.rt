@@ -1,4 +1,5 @@
-//! Tests of the libraries below the worker: messages, the plain store, books, lanes and idle threads.
+//! Tests of the libraries below the worker: messages, the plain store, books, lanes and idle threads; and
+//! worked examples of the definitions of `proto`.
 #![tactic(auto)]
 
 #[cfg(test)]
@@ -7,6 +8,8 @@ mod book;
 mod clock;
 #[cfg(test)]
 mod cuttings;
+#[cfg(test)]
+mod examples;
 #[cfg(test)]
 mod lanes;
 #[cfg(test)]

@@ -8,7 +8,7 @@ use crate::message_rows::{
 use crate::same::check_same;
 use proto::{
     ByteString, Dialect, Hits, Keys, Message, Next, NextView, NoMemory, Reply, Request,
-    next_message_in, next_view, next_view_in, show,
+    next_message_in, next_view, show,
 };
 use std::alloc::{AllocError, Global};
 use std::process::Abort;
@@ -198,18 +198,28 @@ fn wants(view: NextView) -> (Option<usize>, Option<bool>) {
 #[test]
 fn a_storage_line_says_what_is_needed_and_dropped(rt: HostRuntime) {
     for (input, need) in &NEEDS {
-        check_same(&rt, wants(next_view(input)).0, Some(*need), *input);
+        check_same(
+            &rt,
+            wants(next_view(Dialect::Strict, input)).0,
+            Some(*need),
+            *input,
+        );
     }
     for rows in [NEEDS.as_slice(), LENIENT_NEEDS.as_slice()] {
         for (input, need) in rows {
-            let view = next_view_in(Dialect::Lenient, input);
+            let view = next_view(Dialect::Lenient, input);
             check_same(&rt, wants(view).0, Some(*need), *input);
         }
     }
     for (input, wanted) in &DROPS {
-        let view = next_view_in(Dialect::Lenient, input);
+        let view = next_view(Dialect::Lenient, input);
         check_same(&rt, wants(view).1, *wanted, *input);
-        check_same(&rt, wants(next_view(input)).1, None, *input);
+        check_same(
+            &rt,
+            wants(next_view(Dialect::Strict, input)).1,
+            None,
+            *input,
+        );
     }
 }
 

@@ -4,7 +4,9 @@ use crate::list_cache::ListCache;
 use crate::made::{Spelling, spell};
 use crate::same::check_same;
 use engine::StorageEngine;
-use proto::{ByteString, Geometry, Keys, NoMemory, Put, Request, Touch, Words, show_reply};
+use proto::{
+    ByteString, Geometry, Keys, Message, NoMemory, PendingAnswer, Put, Request, Touch, Words,
+};
 use reference::PlainStore;
 use std::alloc::{AllocError, Global};
 use std::process::Abort;
@@ -175,14 +177,15 @@ fn answer_both(
     alloc: Global,
     (store, list): (&mut PlainStore, &mut ListCache),
     now: u64,
-    request: &mut Request,
+    mut request: Request,
     (given, wanted): (&mut Vec<u8>, &mut Vec<u8>),
 ) -> Result<(), NoMemory> {
-    list.answer(alloc, now, request, wanted)?;
+    list.answer(alloc, now, &request, wanted)?;
     assert!(rt; store.last_moment() <= now && now < 3_000_000);
-    let mut reply = store.handle(now, request);
-    let shown = show_reply(&mut reply, given);
-    drop(reply);
+    let mut reply = store.handle(now, &mut request);
+    let asked = Message::Ask(request, false);
+    let shown = PendingAnswer::of(&asked).show(Some(&mut reply), given);
+    drop((asked, reply));
     shown
 }
 
@@ -196,13 +199,13 @@ fn check_turn(
     list: &mut ListCache,
     (turn, now): (u64, u64),
 ) -> Result<bool, NoMemory> {
-    let mut request = random_request(alloc, random, now, list)?;
+    let request = random_request(alloc, random, now, list)?;
     let (mut given, mut wanted) = (Vec::new(alloc), Vec::new(alloc));
     let answers = (&mut given, &mut wanted);
-    let answered = answer_both(rt, alloc, (store, list), now, &mut request, answers);
+    let answered = answer_both(rt, alloc, (store, list), now, request, answers);
     check_same(rt, given.as_slice(), wanted.as_slice(), turn);
     let is_shown = wanted.starts_with(b"VALUE");
-    drop((request, given, wanted));
+    drop((given, wanted));
     answered?;
     let moments = (store.last_moment(), store.pending());
     check_same(rt, moments, (now, list.pending), turn);

@@ -38,7 +38,7 @@ fn buffers_back(
     text: &str,
 ) -> Result<(Option<usize>, Option<usize>), Fail> {
     let mut request = read(alloc, text)?;
-    let buffer = SpareBuffer::emptied(Vec::with_capacity(alloc, LENT)?);
+    let buffer = SpareBuffer::from_vec(Vec::with_capacity(alloc, LENT)?);
     let handed_back = capacity_of(request.lend_buffer(buffer));
     if store.last_moment() > 1 {
         return Err(Fail::from("the moment 1 is over"));

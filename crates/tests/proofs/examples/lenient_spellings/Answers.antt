@@ -1,5 +1,5 @@
-use Rattle.proto.proofs.ExampleProofs.{lenient_lines_spelled, lenient_commands_spelled, lenient_long_lines_spelled, lenient_blocks_spelled}
-use Rattle.proto.proofs.examples.lenient_spellings.Goals as goal
+use Rattle.tests.proofs.ExampleProofs.{lenient_lines_spelled, lenient_commands_spelled, lenient_long_lines_spelled, lenient_blocks_spelled}
+use Rattle.tests.proofs.examples.lenient_spellings.Goals as goal
 
 pub returns-clause-lines : goal.returns-clause-lines
 returns-clause-lines c = lenient_lines_spelled

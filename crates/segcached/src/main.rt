@@ -5,7 +5,7 @@ use command_line::{
     Job, Options, ServeOptions, WordsFault, geometry_of, parse_words, unreadable_words,
 };
 use replaying::{cannot_read, replay};
-use serving::{System, seed_of, serve};
+use serving::{System, seed_of, serve_to_end};
 use std::alloc::AllocError;
 use std::fmt::Display;
 use std::fs::File;
@@ -42,8 +42,7 @@ fn serve_at<H: System>(
         serving::Fault::BadGeometry,
     )?;
     let mut out = BufWriter::new(alloc, io::writer(rt)).map_err(|_| AllocError)?;
-    serve(*threads, alloc, options, geometry, seed_of(rt), &mut out)?;
-    Ok(())
+    serve_to_end(*threads, alloc, options, geometry, seed_of(rt), &mut out)
 }
 
 /// What the words after the program's name ask for.

@@ -8,4 +8,4 @@ mod service;
 
 pub use fault::Fault;
 pub use seed::seed_of;
-pub use service::{Report, System, serve};
+pub use service::{Report, System, serve, serve_to_end};

@@ -4,6 +4,7 @@ ghost use Rattle.std.specs.Prelude.{◌≡◌, ℕ, List, vec_len, IfOk, OnOk};
 ghost use Rattle.std.specs.String.{string_bytes};
 ghost use Rattle.std.specs.Io.KnownBytes.{Appends};
 ghost use Rattle.serving.specs.Listening.{IsListeningLine};
+ghost use Rattle.proto.specs.ClockAnswers.{ClockLog};
 ghost use Rattle.worker_port.specs.Giving.{by_system_clock};
 ghost use Rattle.net.specs.Traces.{trace_of, IsNew};
 ghost use Rattle.serving.specs.Runs.{AreNewPorts, IsStoreFor, IsServed};
@@ -349,4 +350,28 @@ pub fn serve<H: System, W: Write>(
     let opened = open(rt, alloc, options, geometry, seed)?;
     announce_all(rt, alloc, options, opened.listener.port(), out)?;
     run(rt, alloc, opened, geometry, seed, options)
+}
+
+/// Serves as `serve` does, and drops what the group left.
+///
+/// # Errors
+///
+/// As of `serve`.
+pub fn serve_to_end<H: System, W: Write>(
+    rt: H,
+    alloc: Global,
+    options: &ServeOptions,
+    geometry: Geometry,
+    seed: u64,
+    out: &mut W,
+) -> Result<(), Fault>
+    ensures announced { OnOk result ((port : ℕ) × (line : List ℕ)
+        × IsListeningLine (string_bytes options.entry.now.listen) port line
+        × Appends (W.contents out.old) (W.contents out.new) line) }
+    // there was such a report
+    ensures served { OnOk result ((report : GroupReport (MioPort H) ClockLog)
+        × IsServed geometry seed options.entry.now report) }
+{
+    serve(rt, alloc, options, geometry, seed, out)?;
+    Ok(())
 }

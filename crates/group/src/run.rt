@@ -17,7 +17,7 @@ use engine::{Clock, StorageEngine};
 use exchange::{Exchange, StorageSignals, WorkerEnd, gather};
 use std::alloc::{AllocError, Global};
 use std::sync::{OnceLock, OnceToken};
-use std::thread::{self, Scope};
+use std::thread::{self, Scope, Threads};
 use storage_thread::StorageReport;
 use worker::{Gate, WorkerReport};
 use worker_port::Port;
@@ -103,8 +103,8 @@ fn room_for<'s, P: Port>(alloc: Global, count: usize) -> Result<Room<'s, P>, All
 }
 
 /// Joins all threads, which were told to begin, and gathers what they leave. The lists have room for it.
-fn join_all<'s, P: Port, E: StorageEngine, C: Clock>(
-    rt: &impl Runtime,
+fn join_all<'s, P: Port, E: StorageEngine, C: Clock, R: Threads>(
+    rt: &R,
     told: &OnceToken<'s, bool>,
     handles: Vec<WorkerHandle<'s, P>>,
     storage: StorageHandle<'s, E, C>,

@@ -16,9 +16,9 @@ use engine::{Clock, StorageEngine};
 use exchange::{StorageEnd, StorageSignals, WorkerEnd};
 use os::set_thread_name;
 use std::snapshot::Snapshot;
-use std::sync::{OnceLock, OnceToken};
-use std::thread::{Promise, PromisedHandle, Scope};
-use std::vec;
+use std::sync::{OnceLock, OnceToken, Wait};
+use std::thread::{Promise, PromisedHandle, Scope, Threads};
+use std::{time, vec};
 use storage_thread::{StorageReport, run_storage};
 use worker::{Gate, WorkerReport, run_worker};
 use worker_port::Port;
@@ -72,9 +72,9 @@ fn thread_name(worker: usize) -> [u8; 8]
 }
 
 /// Runs a worker over a port and an end as they were made.
-fn run_new_worker<P: Port>(
-    rt: &impl Runtime,
-    context: &GroupContext<'_, impl Gate>,
+fn run_new_worker<P: Port, G: Gate, R: Wait + time::Clock>(
+    rt: &R,
+    context: &GroupContext<'_, G>,
     port: P,
     end: WorkerEnd,
 ) -> WorkerReport<P>
@@ -88,9 +88,9 @@ fn run_new_worker<P: Port>(
 }
 
 /// Names the thread, and runs a worker in it once it is told to begin.
-fn worker_thread<'a, P: Port>(
-    rt: &impl Runtime,
-    context: &GroupContext<'a, impl Gate>,
+fn worker_thread<'a, P: Port, G: Gate, R: Wait + time::Clock>(
+    rt: &R,
+    context: &GroupContext<'a, G>,
     port: P,
     end: WorkerEnd,
 ) -> Finished<'a, WorkerReport<P>>
@@ -110,8 +110,8 @@ fn worker_thread<'a, P: Port>(
 }
 
 /// Runs the storage loop over an end and a store as they were made.
-fn run_new_storage<E: StorageEngine + Drop, C: Clock>(
-    rt: &impl Runtime,
+fn run_new_storage<E: StorageEngine + Drop, C: Clock, R: Wait + time::Clock>(
+    rt: &R,
     store: E,
     clock: C,
     end: StorageEnd,
@@ -125,8 +125,8 @@ fn run_new_storage<E: StorageEngine + Drop, C: Clock>(
 }
 
 /// Names the thread, and runs the storage loop in it once it is told to begin.
-fn run_storage_thread<'a, E: StorageEngine + Drop, C: Clock, G>(
-    rt: &impl Runtime,
+fn run_storage_thread<'a, E: StorageEngine + Drop, C: Clock, G, R: Wait + time::Clock>(
+    rt: &R,
     context: &GroupContext<'a, G>,
     store: E,
     clock: C,
@@ -152,10 +152,17 @@ fn run_storage_thread<'a, E: StorageEngine + Drop, C: Clock, G>(
 /// # Errors
 ///
 /// NoThread if the system starts no thread.
-pub fn start_storage<'s, E: StorageEngine + Drop + Send + 's, C: Clock + Send + 's>(
-    rt: &'s impl Runtime,
-    scope: &'s Scope<'s, &()>,
-    context: &'s GroupContext<'s, impl Sync>,
+pub fn start_storage<
+    's,
+    'e,
+    E: StorageEngine + Drop + Send + 's,
+    C: Clock + Send + 's,
+    G: Sync,
+    R: Threads + Wait + time::Clock + Sync,
+>(
+    rt: &'s R,
+    scope: &'s Scope<'s, &'e ()>,
+    context: &'s GroupContext<'s, G>,
     store: E,
     clock: C,
     end: StorageEnd,
@@ -182,10 +189,16 @@ pub fn start_storage<'s, E: StorageEngine + Drop + Send + 's, C: Clock + Send + 
 }
 
 /// Starts the thread of one worker.
-fn start_worker<'s, P: Port + Send + 's>(
-    rt: &'s impl Runtime,
-    scope: &'s Scope<'s, &()>,
-    context: &'s GroupContext<'s, impl Gate + Sync>,
+fn start_worker<
+    's,
+    'e,
+    P: Port + Send + 's,
+    G: Gate + Sync,
+    R: Threads + Wait + time::Clock + Sync,
+>(
+    rt: &'s R,
+    scope: &'s Scope<'s, &'e ()>,
+    context: &'s GroupContext<'s, G>,
     port: P,
     end: WorkerEnd,
 ) -> Result<WorkerHandle<'s, P>, GroupFault>
@@ -249,8 +262,8 @@ pub fn start_workers<'s, P: Port + Send + 's>(
 }
 
 /// What the storage thread leaves, which was told to begin.
-pub fn join_storage<'s, E: StorageEngine, C: Clock>(
-    rt: &impl Runtime,
+pub fn join_storage<'s, E: StorageEngine, C: Clock, R: Threads>(
+    rt: &R,
     told: &OnceToken<'s, bool>,
     handle: StorageHandle<'s, E, C>,
 ) -> StorageReport<C>
@@ -264,8 +277,8 @@ pub fn join_storage<'s, E: StorageEngine, C: Clock>(
 }
 
 /// What a worker's thread leaves, which was told to begin.
-fn join_worker<'s, P: Port>(
-    rt: &impl Runtime,
+fn join_worker<'s, P: Port, R: Threads>(
+    rt: &R,
     told: &OnceToken<'s, bool>,
     handle: WorkerHandle<'s, P>,
 ) -> WorkerReport<P>
@@ -278,8 +291,8 @@ fn join_worker<'s, P: Port>(
 }
 
 /// What the workers' threads leave, in order, which were told to begin. The list of reports has room for them.
-pub fn join_workers<'s, P: Port>(
-    rt: &impl Runtime,
+pub fn join_workers<'s, P: Port, R: Threads>(
+    rt: &R,
     told: &OnceToken<'s, bool>,
     handles: Vec<WorkerHandle<'s, P>>,
     mut reports: Vec<WorkerReport<P>>,

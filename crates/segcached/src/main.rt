@@ -4,8 +4,13 @@
 use command_line::{
     Job, Options, ServeOptions, WordsFault, geometry_of, parse_words, unreadable_words,
 };
+<<<<<<< ours
 use replaying::{cannot_read, replay};
 use serving::{System, seed_of, serve_to_end};
+=======
+use replaying::{Runtime, cannot_read, replay};
+use serving::{System, seed_of, serve};
+>>>>>>> theirs
 use std::alloc::AllocError;
 use std::fmt::Display;
 use std::fs::File;
@@ -14,7 +19,7 @@ use std::process::ExitCode;
 use std::{env, fs};
 
 /// Replays the script in the file that the options name, with these threads.
-fn replay_file<H: System>(
+fn replay_file<H: Runtime>(
     rt: &HostRuntime,
     threads: &H,
     options: &Options,

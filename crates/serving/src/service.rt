@@ -20,7 +20,9 @@ use segcache::Store;
 use std::alloc::{AllocError, Global};
 use std::io::{Eprint, Write};
 use std::net::Net;
-use std::thread::{self, JoinHandle};
+use std::sync::Wait;
+use std::thread::{self, JoinHandle, Threads};
+use std::time;
 use worker::OpenGate;
 
 /// What serving asks of the system.
@@ -45,7 +47,7 @@ fn cannot_listen(alloc: Global, options: &ServeOptions, fault: NetFault) -> Faul
 }
 
 /// A port of this exchange, with the limits of the options.
-fn new_port<H: System>(
+fn new_port<H: Wait + Net + time::Clock + Copy + Drop>(
     rt: H,
     alloc: Global,
     hand: Hand,
@@ -67,7 +69,7 @@ fn new_port<H: System>(
 
 /// The listener's end of the hand of a worker of the exchange, which takes as many streams as it opens sessions in a run,
 /// and its port.
-fn make_port<H: System>(
+fn make_port<H: Wait + Net + time::Clock + Copy + Drop>(
     rt: H,
     alloc: Global,
     geometry: Geometry,
@@ -90,7 +92,7 @@ fn make_port<H: System>(
 }
 
 /// A port for each worker of the exchange, and the listener's ends of their hands.
-fn make_ports<H: System>(
+fn make_ports<H: Wait + Net + time::Clock + Copy + Drop>(
     rt: H,
     alloc: Global,
     geometry: Geometry,
@@ -199,7 +201,7 @@ struct Opened<H: Drop> {
 }
 
 /// Listens on the options' address, and makes the rest.
-fn open<H: System>(
+fn open<H: Wait + Net + time::Clock + Copy + Drop>(
     rt: H,
     alloc: Global,
     options: &ServeOptions,
@@ -233,7 +235,7 @@ fn open<H: System>(
 }
 
 /// Accepts streams in a thread of its own, up to the limit. The address is free again once it has ended.
-fn start_listening<H: System>(
+fn start_listening<H: Threads + Wait + time::Clock + Eprint + Copy + Drop + Send + 'static>(
     rt: H,
     watch: Option<Watch>,
     mut listener: Listener,
@@ -249,7 +251,7 @@ fn start_listening<H: System>(
 }
 
 /// Runs a worker of the exchange for each port over the store, as the options say, until all have ended.
-fn run_workers<H: System>(
+fn run_workers<H: Runtime + Copy + Drop + Send + 'static>(
     rt: H,
     alloc: Global,
     ports: Vec<MioPort<H>>,
@@ -308,7 +310,7 @@ fn run<H: System>(
 }
 
 /// Tells the operator the options in force, and prints that it listens.
-fn announce_all<H: System, W: Write>(
+fn announce_all<H: Eprint + Net + Drop, W: Write>(
     rt: H,
     alloc: Global,
     options: &ServeOptions,

@@ -4,13 +4,8 @@
 use command_line::{
     Job, Options, ServeOptions, WordsFault, geometry_of, parse_words, unreadable_words,
 };
-<<<<<<< ours
-use replaying::{cannot_read, replay};
-use serving::{System, seed_of, serve_to_end};
-=======
 use replaying::{Runtime, cannot_read, replay};
-use serving::{System, seed_of, serve};
->>>>>>> theirs
+use serving::{System, seed_of, serve_to_end};
 use std::alloc::AllocError;
 use std::fmt::Display;
 use std::fs::File;

@@ -2,6 +2,7 @@
 
 use exchange::MakeFault;
 use group::GroupFault;
+use proto::NoMemory;
 use script::ScriptFault;
 use std::alloc::AllocError;
 use thiserror::Error;
@@ -24,6 +25,9 @@ pub enum Fault {
     Group(#[from] GroupFault),
     #[error("fault: cannot write")]
     CannotWrite,
+    /// Out of memory for the store.
+    #[error("fault: {0}")]
+    Store(#[from] NoMemory),
     #[error("fault: out of memory")]
     NoMemory(#[from] AllocError),
 }

@@ -5,8 +5,9 @@
     tools/prove.py --kept   proves nothing: status 0 if the program was built so, and nothing that it is built of has changed since
 
 It calls the prover for each crate once those below it are proved, as many side by side as there are processors and memory for. The crates
-from which the way to the program takes longest get two processes if a processor is idle, and the others yield to them. What is proved stands in out/proofs: after an
-interrupt the next run goes on from there. What the prover says of each crate stands beside the program, as segcached.log.
+from which the way to the program takes longest get two processes if a processor is idle, and the others yield to them. What is proved stands
+in out/proofs: after an interrupt the next run goes on from there. What the prover says of each crate stands beside the program, as
+segcached.log.
 
 What each crate takes stands in tools/gate_minutes.tsv, by a run of the gate; how long the rest may take is an estimate from that.
 """

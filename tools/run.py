@@ -3,9 +3,9 @@
 
     tools/run.py
 
-If nothing is proved yet, the script first runs on a build that is checked as it runs (`rt try`), which takes a minute or two, while the
-proofs begin; then the proofs go on, a line for each crate. At the end the proved program replays the script and serves. What was proved is
-kept: an interrupt loses none of it, and if all is kept the proved program runs at once.
+If nothing is proved yet, the script first runs on a build that is checked as it runs (`rt try`), which takes a minute; then come the proofs, a
+line for each crate. At the end the proved program replays the script and serves. What was proved is kept: an interrupt loses none of it, and if
+all is kept the proved program runs at once.
 
 A run from nothing leaves the line that docs/GATE.md has of it in out/run_times.
 """
@@ -16,7 +16,6 @@ import signal
 import socket
 import subprocess
 import sys
-import tempfile
 import time
 
 import machine
@@ -32,8 +31,6 @@ PROGRAM = f"{CRATE}/out/segcached"
 TRY = ["rt", "try", "--data", f"first.script=../../{SCRIPT}", "--", "replay", "first.script"]
 # By these signals the run is ended.
 ENDS = (signal.SIGINT, signal.SIGTERM, signal.SIGHUP)
-# The nice value of the proofs, which yield to the first answer that is made beside them.
-NICE = 10
 # The seconds between two looks at what the proofs said.
 EVERY = 0.2
 # The most seconds that a socket may be silent.
@@ -94,7 +91,7 @@ def show_replay(printed):
 
 def try_script():
     """Runs the script on a build that is checked as it runs, and shows the answer."""
-    say("The first answer comes from a build that isn't proved yet and is checked as it runs; it takes a minute or two to start.")
+    say("The first answer comes from a build that isn't proved yet and is checked as it runs; it takes a minute to start.")
     say(f"$ cd {CRATE} && {' '.join(TRY)}")
     with started(TRY, cwd=CRATE, stdout=subprocess.PIPE, stderr=subprocess.PIPE, text=True) as tried:
         printed, said = tried.communicate()
@@ -103,17 +100,6 @@ def try_script():
     show_replay(printed)
     say("This build is checked as it runs, and not proved yet.")
     say()
-
-
-def follow(process, lines):
-    """Shows what a process writes to a file until it ends."""
-    while True:
-        has_ended = process.poll() is not None
-        for line in lines:
-            print(line, end="", flush=True)
-        if has_ended:
-            return
-        time.sleep(EVERY)
 
 
 def note_times(first, whole):
@@ -127,17 +113,12 @@ def note_times(first, whole):
 
 
 def try_and_prove():
-    """Shows the first answer while the proofs begin, and then how they go on."""
+    """Shows the first answer, and then how the proofs go on. (They begin after it: beside them it took half as long again.)"""
     is_from_nothing, began = not os.path.exists(prove.PROOFS), time.monotonic()
-    with tempfile.NamedTemporaryFile("w", prefix="proofs-") as written, open(written.name, encoding="utf-8") as lines:
-        try:
-            with started(["nice", "-n", str(NICE), "bash", "tools/build.sh"], stdout=written, stderr=subprocess.STDOUT) as proving:
-                try_script()
-                first = time.monotonic() - began
-                follow(proving, lines)
-        finally:
-            # After an interrupt the last lines say what is kept.
-            print(lines.read(), end="", flush=True)
+    try_script()
+    first = time.monotonic() - began
+    with started(["bash", "tools/build.sh"]) as proving:
+        proving.wait()
     if proving.returncode:
         sys.exit("segcached: not all of it is proved")
     if is_from_nothing:

@@ -161,8 +161,7 @@ fn new_store(alloc: Global, options: &Options, geometry: Geometry) -> Result<Sto
 ///
 /// CannotRead if a read of the script fails; Script if it is too large or a line has a fault; Exchange if the options ask
 /// for none or for more than 8 workers, or memory for the exchange is refused; Group if a thread can't be started, or the
-/// group has no memory; Store if out of memory for the store; CannotWrite if a line can't be printed; NoMemory if out of
-/// memory elsewhere.
+/// group has no memory; CannotWrite if a line can't be printed; NoMemory if out of memory elsewhere.
 pub fn replay<H: Runtime, R: Read + Drop, W: Write>(
     rt: &H,
     alloc: Global,
@@ -198,7 +197,7 @@ pub fn replay<H: Runtime, R: Read + Drop, W: Write>(
     let exchange = Exchange::new(alloc, scripts.len(), config.terms)?;
     let ports = ports_of(alloc, options, geometry, &exchange, scripts)?;
     let clock = clock_of(options);
-    let store = new_store(alloc, options, geometry)?;
+    let store = new_store(alloc, options, geometry).map_err(|_| AllocError)?;
     let report = run_group(rt, alloc, ports, exchange, config, store, clock, &OpenGate)?;
     write_lines(alloc, out, report.workers.as_slice())?;
     Ok(text)

@@ -2,7 +2,6 @@
 
 use exchange::MakeFault;
 use group::GroupFault;
-use proto::NoMemory;
 use std::alloc::AllocError;
 use thiserror::Error;
 
@@ -25,9 +24,6 @@ pub enum Fault {
     /// Out of memory, or a thread can't be started.
     #[error("fault: {0}")]
     Group(#[from] GroupFault),
-    /// Out of memory for the store.
-    #[error("fault: {0}")]
-    Store(#[from] NoMemory),
     #[error("fault: out of memory")]
     NoMemory(#[from] AllocError),
 }

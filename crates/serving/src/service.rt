@@ -17,7 +17,7 @@ use group::{Config, GroupReport, Runtime, run_group};
 use net::{Hand, ListenReport, Listener, MioPort, NetFault, Owner, StreamSender};
 use proto::{Geometry, MAX_SESSIONS, NoMemory, SystemClock, Terms};
 use segcache::Store;
-use std::alloc::Global;
+use std::alloc::{AllocError, Global};
 use std::io::{Eprint, Write};
 use std::net::Net;
 use std::sync::Wait;
@@ -224,7 +224,7 @@ fn open<H: Wait + Net + time::Clock + Copy + Drop>(
         Ok(made) => made,
         Err(fault) => return Err(cannot_listen(alloc, options, fault)),
     };
-    let store = new_store(alloc, options, geometry, seed)?;
+    let store = new_store(alloc, options, geometry, seed).map_err(|_| AllocError)?;
     Ok(Opened {
         listener,
         hands,
@@ -334,8 +334,8 @@ fn announce_all<H: Eprint + Net + Drop, W: Write>(
 ///
 /// CannotListen if the address is none, can't be bound or can't be watched; CannotWrite if the line of the address
 /// can't be printed; NoThread if the thread that accepts can't be started; Exchange if out of memory for the
-/// exchange; Group if the group doesn't run, since a thread of it can't be started or it has no memory; Store if out of
-/// memory for the store; NoMemory if memory is missing elsewhere.
+/// exchange; Group if the group doesn't run, since a thread of it can't be started or it has no memory; NoMemory if
+/// memory is missing elsewhere.
 pub fn serve<H: System, W: Write>(
     rt: H,
     alloc: Global,

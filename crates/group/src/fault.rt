@@ -1,6 +1,8 @@
 //! Why a group didn't run.
+ghost use Rattle.std.specs.Prelude.{◌≡◌};
+ghost use Rattle.group.specs.declared.fault.GroupFault.TheVariants.{NoMemory};
 
-use std::alloc::AllocError;
+use std::alloc::{AllocError, AllocFailed};
 use thiserror::Error;
 
 /// Why a group didn't run. No event was taken then, and no request was executed.
@@ -8,8 +10,24 @@ use thiserror::Error;
 pub enum GroupFault {
     /// Out of memory, before a thread was started.
     #[error("out of memory")]
-    NoMemory(#[from] AllocError),
+    NoMemory,
     /// A thread couldn't be started. Those that were started have ended.
     #[error("cannot start a thread")]
     NoThread,
+}
+
+impl From<AllocError> for GroupFault {
+    ghost from_gives = { λ error fault. fault ≡ NoMemory };
+
+    fn from(_error: AllocError) -> GroupFault {
+        GroupFault::NoMemory
+    }
+}
+
+impl<T: Drop> From<AllocFailed<T>> for GroupFault {
+    ghost from_gives = { λ error fault. fault ≡ NoMemory };
+
+    fn from(_failed: AllocFailed<T>) -> GroupFault {
+        GroupFault::NoMemory
+    }
 }

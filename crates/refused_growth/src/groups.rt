@@ -73,8 +73,7 @@ fn judged(
             }
             _ => Outcome::Wrong,
         },
-        Err(GroupFault::NoMemory(_) | GroupFault::NoThread) if counters.are_zero() =>
-            Outcome::Allowed,
+        Err(GroupFault::NoMemory | GroupFault::NoThread) if counters.are_zero() => Outcome::Allowed,
         Err(_) => Outcome::Wrong,
     }
 }

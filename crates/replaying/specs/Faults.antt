@@ -9,5 +9,5 @@ use Rattle.replaying.specs.declared.fault.Fault.TheVariants as fault
 -- a file can't be read for this cause: it is named, on one line, or memory is missing
 abbrev pub IsReadFault : List ℕ → ErrorKind → Fault → Type 0
 IsReadFault file kind (fault.CannotRead shown) = (kind ≢ OutOfMemory) × (string_bytes shown ≡ one_line file)
-IsReadFault file kind (fault.NoMemory _) = ⊤
+IsReadFault file kind fault.NoMemory = ⊤
 IsReadFault file kind _ = ⊥

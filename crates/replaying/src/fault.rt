@@ -1,9 +1,13 @@
 //! Why a replay failed.
 
+ghost use Rattle.std.specs.Prelude.{◌≡◌};
+ghost use Rattle.replaying.specs.declared.fault.Fault.TheVariants.{NoMemory, Group, Exchange};
+
 use exchange::MakeFault;
 use group::GroupFault;
+use proto::NoMemory;
 use script::ScriptFault;
-use std::alloc::AllocError;
+use std::alloc::{AllocError, AllocFailed};
 use thiserror::Error;
 
 /// A fault; its text is the line that the program prints. They are tested in this order.
@@ -15,15 +19,55 @@ pub enum Fault {
     #[error("fault: cannot read {0}")]
     CannotRead(String),
     #[error("fault: {0}")]
-    Script(#[from] ScriptFault),
+    Script(ScriptFault),
     /// The number of workers isn't 1 to 8, or memory is missing.
     #[error("fault: {0}")]
-    Exchange(#[from] MakeFault),
+    Exchange(MakeFault),
     /// Out of memory, or a thread can't be started.
     #[error("fault: {0}")]
-    Group(#[from] GroupFault),
+    Group(GroupFault),
     #[error("fault: cannot write")]
     CannotWrite,
     #[error("fault: out of memory")]
-    NoMemory(#[from] AllocError),
+    NoMemory,
+}
+
+impl From<NoMemory> for Fault {
+    ghost from_gives = { λ error fault. fault ≡ NoMemory };
+
+    fn from(_error: NoMemory) -> Fault {
+        Fault::NoMemory
+    }
+}
+
+impl From<AllocError> for Fault {
+    ghost from_gives = { λ error fault. fault ≡ NoMemory };
+
+    fn from(_error: AllocError) -> Fault {
+        Fault::NoMemory
+    }
+}
+
+impl<T: Drop> From<AllocFailed<T>> for Fault {
+    ghost from_gives = { λ error fault. fault ≡ NoMemory };
+
+    fn from(_failed: AllocFailed<T>) -> Fault {
+        Fault::NoMemory
+    }
+}
+
+impl From<GroupFault> for Fault {
+    ghost from_gives = { λ error fault. fault ≡ Group error };
+
+    fn from(fault: GroupFault) -> Fault {
+        Fault::Group(fault)
+    }
+}
+
+impl From<MakeFault> for Fault {
+    ghost from_gives = { λ error fault. fault ≡ Exchange error };
+
+    fn from(fault: MakeFault) -> Fault {
+        Fault::Exchange(fault)
+    }
 }

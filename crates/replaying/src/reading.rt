@@ -11,7 +11,7 @@ use crate::fault::Fault;
 use command_line::{Options, on_one_line};
 use proto::Trace;
 use script::{MAX_SCRIPT, ScriptFault};
-use std::alloc::{AllocError, Global};
+use std::alloc::Global;
 use std::io::{self, ErrorKind, Read};
 
 /// The most bytes that one read is asked for.
@@ -22,11 +22,11 @@ pub fn cannot_read(alloc: Global, options: &Options, error: &io::Error) -> Fault
     ensures { IsReadFault (string_bytes options.entry.now.file) (error_kind error.now) result }
 {
     if error.kind() == ErrorKind::OutOfMemory {
-        return Fault::NoMemory(AllocError);
+        return Fault::NoMemory;
     }
     match on_one_line(alloc, options.file.as_str()) {
         Ok(file) => Fault::CannotRead(file),
-        Err(error) => Fault::NoMemory(error),
+        Err(_) => Fault::NoMemory,
     }
 }
 

@@ -21,6 +21,16 @@ use std::alloc::{AllocError, Global};
 use std::io::{Read, Write};
 use worker::OpenGate;
 
+/// The events of a script's bytes, by worker.
+fn events_in(alloc: Global, options: &Options, script: &[u8]) -> Result<Vec<WorkerScript>, Fault>
+    ensures { IfOk result (λ scripts. AreEventsOf options.entry.now.workers script.now scripts.items) }
+{
+    match read_script(alloc, script, options.workers as usize) {
+        Ok(scripts) => Ok(scripts),
+        Err(fault) => Err(Fault::Script(fault)),
+    }
+}
+
 /// The events of the script, by worker, and the bytes that its reads gave.
 fn read_events<R: Read + Drop>(
     alloc: Global,
@@ -31,7 +41,7 @@ fn read_events<R: Read + Drop>(
     ensures all { IfOk result (λ r. IfSome (R.remaining script) (λ text. r.1.items ≡ text)) }
 {
     let (bytes, text) = script_bytes(alloc, options, script)?;
-    let scripts = read_script(alloc, bytes.as_slice(), options.workers as usize)?;
+    let scripts = events_in(alloc, options, bytes.as_slice())?;
     Ok((scripts, text))
 }
 
@@ -197,7 +207,7 @@ pub fn replay<H: Runtime, R: Read + Drop, W: Write>(
     let exchange = Exchange::new(alloc, scripts.len(), config.terms)?;
     let ports = ports_of(alloc, options, geometry, &exchange, scripts)?;
     let clock = clock_of(options);
-    let store = new_store(alloc, options, geometry).map_err(|_| AllocError)?;
+    let store = new_store(alloc, options, geometry)?;
     let report = run_group(rt, alloc, ports, exchange, config, store, clock, &OpenGate)?;
     write_lines(alloc, out, report.workers.as_slice())?;
     Ok(text)

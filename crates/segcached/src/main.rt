@@ -6,7 +6,6 @@ use command_line::{
 };
 use replaying::{Runtime, cannot_read, replay};
 use serving::{System, seed_of, serve_to_end};
-use std::alloc::AllocError;
 use std::fmt::Display;
 use std::fs::File;
 use std::io::{self, BufWriter};
@@ -26,7 +25,7 @@ fn replay_file<H: Runtime>(
     let script: File = fs::open(rt, options.file.as_str()).map_err(|error| cannot_read(
         alloc, options, &error,
     ))?;
-    let mut out = BufWriter::new(alloc, io::writer(rt)).map_err(|_| AllocError)?;
+    let mut out = BufWriter::new(alloc, io::writer(rt)).map_err(|_| replaying::Fault::NoMemory)?;
     replay(threads, alloc, options, geometry, script, &mut out)?;
     Ok(())
 }
@@ -41,7 +40,7 @@ fn serve_at<H: System>(
     let geometry = geometry_of(options.segment_size, options.segments).ok_or(
         serving::Fault::BadGeometry,
     )?;
-    let mut out = BufWriter::new(alloc, io::writer(rt)).map_err(|_| AllocError)?;
+    let mut out = BufWriter::new(alloc, io::writer(rt)).map_err(|_| serving::Fault::NoMemory)?;
     serve_to_end(*threads, alloc, options, geometry, seed_of(rt), &mut out)
 }
 

@@ -1,8 +1,12 @@
 //! Why serving failed.
 
+ghost use Rattle.std.specs.Prelude.{◌≡◌};
+ghost use Rattle.serving.specs.declared.fault.Fault.TheVariants.{NoMemory, Group, Exchange};
+
 use exchange::MakeFault;
 use group::GroupFault;
-use std::alloc::AllocError;
+use proto::NoMemory;
+use std::alloc::{AllocError, AllocFailed};
 use thiserror::Error;
 
 /// A fault; its text is the line that the program prints. They are tested in this order.
@@ -20,10 +24,50 @@ pub enum Fault {
     NoThread,
     /// The number of workers isn't 1 to 8, or memory is missing.
     #[error("fault: {0}")]
-    Exchange(#[from] MakeFault),
+    Exchange(MakeFault),
     /// Out of memory, or a thread can't be started.
     #[error("fault: {0}")]
-    Group(#[from] GroupFault),
+    Group(GroupFault),
     #[error("fault: out of memory")]
-    NoMemory(#[from] AllocError),
+    NoMemory,
+}
+
+impl From<NoMemory> for Fault {
+    ghost from_gives = { λ error fault. fault ≡ NoMemory };
+
+    fn from(_error: NoMemory) -> Fault {
+        Fault::NoMemory
+    }
+}
+
+impl From<AllocError> for Fault {
+    ghost from_gives = { λ error fault. fault ≡ NoMemory };
+
+    fn from(_error: AllocError) -> Fault {
+        Fault::NoMemory
+    }
+}
+
+impl<T: Drop> From<AllocFailed<T>> for Fault {
+    ghost from_gives = { λ error fault. fault ≡ NoMemory };
+
+    fn from(_failed: AllocFailed<T>) -> Fault {
+        Fault::NoMemory
+    }
+}
+
+impl From<GroupFault> for Fault {
+    ghost from_gives = { λ error fault. fault ≡ Group error };
+
+    fn from(fault: GroupFault) -> Fault {
+        Fault::Group(fault)
+    }
+}
+
+impl From<MakeFault> for Fault {
+    ghost from_gives = { λ error fault. fault ≡ Exchange error };
+
+    fn from(fault: MakeFault) -> Fault {
+        Fault::Exchange(fault)
+    }
 }

@@ -17,7 +17,7 @@ use group::{Config, GroupReport, Runtime, run_group};
 use net::{Hand, ListenReport, Listener, MioPort, NetFault, Owner, StreamSender};
 use proto::{Geometry, MAX_SESSIONS, NoMemory, SystemClock, Terms};
 use segcache::Store;
-use std::alloc::{AllocError, Global};
+use std::alloc::Global;
 use std::io::{Eprint, Write};
 use std::net::Net;
 use std::sync::Wait;
@@ -36,11 +36,11 @@ pub type Report<H> = GroupReport<MioPort<H>, SystemClock<H>>;
 /// That it can't listen, for this reason.
 fn cannot_listen(alloc: Global, options: &ServeOptions, fault: NetFault) -> Fault {
     match fault {
-        NetFault::NoMemory(error) => Fault::NoMemory(error),
+        NetFault::NoMemory => Fault::NoMemory,
         NetFault::BadAddress | NetFault::Bind | NetFault::Poll => {
             match on_one_line(alloc, options.listen.as_str()) {
                 Ok(addr) => Fault::CannotListen(addr),
-                Err(error) => Fault::NoMemory(error),
+                Err(_) => Fault::NoMemory,
             }
         }
     }
@@ -224,7 +224,7 @@ fn open<H: Wait + Net + time::Clock + Copy + Drop>(
         Ok(made) => made,
         Err(fault) => return Err(cannot_listen(alloc, options, fault)),
     };
-    let store = new_store(alloc, options, geometry, seed).map_err(|_| AllocError)?;
+    let store = new_store(alloc, options, geometry, seed)?;
     Ok(Opened {
         listener,
         hands,

@@ -4,14 +4,12 @@
     tools/prove.py          with a line for each crate that is proved
     tools/prove.py --kept   proves nothing: status 0 if the program was built so, and nothing that it is built of has changed since
 
-It calls the prover for each crate once those below it are proved, as many side by side as there are processors and memory for. The crates
-from which the way to the program takes longest get two processes if a processor is idle, and the others yield to them. What is proved stands
-in out/proofs: after an interrupt the next run goes on from there. What the prover says of each crate stands beside the program, as
-segcached.log.
+It calls the prover for each crate once those below it are proved, as many side by side as there are processors and memory for; those from
+which the way to the program takes longest come first. What is proved stands in out/proofs: after an interrupt the next run goes on from there.
+What the prover says of each crate stands beside the program, as segcached.log.
 
 What each crate takes stands in tools/gate_minutes.tsv, by a run of the gate; how long the rest may take is an estimate from that.
 """
-import dataclasses
 import fcntl
 import hashlib
 import math
@@ -28,20 +26,13 @@ import machine
 TOP = os.path.dirname(os.path.dirname(os.path.abspath(__file__)))
 NAME = "segcached"
 PROGRAM = f"{TOP}/crates/{NAME}/out/{NAME}"
-# Of each crate what the prover said, the sum of what it was proved from, and a folder of kept work, if it has one; and the proved libraries.
+# Of each crate what the prover said, and the sum of what it was proved from; and the proved libraries.
 PROOFS = f"{TOP}/out/proofs"
 LIBRARIES = f"{PROOFS}/libraries"
 # What of a crate isn't a part of its proof or of its stored run.
 IGNORED = ("out", "wrong")
 # A crate that no run of the gate has measured is taken to need half a minute, and one more for each of these numbers of lines.
 LINES_A_MINUTE = 2500
-# From a crate the way is near the longest one if it is shorter by at most this share of the longest of all. Such a crate is proved by several
-# processes, if processors are idle, which is faster by this factor.
-NEAR = 0.15
-JOBS = 2
-FASTER = 1.5
-# The nice value of the other crates.
-NICE = 10
 # For the estimate: the share of the processors' time that is used while all of them have work.
 SHARE_USED = 0.9
 # How many of the last characters of what the prover says of a crate that isn't proved are shown.
@@ -160,7 +151,7 @@ def ways_to_the_top(crates, minutes):
 def minutes_left(crates, minutes):
     """How long these crates may take to prove, in minutes: an estimate."""
     longest = max(ways_to_the_top(crates, minutes).values(), default=0)
-    return max(longest / FASTER, sum(minutes.values()) / (SHARE_USED * machine.processors()))
+    return max(longest, sum(minutes.values()) / (SHARE_USED * machine.processors()))
 
 
 def in_words(minutes):
@@ -202,16 +193,6 @@ def kit_folder():
     return os.path.dirname(subprocess.run(["rt", "doc"], stdout=subprocess.PIPE, text=True, check=True).stdout.strip())
 
 
-@dataclasses.dataclass(frozen=True)
-class How:
-    """How a crate is proved: by how many processes, and with which nice value. Several processes keep their work: each reads the libraries, and proves
-    some functions at a time; the library that comes of it holds its proofs. One process keeps none, and the library holds what it states alone, which is
-    read faster. (Several that keep none would be copies of one, which take a third to a half more of the processors' time and prove no sooner.)"""
-
-    processes: int
-    nice: int
-
-
 class Prover:
     """How the prover of a kit is called for a crate."""
 
@@ -225,17 +206,12 @@ class Prover:
         for folder in (LIBRARIES, f"{self.kit}/rlibs"):
             yield from ("-L", f"dependency={folder}")
 
-    def words(self, name, how):
+    def words(self, name):
         words = ["rattle", "build", "--crate-name", name, *self.libraries(name)]
         words += ["--antt-project", f"{self.kit}/rattle/logic/antt-project.json", "--logic-built", f"{self.kit}/logic_built"]
-        words += ["--jobs", str(how.processes)]
-        if how.processes > 1:
-            words += ["--incremental", f"{PROOFS}/{name}"]
-        elif name != NAME:
-            words.append("--statements")
         if name == NAME:
             return [*words, "--toolchain", f"{self.kit}/toolchain", "-o", f"{PROOFS}/{name}.o", "src/main.rt"]
-        return [*words, "-o", f"{LIBRARIES}/{name}.rlib", "src/lib.rt"]
+        return [*words, "--statements", "-o", f"{LIBRARIES}/{name}.rlib", "src/lib.rt"]
 
     def link(self):
         """Makes the program of what was proved and compiled."""
@@ -256,14 +232,13 @@ def is_proved(name):
 class Proof:
     """A crate that is being proved."""
 
-    def __init__(self, prover, name, how):
+    def __init__(self, prover, name):
         self.name, self.sources, self.record = name, sum_of_sources(name), f"{PROOFS}/{name}.proved"
         if os.path.exists(self.record):
             os.remove(self.record)
-        words = ["nice", "-n", str(how.nice), *prover.words(name, how)]
         with open(log_of(name), "w", encoding="utf-8") as log:
             to = {"stdin": subprocess.DEVNULL, "stdout": log, "stderr": subprocess.STDOUT, "process_group": 0}
-            self.ran = subprocess.Popen(words, cwd=f"{TOP}/crates/{name}", **to)
+            self.ran = subprocess.Popen(prover.words(name), cwd=f"{TOP}/crates/{name}", **to)
 
     def has_ended(self):
         return self.ran.poll() is not None
@@ -279,23 +254,10 @@ class Proof:
         self.ran.wait()
 
 
-def how_to_prove(name, crates, ways, proved, idle):
-    """How to prove a crate that is ready, if so many processors would have nothing to do were it proved by one process."""
-    whole, longest = max(ways.values()), max(way for it, way in ways.items() if it not in proved)
-    is_near = longest - ways[name] <= NEAR * whole
-    nice = 0 if is_near else NICE
-    if not crates[name]:
-        return How(machine.processors(), nice)
-    # (Most of what the program's own crate takes is that the libraries are read, which each process does.)
-    return How(JOBS if is_near and idle > 0 and name != NAME else 1, nice)
-
-
 def to_start(crates, ways, proved, running):
-    """The crates to start now, those with the longest way first, and how to prove each."""
+    """The crates to start now, those with the longest way first."""
     ready = [name for name in ways if name not in proved and name not in running and proved.issuperset(crates[name])]
-    chosen = sorted(ready, key=ways.get, reverse=True)[: machine.at_once() - len(running)]
-    idle = machine.processors() - len(running) - len(chosen)
-    return [(name, how_to_prove(name, crates, ways, proved, idle)) for name in chosen]
+    return sorted(ready, key=ways.get, reverse=True)[: machine.at_once() - len(running)]
 
 
 def prove_side_by_side(crates, proved, progress, interrupts):
@@ -303,8 +265,8 @@ def prove_side_by_side(crates, proved, progress, interrupts):
     prover, ways, running = Prover(kit_folder()), ways_to_the_top(crates, dict(progress.left)), {}
     try:
         while progress.left and not interrupts:
-            for name, how in to_start(crates, ways, proved, running):
-                running[name] = Proof(prover, name, how)
+            for name in to_start(crates, ways, proved, running):
+                running[name] = Proof(prover, name)
             time.sleep(EVERY)
             for name in [it for it, proof in running.items() if proof.has_ended()]:
                 if not running.pop(name).note():

@@ -34,37 +34,27 @@ def test_the_longest_way_goes_through_what_is_left():
 
 def test_what_is_left_takes_its_longest_way_or_all_processors(monkeypatch):
     monkeypatch.setattr(prove, "SHARE_USED", 1)
-    monkeypatch.setattr(prove, "FASTER", 2)
     monkeypatch.setattr(machine, "processors", lambda: 4)
-    assert prove.minutes_left(CRATES, MINUTES) == 4.0
+    assert prove.minutes_left(CRATES, MINUTES) == 8.0
     monkeypatch.setattr(machine, "processors", lambda: 1)
     assert prove.minutes_left(CRATES, MINUTES) == 9.5
 
 
-def test_those_with_the_longest_way_start_first_and_are_proved_by_several_processes(monkeypatch):
+def test_those_with_the_longest_way_start_first(monkeypatch):
     ways = prove.ways_to_the_top(CRATES, MINUTES)
-    how, nice = prove.How, prove.NICE
-    monkeypatch.setattr(prove, "NAME", "top")
-    monkeypatch.setattr(prove, "NEAR", 0.375)
-    monkeypatch.setattr(machine, "processors", lambda: 4)
     monkeypatch.setattr(machine, "at_once", lambda: 2)
-    assert prove.to_start(CRATES, ways, set(), {}) == [("base", how(4, 0))]
-    assert prove.to_start(CRATES, ways, {"base"}, {}) == [("left", how(2, 0)), ("right", how(1, nice))]
+    assert prove.to_start(CRATES, ways, set(), {}) == ["base"]
+    assert prove.to_start(CRATES, ways, {"base"}, {}) == ["left", "right"]
+    assert prove.to_start(CRATES, ways, {"base"}, {"left": None}) == ["right"]
     assert prove.to_start(CRATES, ways, {"base"}, {"left": None, "right": None}) == []
-    assert prove.to_start(CRATES, ways, {"base", "right"}, {"left": None}) == [("aside", how(1, nice))]
-    assert prove.to_start(CRATES, ways, {"base", "left"}, {}) == [("right", how(2, 0)), ("aside", how(2, 0))]
-    monkeypatch.setattr(machine, "processors", lambda: 2)
-    assert prove.to_start(CRATES, ways, {"base"}, {}) == [("left", how(1, 0)), ("right", how(1, nice))]
-    monkeypatch.setattr(machine, "processors", lambda: 4)
-    assert prove.to_start(CRATES, ways, {"base", "left", "right", "aside"}, {}) == [("top", how(1, 0))]
-    monkeypatch.setattr(machine, "processors", lambda: 1)
-    assert prove.to_start(CRATES, ways, {"base"}, {"right": None}) == [("left", how(1, 0))]
+    assert prove.to_start(CRATES, ways, {"base", "right"}, {"left": None}) == ["aside"]
+    assert prove.to_start(CRATES, ways, {"base", "left", "right", "aside"}, {}) == ["top"]
 
 
-def test_several_processes_keep_their_work_and_one_leaves_statements():
+def test_a_library_leaves_its_statements_and_the_program_its_object():
     prover = prove.Prover("/kit")
-    assert [("--incremental" in words, "--statements" in words) for words in (prover.words("net", prove.How(it, 0)) for it in (2, 1))] == [(True, False), (False, True)]
-    assert "--statements" not in prover.words(prove.NAME, prove.How(1, 0))
+    assert "--statements" in prover.words("net") and "--toolchain" not in prover.words("net")
+    assert "--statements" not in prover.words("segcached") and "--toolchain" in prover.words("segcached")
 
 
 def test_each_crate_of_the_repository_has_its_minutes():

@@ -2,6 +2,7 @@
 import collections
 import contextlib
 import random
+import socket
 import subprocess
 import sys
 import threading
@@ -221,6 +222,35 @@ def test_unread_bytes_are_told(serve):
         with server.connect() as other:
             other.sendall(b"get unended")
             wait_for(stream, input_bytes=11)
+
+
+def test_a_worker_that_never_waits_is_told(serve):
+    """One client's lines, each wrong at its last key, come faster than they are read, and bring storage nothing."""
+    lines = (b"get " + b"k " * 800 + b"k" * 251 + b"\r\n") * 500
+    server, is_ended = serve("--lenient", "--workers", "2"), threading.Event()
+    with server.connect() as stream, server.connect() as flooding:
+        wait_for(stream, curr_connections_0=1, curr_connections_1=1)
+
+        def send():
+            while not is_ended.is_set():
+                flooding.sendall(lines)
+            flooding.shutdown(socket.SHUT_WR)
+
+        def receive():
+            while flooding.recv(1 << 20):
+                pass
+
+        threads = [threading.Thread(target=it) for it in (send, receive)]
+        for it in threads:
+            it.start()
+        time.sleep(0.5)
+        first = int(told(stream)["bytes_read"])
+        time.sleep(0.5)
+        second = int(told(stream)["bytes_read"])
+        is_ended.set()
+        for it in threads:
+            it.join()
+    assert second - first > len(lines)
 
 
 def test_what_is_refused_is_told(serve):

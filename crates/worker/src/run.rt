@@ -199,7 +199,8 @@ fn limit_output<P: Port>(worker: &mut Worker<P>) -> bool
 }
 
 /// One turn. True if something was done. It puts the held request, then what has come and what fits by now. Storage knows of
-/// all of it before the answers are looked for, so nothing is kept back while the worker waits.
+/// all of it before the answers are looked for, so nothing is kept back while the worker waits. If what has come brought no
+/// request, the worker sets its gauges, since it may not wait for a long time.
 fn take_turn<P: Port, G: Gate, R: Clock>(
     rt: &R,
     worker: &mut Worker<P>,
@@ -213,6 +214,9 @@ fn take_turn<P: Port, G: Gate, R: Clock>(
     let came = take_events(rt, worker, pauses, gate, storage);
     let fed = feed_pieces(worker);
     let asked = ask_sessions(worker, gate, storage);
+    if came && worker.state.batch.unflushed() == 0 {
+        worker.set_gauges(storage);
+    }
     worker.flush(storage);
     let settled = settle_answers(worker, gate);
     let given = give_output(worker, Task::Give, usize::MAX);

@@ -14,7 +14,6 @@ import fcntl
 import hashlib
 import math
 import os
-import shutil
 import signal
 import subprocess
 import sys

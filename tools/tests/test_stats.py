@@ -160,7 +160,7 @@ def test_what_is_evicted_is_counted(serve):
 # ---- gauges
 
 def wait_for(stream, **wanted):
-    """Asks until these gauges are told: what a worker did last is told once its turn has ended."""
+    """Asks until these gauges are told: what another worker did last may not be told yet."""
     until = time.monotonic() + 10
     while True:
         found = told(stream)

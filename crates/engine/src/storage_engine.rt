@@ -61,8 +61,8 @@ pub trait StorageEngine {
         ensures moment { moment self.new ≡ now }
 
         // NoMemory is answered only if a hit would be shown, or an item be stored by a store that may refuse it
-        ensures succeeds { needs_memory may_refuse (outcome_at (sizes self.old) (cache self.old) now request.old) ≡ false
-            → result ≢ Reply.NoMemory }
+        ensures succeeds { needs_memory may_refuse (outcome_at (sizes self.old) (cache self.old) now request.old)
+            ≡ false → result ≢ Reply.NoMemory }
 
         // nothing is forgotten while little is stored, and nothing with a deadline
         ensures kept { KeepsAll sizes cache keeps self.old now request.old result self.new };

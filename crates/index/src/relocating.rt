@@ -80,7 +80,8 @@ impl Index {
     /// for each move.
     pub fn relocate(&mut self, pool: &Pool)
         requires index { IsIndex (key_at pool.now) self.old }
-        requires can { CanRelocate (key_at pool.now) (keys_after_merge pool.now) self.old (planned_moves pool.now.plan) }
+        requires can { CanRelocate (key_at pool.now) (keys_after_merge pool.now) self.old
+            (planned_moves pool.now.plan) }
         ensures relocated { IsRelocated (key_at pool.now) (keys_after_merge pool.now)
             (moved_by (planned_moves pool.now.plan)) self.old self.new }
         ensures size { IsSameSize self.old self.new }

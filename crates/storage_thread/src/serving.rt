@@ -96,7 +96,7 @@ fn ask_clock<C: Clock>(clock: &mut AskedClock<C>, last: u64) -> (u64, ClockAnswe
 fn handle<S: StorageEngine, C: Clock, R: time::Clock>(
     store: &mut S,
     clock: &AskedClock<C>,
-    source: &StatsSource<R>,
+    source: &mut StatsSource<R>,
     moment: u64,
     request: &mut Request,
 ) -> Reply
@@ -106,13 +106,12 @@ fn handle<S: StorageEngine, C: Clock, R: time::Clock>(
     ensures step { Step (S.sizes store.old) (S.cache store.old) moment request.old result (S.cache store.new) }
     ensures sizes { S.sizes store.new ≡ S.sizes store.old }
     ensures moment { S.moment store.new ≡ moment }
-    ensures succeeds { needs_memory S.may_refuse (outcome_at (S.sizes store.old) (S.cache store.old) moment request.old) ≡ false
-        → result ≢ Reply.NoMemory }
+    ensures succeeds { needs_memory S.may_refuse
+        (outcome_at (S.sizes store.old) (S.cache store.old) moment request.old) ≡ false → result ≢ Reply.NoMemory }
     ensures kept { KeepsAll S.sizes S.cache S.keeps store.old moment request.old result store.new }
 {
-    let evictions = store.evictions();
     let reply = store.handle(moment, request);
-    source.note_evictions(clock.at(), evictions, store.evictions());
+    source.note_evictions(clock.at(), store.evictions());
     reply
 }
 
@@ -141,7 +140,7 @@ fn execute<S: StorageEngine, C: Clock, R: time::Clock>(
     store: &mut S,
     clock: &mut AskedClock<C>,
     counts: &mut Counts,
-    source: &StatsSource<R>,
+    source: &mut StatsSource<R>,
     end: &mut StorageBatch,
     worker: usize,
     posted: Posted,
@@ -272,13 +271,13 @@ fn serve<R: Wait + time::Clock, S: StorageEngine, C: Clock>(
     ensures refused { RefusesBy S.may_refuse end.new.end.history }
     ensures leads { C.leads_to clock.old.clock clock.new.clock }
     ensures moments { IsTimed (C.told clock.old.clock) (C.told clock.new.clock) end.new.end.history }
-    ensures kept { S.keeps store.old [] → LeadsKeeping end.new.end.terms.geometry end.new.end.history (S.cache store.new)
-        (S.keeps store.new) }
+    ensures kept { S.keeps store.old [] → LeadsKeeping end.new.end.terms.geometry end.new.end.history
+        (S.cache store.new) (S.keeps store.new) }
     ensures executed { result ≡ min (length end.new.end.history) (2 ^ 64 - 1) }
 {
     let mut executed = 0u64;
     let mut counts = Counts::new();
-    let source = StatsSource::new(rt, signals);
+    let mut source = StatsSource::new(rt, signals);
     let mut idle = IdleTurns::new(IDLE_TURNS, signals.spin());
     let mut waits = Waits::new(rt, Some(signals.storage_gauges()));
     let mut ahead = 0;
@@ -291,7 +290,7 @@ fn serve<R: Wait + time::Clock, S: StorageEngine, C: Clock>(
             Some(Taken::Asked { worker, posted }) => {
                 waits.end(rt);
                 ahead = read_ahead(ahead, store, end, signals);
-                let told = execute(store, clock, &mut counts, &source, end, worker, posted);
+                let told = execute(store, clock, &mut counts, &mut source, end, worker, posted);
                 if let Some(told) = told {
                     signals.unpark(told);
                 }

@@ -9,12 +9,14 @@ use proto::{Counts, Gauge, NoMemory, Reply, Request, StatsText, VERSION};
 use std::time::{Clock, Duration, Instant};
 
 /// Where what a `stats` shows beside counts comes from: the system's clock, when the thread began, and the signals.
-#[derive(Clone, Copy)]
+#[derive(Drop)]
 pub struct StatsSource<'a, R> {
     rt: &'a R,
     // None if the clock couldn't be read.
     began: Option<Instant>,
     signals: &'a StorageSignals,
+    // How often the store had made room when that was noted last.
+    evictions: u64,
 }
 
 impl<'a, R: Clock> StatsSource<'a, R> {
@@ -23,6 +25,7 @@ impl<'a, R: Clock> StatsSource<'a, R> {
             rt,
             began: Instant::now(rt).ok(),
             signals,
+            evictions: 0,
         }
     }
 
@@ -37,9 +40,11 @@ impl<'a, R: Clock> StatsSource<'a, R> {
         }
     }
 
-    /// If room was made more often than before, it was by a request for which the clock was read then.
-    pub fn note_evictions(&self, since: Option<Instant>, before: u64, now: u64) {
-        if now != before {
+    /// Notes how often the store has made room by now. If that is more than before, it was for a request for which the clock was
+    /// read then.
+    pub fn note_evictions(&mut self, since: Option<Instant>, evictions: u64) {
+        if evictions != self.evictions {
+            self.evictions = evictions;
             self.signals
                 .storage_gauges()
                 .raise_micros(Gauge::MergeLongest, self.passed(since));

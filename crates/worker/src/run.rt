@@ -11,7 +11,7 @@ use crate::gate::Gate;
 use crate::pauses::Pauses;
 use crate::session_list::SessionList;
 use crate::worker::{AskAgain, Worker, WorkerState};
-use exchange::{ParkingWord, StorageSignals, Waits, WorkerBatch, WorkerEnd};
+use exchange::{StorageSignals, Waits, WorkerBatch, WorkerEnd};
 use proto::{Dialect, WINDOW};
 use session_book::Task;
 use std::alloc::Global;
@@ -32,6 +32,9 @@ const ASKS_IN_A_ROW: usize = 8;
 
 /// The most sessions whose peer accepted nothing that are offered their output again in a turn.
 const SLOW_A_TURN: usize = 2;
+
+/// A worker that doesn't wait sets its gauges each time that it has taken so many turns.
+const TURNS_PER_GAUGES: u32 = 16;
 
 /// What a worker leaves.
 #[derive(Drop)]
@@ -60,7 +63,7 @@ fn take_event<P: Port, R: Clock>(
     if !may_wait {
         return worker.take_event(may_wait);
     }
-    worker.set_gauges(storage);
+    worker.state.set_gauges(storage);
     pauses.waits.begin(rt);
     let came = worker.take_event(may_wait);
     pauses.waits.end(rt);
@@ -199,8 +202,7 @@ fn limit_output<P: Port>(worker: &mut Worker<P>) -> bool
 }
 
 /// One turn. True if something was done. It puts the held request, then what has come and what fits by now. Storage knows of
-/// all of it before the answers are looked for, so nothing is kept back while the worker waits. If what has come brought no
-/// request, the worker sets its gauges, since it may not wait for a long time.
+/// all of it before the answers are looked for, so nothing is kept back while the worker waits.
 fn take_turn<P: Port, G: Gate, R: Clock>(
     rt: &R,
     worker: &mut Worker<P>,
@@ -214,9 +216,6 @@ fn take_turn<P: Port, G: Gate, R: Clock>(
     let came = take_events(rt, worker, pauses, gate, storage);
     let fed = feed_pieces(worker);
     let asked = ask_sessions(worker, gate, storage);
-    if came && worker.state.batch.unflushed() == 0 {
-        worker.set_gauges(storage);
-    }
     worker.flush(storage);
     let settled = settle_answers(worker, gate);
     let given = give_output(worker, Task::Give, usize::MAX);
@@ -276,31 +275,26 @@ pub fn run_worker<P: Port, G: Gate, R: Wait + Clock>(
     let gauges = storage.gauges(worker_end.worker());
     let mut worker = Worker::new(alloc, port, worker_end, dialect);
     let mut pauses = Pauses::new(storage.spin(), Waits::new(rt, gauges));
+    let mut turns = 0;
     for _ in rt.forever() {
+        count_turn(&mut turns, &worker, storage);
         if take_turn(rt, &mut worker, &mut pauses, gate, storage) {
             pauses.reset(parking);
         } else if has_drained(&mut worker) {
             return leave(worker, storage);
         } else {
-            pass_turn(rt, &worker, &mut pauses, parking, storage);
+            pauses.turn(rt, worker.state.batch.outstanding() > 0, parking);
         }
     }
     unreachable!()
 }
 
-/// An idle turn. The worker sets its gauges in one in which it waits for no answer, but for peers that accept no bytes.
-fn pass_turn<P: Port, R: Wait + Clock>(
-    rt: &R,
-    worker: &Worker<P>,
-    pauses: &mut Pauses,
-    parking: Option<&ParkingWord>,
-    storage: &StorageSignals,
-) {
-    let for_answers = worker.state.batch.outstanding() > 0;
-    if !for_answers {
-        worker.set_gauges(storage);
+/// Counts a turn. At each of so many the worker sets its gauges.
+fn count_turn<P: Port>(turns: &mut u32, worker: &Worker<P>, storage: &StorageSignals) {
+    *turns = turns.wrapping_add(1);
+    if *turns % TURNS_PER_GAUGES == 0 {
+        worker.state.set_gauges(storage);
     }
-    pauses.turn(rt, for_answers, parking);
 }
 
 /// Says bye, and leaves the report.

@@ -1,6 +1,6 @@
 //! A worker that serves its port, by the steps that it takes.
 
-ghost use Rattle.std.specs.Prelude.{◌≡◌, ◌⊎◌, Some, None, IsSome, [], true, false, MatchOption};
+ghost use Rattle.std.specs.Prelude.{◌≡◌, ◌⊎◌, ◌<◌, Some, None, IsSome, [], true, false, MatchOption};
 ghost use Rattle.std.specs.Option.{option_and_then};
 ghost use Rattle.session_book.specs.Session.{finished_by, HasReadAll};
 ghost use Rattle.session_book.specs.Book.{session_of};
@@ -14,7 +14,7 @@ use crate::gate::Gate;
 use crate::session_list::SessionList;
 use bytes::Bytes;
 use exchange::{Answered, StorageSignals, WorkerBatch, WorkerEnd};
-use proto::{Dialect, Posted};
+use proto::{Dialect, Posted, Request};
 use session_book::{Book, EndCause, Received, Settled, Task};
 use std::alloc::Global;
 use std::marker::Model;
@@ -127,6 +127,26 @@ impl<P: Port> WorkerState<P> {
     {
         if self.book.is_open(session) {
             self.close(session, EndCause::Gone);
+        }
+    }
+
+    /// Sets the worker's gauges, for a `stats`.
+    pub(crate) fn set_gauges(&self, storage: &StorageSignals) {
+        if let Some(gauges) = storage.gauges(self.batch.worker()) {
+            self.book.set_gauges(gauges);
+            self.port.set_gauges(gauges);
+        }
+    }
+
+    /// Leaves for storage what it needs for a request that is put now: a hint of its key, or, for a `stats`, the gauges.
+    fn prepare(&self, posted: &Posted, storage: &StorageSignals)
+        requires { 0 < posted.now.number }
+    {
+        if matches!(posted.request, Request::Stats) {
+            self.set_gauges(storage);
+        }
+        if let Some(key) = posted.request.first_key() {
+            storage.leave_hint(self.batch.worker(), posted.number - 1, key);
         }
     }
 }
@@ -284,7 +304,7 @@ impl<P: Port> Worker<P> {
     }
 
     /// Puts the held request into its slot, if the gate lets it and there is room. True if something was done. The next flush
-    /// tells storage of it. A hint of the key is left for it.
+    /// tells storage of it.
     pub(crate) fn put_held<G: Gate>(&mut self, gate: &G, storage: &StorageSignals) -> bool
         ensures goes_on { Continues P.told P.leads_to self.old self.new }
         ensures put { result ≡ true → self.new.request ≡ None }
@@ -292,14 +312,11 @@ impl<P: Port> Worker<P> {
         let Some(held) = self.state.request.take() else {
             return false;
         };
-        let worker = self.state.batch.worker();
-        if !gate.may_post(worker, held.number) {
+        if !gate.may_post(self.state.batch.worker(), held.number) {
             self.state.request = Some(held);
             return false;
         }
-        if let Some(key) = held.request.first_key() {
-            storage.leave_hint(worker, held.number - 1, key);
-        }
+        self.state.prepare(&held, storage);
         match self.state.batch.put(held) {
             Ok(()) => true,
             Err(held) => {
@@ -309,20 +326,11 @@ impl<P: Port> Worker<P> {
         }
     }
 
-    /// Sets its gauges, for a `stats`.
-    pub(crate) fn set_gauges(&self, storage: &StorageSignals) {
-        if let Some(gauges) = storage.gauges(self.state.batch.worker()) {
-            self.state.book.set_gauges(gauges);
-            self.state.port.set_gauges(gauges);
-        }
-    }
-
-    /// Tells storage of all that was put, and unparks it. Before, it sets its gauges, for a `stats` among it.
+    /// Tells storage of all that was put, and unparks it.
     pub(crate) fn flush(&mut self, storage: &StorageSignals)
         ensures { Continues P.told P.leads_to self.old self.new }
     {
         if self.state.batch.unflushed() > 0 {
-            self.set_gauges(storage);
             self.state.batch.flush();
             storage.parking().unpark();
         }

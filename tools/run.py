@@ -3,9 +3,9 @@
 
     tools/run.py
 
-If nothing is proved yet, the script first runs on a build that is checked as it runs (`rt try`), which takes a minute; then come the proofs, a
-line for each crate. At the end the proved program replays the script and serves. What was proved is kept: an interrupt loses none of it, and if
-all is kept the proved program runs at once.
+If nothing is proved yet, the script first runs on a build that is checked as it runs (`rt try`), which takes a minute. Meanwhile the proofs
+begin, of which there is a line for each crate. At the end the proved program replays the script and serves. What was proved is kept: an interrupt
+loses none of it, and if all is kept the proved program runs at once.
 
 A run from nothing leaves the line that docs/GATE.md has of it in out/run_times.
 """
@@ -113,11 +113,11 @@ def note_times(first, whole):
 
 
 def try_and_prove():
-    """Shows the first answer, and then how the proofs go on. (They begin after it: beside them it took half as long again.)"""
+    """Shows the first answer, and how the proofs go on. (They begin beside it: all crates wait for the first one, which one process proves.)"""
     is_from_nothing, began = not os.path.exists(prove.PROOFS), time.monotonic()
-    try_script()
-    first = time.monotonic() - began
     with started(["bash", "tools/build.sh"]) as proving:
+        try_script()
+        first = time.monotonic() - began
         proving.wait()
     if proving.returncode:
         sys.exit("segcached: not all of it is proved")

@@ -359,9 +359,12 @@ impl Book {
         self.upkeep.ready.reads_on()
     }
 
-    /// Whether a session is to be asked, also one that was put off.
-    pub fn has_to_ask(&self) -> bool {
-        self.ready(Task::Ask) > 0 || self.ready(Task::AskLarge) > 0
+    /// How many sessions are to be asked, with those that were put off.
+    pub fn to_ask(&self) -> usize {
+        let ready = &self.upkeep.ready;
+        ready
+            .count(Task::Ask)
+            .saturating_add(ready.count(Task::AskLarge))
     }
 
     /// Takes out the next session that is to be asked. One that was put off comes if no other is to be asked, or once as many

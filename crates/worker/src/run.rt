@@ -143,13 +143,9 @@ fn ask_sessions<P: Port, G: Gate>(
     ensures { Continues P.told P.leads_to worker.old worker.new }
 {
     let mut moved = false;
-    let most = worker
-        .state
-        .book
-        .ready(Task::Ask)
-        .saturating_add(WINDOW as usize);
+    let most = worker.state.book.to_ask().saturating_mul(WINDOW as usize);
     for _ in 0..most {
-        if !worker.state.book.has_to_ask() || worker.is_busy() {
+        if worker.is_busy() {
             break;
         }
         let Some(session) = worker.state.book.next_to_ask() else {

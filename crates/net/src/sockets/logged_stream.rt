@@ -109,8 +109,8 @@ impl<S: Read + Write + Drop> LoggedStream<S> {
         _history: &ToldHistory,
     ) -> io::Result<usize>
         requires exchange { _history.now.exchange ≡ _exchange.now }
-        requires due { MayBeSent (by_system_clock _owner.geometry) _owner.dialect _owner.worker _history.now.items
-            _session self.old.received.items self.old.sent.items bytes.now }
+        requires due { MayBeSent (by_system_clock _owner.geometry) _owner.dialect _owner.worker _history.now.items _session
+            self.old.received.items self.old.sent.items bytes.now }
         ensures within { IfOk result (λ n. n ≤ length bytes.now) }
         ensures sent { IfOk result (λ n. self.new.sent.items ≡ self.old.sent.items ++ take n bytes.now) }
         ensures failed { OnErr result (self.new.sent.items ≡ self.old.sent.items) }

@@ -80,7 +80,7 @@ pub struct StorageSignals {
 impl StorageSignals {
     /// The signals of a group of workers. A single worker leaves no hints, since hashing each key first takes it more time
     /// than storage wins. The hasher is the one by which the store looks keys up. `spin` is how many microseconds the storage
-    /// thread and the workers look for work before they park; None is as few turns as each of them sees fit.
+    /// thread and the workers look for work before they park; with None each uses its own small number of turns.
     ///
     /// # Errors
     ///

@@ -11,7 +11,7 @@ pub struct Config {
     pub terms: Terms,
     /// How lines are written that sessions send.
     pub dialect: Dialect,
-    /// How many microseconds each thread looks for work before it sleeps. None is as few as each of them sees fit.
+    /// How many microseconds each thread looks for work before it sleeps. With None each uses its own small number of turns.
     pub spin: Option<u32>,
 }
 

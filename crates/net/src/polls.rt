@@ -28,33 +28,33 @@ const STALLED_WAIT_MILLIS: u64 = 1;
 #[derive(Clone, Copy, Default)]
 pub(crate) struct Polls {
     idle_calls: u32,
-    // The calls since the last poll.
+    /// The calls since the last poll.
     unpolled: usize,
-    // Zero at first: each poll waits then, if the worker may.
+    /// Zero at first: each poll waits then, if the worker may.
     spin: Duration,
-    // The first poll since the last event that would wait; none if there was none.
+    /// The first poll since the last event that would wait; none if there was none.
     since: Option<Instant>,
 }
 
 impl Polls {
-    // Polls don't wait until this many microseconds after an event.
+    /// Polls don't wait until this many microseconds after an event.
     pub(crate) fn set_spin(&mut self, micros: u32) {
         self.spin = Duration::from_micros(micros as u64);
     }
 
-    // Something came or went: idle calls are counted from here.
+    /// Something came or went: idle calls are counted from here.
     pub(crate) fn restart(&mut self) {
         self.idle_calls = 0;
         self.since = None;
     }
 
-    // So many bytes of output were accepted.
+    /// So many bytes of output were accepted.
     pub(crate) fn gave(&mut self, bytes: usize) {
         self.restart();
         self.unpolled = self.unpolled.saturating_add(bytes / MAX_PIECE);
     }
 
-    // How long the poll of this call waits; none if there is to be no poll.
+    /// How long the poll of this call waits; none if there is to be no poll.
     pub(crate) fn next<R: Clock>(
         &mut self,
         rt: &R,
@@ -78,7 +78,7 @@ impl Polls {
         limit
     }
 
-    // How long the poll of a call waits that knows of no event; none if it needn't poll.
+    /// How long the poll of a call waits that knows of no event; none if it needn't poll.
     fn idle_wait<R: Clock>(
         &mut self,
         rt: &R,
@@ -98,7 +98,7 @@ impl Polls {
         Some(Duration::from_millis(millis))
     }
 
-    // Whether a poll is too early to wait. The clock is read only here, so that a busy port never reads it.
+    /// Whether a poll is too early to wait. The clock is read only here, so that a busy port never reads it.
     fn spins<R: Clock>(&mut self, rt: &R) -> bool {
         if self.spin.is_zero() {
             return false;

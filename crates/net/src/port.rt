@@ -42,13 +42,13 @@ pub struct MioPort<R: Drop> {
     events: Events,
     served: Streams,
     polls: Polls,
-    // When idle sessions are looked for, if they are ended at all.
+    /// When idle sessions are looked for, if they are ended at all.
     idle_looks: Option<Interval>,
-    // The hand may have streams: it woke a poll since it was last empty, or a poll returned nothing (a wake can get lost).
+    /// The hand may have streams: it woke a poll since it was last empty, or a poll returned nothing (a wake can get lost).
     has_streams: bool,
-    // Some sessions may have been idle for long enough at the last look.
+    /// Some sessions may have been idle for long enough at the last look.
     has_idle: bool,
-    // Sessions that were ended as idle.
+    /// Sessions that were ended as idle.
     idle_kicks: u64,
 }
 
@@ -154,8 +154,8 @@ impl<R: Wait + Clock + Drop> MioPort<R> {
         PortEvent::Idle
     }
 
-    // Polls the sockets if no event is known yet and the end isn't to be told, unless it is too early; and now and then even
-    // so. Returns false if there is no event.
+    /// Polls the sockets if no event is known yet and the end isn't to be told, unless it is too early; and now and then even
+    /// so. Returns false if there is no event.
     fn look(&mut self, may_wait: bool) -> bool
         ensures { TellsNothing self.old.served self.new.served }
     {
@@ -174,7 +174,7 @@ impl<R: Wait + Clock + Drop> MioPort<R> {
         knows_event || limit.is_some()
     }
 
-    // Polls the sockets, for no longer than this, nor beyond the next look for idle sessions.
+    /// Polls the sockets, for no longer than this, nor beyond the next look for idle sessions.
     fn poll_for(&mut self, limit: Duration)
         ensures { TellsNothing self.old.served self.new.served }
     {
@@ -199,7 +199,7 @@ impl<R: Wait + Clock + Drop> MioPort<R> {
         }
     }
 
-    // Opens a session for the next stream that waits in the hand and can be served.
+    /// Opens a session for the next stream that waits in the hand and can be served.
     fn open_next(&mut self) -> Option<PortEvent>
         requires { GoesOn (trace_of self.old.served) }
         ensures told { MayTell (trace_of self.old.served) result (trace_of self.new.served) }

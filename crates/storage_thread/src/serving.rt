@@ -45,8 +45,8 @@ pub struct StorageReport<C: Clock> {
     pub executed: u64,
 }
 
-// Prefetches for the message just taken and for those seen after it. `done` is how many messages an earlier call has already
-// covered, and the result is how many this one has.
+/// Prefetches for the message just taken and for those seen after it. `done` is how many messages an earlier call has already
+/// covered, and the result is how many this one has.
 fn read_ahead<S: StorageEngine>(
     done: u64,
     store: &S,
@@ -80,7 +80,7 @@ pub fn next_moment<C: Clock>(clock: &mut AskedClock<C>, last: u64) -> u64
     now.max(last)
 }
 
-// Asks the clock as `next_moment` does, and gives all its answers so far too.
+/// Asks the clock as `next_moment` does, and gives all its answers so far too.
 fn ask_clock<C: Clock>(clock: &mut AskedClock<C>, last: u64) -> (u64, ClockAnswers)
     ensures leads { C.leads_to clock.old.clock clock.new.clock }
     ensures moment { AsksClock C.told C.start clock.old last clock.new result.0 }
@@ -91,7 +91,7 @@ fn ask_clock<C: Clock>(clock: &mut AskedClock<C>, last: u64) -> (u64, ClockAnswe
     (moment, clock.answers())
 }
 
-// What the store replies. If it made room, the time since the clock was read is noted.
+/// What the store replies. If it made room, the time since the clock was read is noted.
 #[inline(always)]
 fn handle<S: StorageEngine, C: Clock, R: time::Clock>(
     store: &mut S,
@@ -115,7 +115,7 @@ fn handle<S: StorageEngine, C: Clock, R: time::Clock>(
     reply
 }
 
-// The reply to a request of the worker, to which the store replied so. It is counted.
+/// The reply to a request of the worker, to which the store replied so. It is counted.
 #[inline(always)]
 fn count_reply<S: StorageEngine, R: time::Clock>(
     counts: &mut Counts,
@@ -134,8 +134,8 @@ fn count_reply<S: StorageEngine, R: time::Clock>(
     reply
 }
 
-// Executes the open request, counts it, and answers it. Its worker is told at the next flush, or before. It gives the worker
-// that was told of its answers now, if one was.
+/// Executes the open request, counts it, and answers it. Its worker is told at the next flush, or before. It gives the worker
+/// that was told of its answers now, if one was.
 fn execute<S: StorageEngine, C: Clock, R: time::Clock>(
     store: &mut S,
     clock: &mut AskedClock<C>,
@@ -185,7 +185,7 @@ fn execute<S: StorageEngine, C: Clock, R: time::Clock>(
     end.answer_later(answered)
 }
 
-// Tells the workers of all answers, and unparks the one whose answers they are.
+/// Tells the workers of all answers, and unparks the one whose answers they are.
 fn tell_workers(end: &mut StorageBatch, signals: &StorageSignals)
     ensures end { end.new.end ≡ end.old.end }
     ensures told { end.new.told ≡ end.old.end.history }
@@ -195,7 +195,7 @@ fn tell_workers(end: &mut StorageBatch, signals: &StorageSignals)
     }
 }
 
-// Whether the workers are told of all answers before this message: at each eighth answer, and before a `get` for many keys.
+/// Whether the workers are told of all answers before this message: at each eighth answer, and before a `get` for many keys.
 fn tells_before(taken: &Taken, executed: u64) -> bool {
     if executed % ANSWERS_PER_FLUSH == 0 {
         return true;
@@ -209,8 +209,8 @@ fn tells_before(taken: &Taken, executed: u64) -> bool {
     }
 }
 
-// The next message among those that the last look at the lanes named; the workers are told of each eighth answer, and of all
-// before a `get` for many keys. If none is left, they are told of all answers, and then the lanes are looked at.
+/// The next message among those that the last look at the lanes named; the workers are told of each eighth answer, and of all
+/// before a `get` for many keys. If none is left, they are told of all answers, and then the lanes are looked at.
 fn take_next<C: Clock>(
     end: &mut StorageBatch,
     clock: &AskedClock<C>,
@@ -232,7 +232,7 @@ fn take_next<C: Clock>(
     Some(taken)
 }
 
-// An idle turn, in which the thread may park. No worker waits for an answer that was given.
+/// An idle turn, in which the thread may park. No worker waits for an answer that was given.
 fn pass_turn<R: Wait + time::Clock>(
     rt: &R,
     _end: &StorageBatch,
@@ -248,8 +248,8 @@ fn pass_turn<R: Wait + time::Clock>(
     idle.turn(rt, signals.parking());
 }
 
-// Executes requests until all workers have said bye, of which so many are left, and gives how many it executed. The store and
-// the end are new, and the clock was asked nothing.
+/// Executes requests until all workers have said bye, of which so many are left, and gives how many it executed. The store and
+/// the end are new, and the clock was asked nothing.
 fn serve<R: Wait + time::Clock, S: StorageEngine, C: Clock>(
     rt: &R,
     store: &mut S,
@@ -310,8 +310,8 @@ fn serve<R: Wait + time::Clock, S: StorageEngine, C: Clock>(
 /// Executes requests until each worker has said bye. The store is empty, for the geometry that the exchange was
 /// made for, and nothing was taken from the end. The clock is asked once for each request. The messages that a look named
 /// are served before it looks again; the workers are told of each eighth answer, and of all before it looks and before a
-/// `get` for more than 64 keys. While nothing comes, the thread spins, as long as the signals say, and then parks on a word of the signals: who has posted or
-/// said bye unparks it. By the hints there it reads ahead.
+/// `get` for more than 64 keys. While nothing comes, the thread spins, as long as the signals say, and then parks: a worker
+/// that posts or says bye wakes it. Workers' hints tell it what to prefetch.
 pub fn run_storage<R: Wait + time::Clock, S: StorageEngine + Drop, C: Clock>(
     rt: &R,
     mut store: S,

@@ -12,10 +12,10 @@ use std::time::{Clock, Duration, Instant};
 #[derive(Drop)]
 pub struct StatsSource<'a, R> {
     rt: &'a R,
-    // None if the clock couldn't be read.
+    /// None if the clock couldn't be read.
     began: Option<Instant>,
     signals: &'a StorageSignals,
-    // How often the store had made room when that was noted last.
+    /// How often the store had made room when that was noted last.
     evictions: u64,
 }
 
@@ -29,7 +29,7 @@ impl<'a, R: Clock> StatsSource<'a, R> {
         }
     }
 
-    // How long ago that was; no time if the clock can't be read.
+    /// How long ago that was; no time if the clock can't be read.
     fn passed(&self, since: Option<Instant>) -> Duration {
         let Some(since) = since else {
             return Duration::ZERO;
@@ -51,7 +51,7 @@ impl<'a, R: Clock> StatsSource<'a, R> {
         }
     }
 
-    // Sets the gauges, this long after the thread began.
+    /// Sets the gauges, this long after the thread began.
     fn set_gauges<S: StorageEngine>(&self, store: &S, worker: usize, passed: Duration) {
         let gauges = self.signals.storage_gauges();
         gauges.set(&[
@@ -66,7 +66,7 @@ impl<'a, R: Clock> StatsSource<'a, R> {
         store.set_gauges(gauges);
     }
 
-    // These counts, and the gauges, for a worker that asks.
+    /// These counts, and the gauges, for a worker that asks.
     #[inline(never)]
     #[tactic(auto, unfolding(proto::specs::StatTexts::names_gauge, proto::specs::StatTexts::count_lines, proto::specs::StatTexts::total_lines, proto::specs::StatTexts::tally_lines))]
     fn text<S: StorageEngine>(
@@ -85,7 +85,7 @@ impl<'a, R: Clock> StatsSource<'a, R> {
         self.with_workers(text, passed)
     }
 
-    // The same with the lines of each worker.
+    /// The same with the lines of each worker.
     fn with_workers(&self, text: StatsText, passed: Duration) -> Result<StatsText, NoMemory>
         ensures { IfOk result (λ told. told ≡ text) }
     {

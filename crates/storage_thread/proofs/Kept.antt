@@ -11,7 +11,7 @@ use Rattle.proto.specs.Cache.{Cache, empty_cache}
 use Rattle.proto.specs.History.{Chain}
 use Rattle.proto.specs.Commands.{SetsNoDeadline}
 use Rattle.proto.specs.Stored.{StoredItem, is_no_memory, written}
-use Rattle.std.proofs.Common.{◌∙◌, ℕ, ◌≢◌, Bool, true, false, Some, None, inl, inr}
+use Rattle.std.proofs.Common.{◌∙◌, ℕ, ◌≢◌, Bool, true, false, inl, inr}
 use Rattle.std.specs.Prelude.{if◌then◌else◌}
 use Rattle.proto.specs.declared.message.Request.{Request}
 use Rattle.proto.specs.declared.message.Request.TheVariants.{Stats}

@@ -17,7 +17,6 @@ use Rattle.proto.specs.Buckets.{time_to_live, bucket_of}
 use Rattle.proto.specs.Steps.{size_at, deadline_at, MayBeDated, IsDated, Step}
 use Rattle.proto.specs.History.{Chain}
 use Rattle.proto.specs.Stored.{StoredItem, stored_item_of, item_stored, is_no_memory, written, spread}
-use Rattle.proto.proofs.Options.{none_is_some}
 use Rattle.proto.proofs.CacheLemmas.{is_live, if_live, get-no_entries, get-live, contains_bytes, get-without}
 use Rattle.proto.proofs.StepLemmas.{none_dated, insert-same}
 use Rattle.proto.proofs.Outcomes.{deadline_in, none_act}

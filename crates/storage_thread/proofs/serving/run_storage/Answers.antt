@@ -3,7 +3,7 @@ use Rattle.exchange.specs.Ends.{StorageView, StorageBatchView}
 use Rattle.proto.specs.declared.terms.Terms.{Terms}
 use Rattle.proto.specs.History.{Legal, RefusesBy}
 use Rattle.engine.proofs.ReachingLemmas.{legal_of}
-use Rattle.storage_thread.specs.Serving.{IsStorageServing, IsTimed, SaidBye}
+use Rattle.storage_thread.specs.Serving.{IsStorageServing, SaidBye}
 use Rattle.storage_thread.specs.Keeping.{LeadsKeeping, MayAlwaysForgetNothing}
 use Rattle.storage_thread.proofs.serving.run_storage.Goals as goal
 

@@ -1,15 +1,14 @@
-use Rattle.std.proofs.Common.{◌≡◌, true, rules, arith, ℕ, ◌<◌, List, All, IsSome, refl, ap, sym, subst, ◌∙◌}
+use Rattle.std.proofs.Common.{◌≡◌, rules, arith, ℕ, List, refl, ap, sym, subst, ◌∙◌}
 use Rattle.proto.specs.declared.history.Posted.{Posted}
 use Rattle.exchange.specs.Ends.{StorageView}
 use Rattle.proto.specs.declared.terms.Terms.{Terms}
 use Rattle.proto.specs.ClockAnswers.{GivenAnswer}
-use Rattle.proto.specs.History.{Legal, RefusesBy}
+use Rattle.proto.specs.History.{RefusesBy}
 use Rattle.proto.proofs.HistoryLemmas.{refuses_none}
 use Rattle.proto.specs.Tallies.{no_counts, counts_after}
 use Rattle.proto.specs.declared.history.Answered.{Answered}
-use Rattle.engine.proofs.ReachingLemmas.{legal_of}
-use Rattle.storage_thread.specs.Serving.{IsReadSince, SaidBye, GetsNone, IsStorageServing}
-use Rattle.storage_thread.specs.Keeping.{LeadsKeeping, MayAlwaysForgetNothing}
+use Rattle.storage_thread.specs.Serving.{IsReadSince, SaidBye, GetsNone}
+use Rattle.storage_thread.specs.Keeping.{LeadsKeeping}
 use Rattle.storage_thread.proofs.Kept.{leads_first}
 use Rattle.storage_thread.proofs.Turns.{serving_first, longer, same_sizes, same_byes, same_workers, serving_asked}
 use Rattle.storage_thread.proofs.Turns.{serving_none, serving_bye, asked_read, answers_asked, read_first, timed_asked}

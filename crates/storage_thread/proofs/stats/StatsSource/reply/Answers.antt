@@ -1,4 +1,4 @@
-use Rattle.std.proofs.Common.{List, ℕ, refl, inr, subst}
+use Rattle.std.proofs.Common.{refl, inr, subst}
 use Rattle.proto.specs.declared.counts.Counts.{Counts}
 use Rattle.proto.specs.StatTexts.{IsStats}
 use Rattle.storage_thread.proofs.stats.StatsSource.reply.Goals as goal

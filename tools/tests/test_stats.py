@@ -170,6 +170,14 @@ def wait_for(stream, **wanted):
         time.sleep(0.05)
 
 
+def wait_for_output(stream, size):
+    """Asks until so many bytes of output wait for all clients together."""
+    until = time.monotonic() + 10
+    while int(told(stream)["output_bytes"]) < size and time.monotonic() < until:
+        time.sleep(0.05)
+    assert int(told(stream)["output_bytes"]) >= size
+
+
 def test_connections_are_told(serve):
     server = serve("--lenient", "--workers", "2")
     with server.connect() as stream, contextlib.ExitStack() as others:
@@ -213,10 +221,8 @@ def test_unread_bytes_are_told(serve):
     with server.connect() as stream, server.connect(receive_buffer=65536) as slow:
         ask(slow, b"set a 0 0 100000\r\n%b\r\n" % (b"v" * 100_000), b"STORED\r\n")
         slow.sendall(b"get a\r\n" * 120 + b"get unended")
-        until = time.monotonic() + 10
-        while int(told(stream)["output_bytes"]) < 1_048_576 and time.monotonic() < until:
-            time.sleep(0.05)
-        assert 1_048_576 < int(told(stream)["output_bytes"]) < 12_000_000
+        wait_for_output(stream, 1_048_577)
+        assert int(told(stream)["output_bytes"]) < 12_000_000
         slow.close()
         wait_for(stream, output_bytes=0, input_bytes=0, curr_connections=1)
         with server.connect() as other:
@@ -225,11 +231,18 @@ def test_unread_bytes_are_told(serve):
 
 
 def test_a_worker_that_never_waits_is_told(serve):
-    """One client's lines, each wrong at its last key, come faster than they are read, and bring storage nothing."""
+    """It always has output that its client doesn't read. From another client come lines, each wrong at its last key, faster than it reads them:
+    so it is never idle either, and storage has nothing to do for it."""
     lines = (b"get " + b"k " * 800 + b"k" * 251 + b"\r\n") * 500
-    server, is_ended = serve("--lenient", "--workers", "2"), threading.Event()
-    with server.connect() as stream, server.connect() as flooding:
+    server, is_ended = serve("--lenient", "--workers", "2", "--segment-size", "1048576"), threading.Event()
+    with contextlib.ExitStack() as streams:
+        stream, flooding = (streams.enter_context(server.connect()) for _ in range(2))
         wait_for(stream, curr_connections_0=1, curr_connections_1=1)
+        ask(stream, b"set a 0 0 100000\r\n%b\r\n" % (b"v" * 100_000), b"STORED\r\n")
+        for _ in range(2):
+            streams.enter_context(server.connect(receive_buffer=65536)).sendall(b"get a\r\n" * 120)
+        wait_for(stream, curr_connections_0=2, curr_connections_1=2)
+        wait_for_output(stream, 2 * 1_048_577)
 
         def send():
             while not is_ended.is_set():
@@ -250,7 +263,8 @@ def test_a_worker_that_never_waits_is_told(serve):
         is_ended.set()
         for it in threads:
             it.join()
-    assert second - first > len(lines)
+    # (the other connections read a few bytes)
+    assert second - first > 10_000
 
 
 def test_what_is_refused_is_told(serve):

@@ -5,8 +5,9 @@
     tools/prove.py --kept   proves nothing: status 0 if the program was built so, and nothing that it is built of has changed since
 
 It calls the prover for each crate once those below it are proved, as many side by side as there are processors and memory for; those from
-which the way to the program takes longest come first. What is proved stands in out/proofs: after an interrupt the next run goes on from there.
-What the prover says of each crate stands beside the program, as segcached.log.
+which the way to the program takes longest come first. The prover makes a copy of itself for each processor for the crate with the longest way
+of all, and none for the others. What is proved stands in out/proofs: after an interrupt the next run goes on from there. What the prover says of
+each crate stands beside the program, as segcached.log.
 
 What each crate takes stands in tools/gate_minutes.tsv, by a run of the gate; how long the rest may take is an estimate from that.
 """
@@ -32,7 +33,9 @@ LIBRARIES = f"{PROOFS}/libraries"
 IGNORED = ("out", "wrong")
 # A crate that no run of the gate has measured is taken to need half a minute, and one more for each of these numbers of lines.
 LINES_A_MINUTE = 2500
-# For the estimate: the share of the processors' time that is used while all of them have work.
+# For the estimate: how many times as fast the crates of the longest way are proved by several copies, and the share of the processors' time that
+# is used while all of them have work.
+FASTER = 2
 SHARE_USED = 0.9
 # How many of the last characters of what the prover says of a crate that isn't proved are shown.
 SHOWN = 3000
@@ -150,7 +153,8 @@ def ways_to_the_top(crates, minutes):
 def minutes_left(crates, minutes):
     """How long these crates may take to prove, in minutes: an estimate."""
     longest = max(ways_to_the_top(crates, minutes).values(), default=0)
-    return max(longest, sum(minutes.values()) / (SHARE_USED * machine.processors()))
+    faster = min(FASTER, machine.processors())
+    return max(longest / faster, sum(minutes.values()) / (SHARE_USED * machine.processors()))
 
 
 def in_words(minutes):
@@ -205,8 +209,8 @@ class Prover:
         for folder in (LIBRARIES, f"{self.kit}/rlibs"):
             yield from ("-L", f"dependency={folder}")
 
-    def words(self, name):
-        words = ["rattle", "build", "--crate-name", name, *self.libraries(name)]
+    def words(self, name, copies):
+        words = ["rattle", "build", "--crate-name", name, "--jobs", str(copies), *self.libraries(name)]
         words += ["--antt-project", f"{self.kit}/rattle/logic/antt-project.json", "--logic-built", f"{self.kit}/logic_built"]
         if name == NAME:
             return [*words, "--toolchain", f"{self.kit}/toolchain", "-o", f"{PROOFS}/{name}.o", "src/main.rt"]
@@ -231,13 +235,13 @@ def is_proved(name):
 class Proof:
     """A crate that is being proved."""
 
-    def __init__(self, prover, name):
+    def __init__(self, words, name):
         self.name, self.sources, self.record = name, sum_of_sources(name), f"{PROOFS}/{name}.proved"
         if os.path.exists(self.record):
             os.remove(self.record)
         with open(log_of(name), "w", encoding="utf-8") as log:
             to = {"stdin": subprocess.DEVNULL, "stdout": log, "stderr": subprocess.STDOUT, "process_group": 0}
-            self.ran = subprocess.Popen(prover.words(name), cwd=f"{TOP}/crates/{name}", **to)
+            self.ran = subprocess.Popen(words, cwd=f"{TOP}/crates/{name}", **to)
 
     def has_ended(self):
         return self.ran.poll() is not None
@@ -259,13 +263,19 @@ def to_start(crates, ways, proved, running):
     return sorted(ready, key=ways.get, reverse=True)[: machine.at_once() - len(running)]
 
 
+def copies_for(name, ways, proved):
+    """How many copies of the prover prove a crate."""
+    longest = max(way for it, way in ways.items() if it not in proved)
+    return machine.processors() if ways[name] == longest else 1
+
+
 def prove_side_by_side(crates, proved, progress, interrupts):
     """Proves the crates that are left, and gives the name of one that isn't proved, if there is one. It ends early if a signal was added to interrupts."""
     prover, ways, running = Prover(kit_folder()), ways_to_the_top(crates, dict(progress.left)), {}
     try:
         while progress.left and not interrupts:
             for name in to_start(crates, ways, proved, running):
-                running[name] = Proof(prover, name)
+                running[name] = Proof(prover.words(name, copies_for(name, ways, proved)), name)
             time.sleep(EVERY)
             for name in [it for it, proof in running.items() if proof.has_ended()]:
                 if not running.pop(name).note():

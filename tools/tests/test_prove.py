@@ -35,7 +35,7 @@ def test_the_longest_way_goes_through_what_is_left():
 def test_what_is_left_takes_its_longest_way_or_all_processors(monkeypatch):
     monkeypatch.setattr(prove, "SHARE_USED", 1)
     monkeypatch.setattr(machine, "processors", lambda: 4)
-    assert prove.minutes_left(CRATES, MINUTES) == 8.0
+    assert prove.minutes_left(CRATES, MINUTES) == 4.0
     monkeypatch.setattr(machine, "processors", lambda: 1)
     assert prove.minutes_left(CRATES, MINUTES) == 9.5
 
@@ -51,10 +51,19 @@ def test_those_with_the_longest_way_start_first(monkeypatch):
     assert prove.to_start(CRATES, ways, {"base", "left", "right", "aside"}, {}) == ["top"]
 
 
+def test_the_one_with_the_longest_way_of_all_has_all_processors(monkeypatch):
+    ways = prove.ways_to_the_top(CRATES, MINUTES)
+    monkeypatch.setattr(machine, "processors", lambda: 4)
+    assert prove.copies_for("base", ways, set()) == 4
+    assert [prove.copies_for(it, ways, {"base"}) for it in ("left", "right", "aside")] == [4, 1, 1]
+    assert [prove.copies_for(it, ways, {"base", "left"}) for it in ("right", "aside")] == [4, 1]
+
+
 def test_a_library_leaves_its_statements_and_the_program_its_object():
     prover = prove.Prover("/kit")
-    assert "--statements" in prover.words("net") and "--toolchain" not in prover.words("net")
-    assert "--statements" not in prover.words("segcached") and "--toolchain" in prover.words("segcached")
+    assert "--statements" in prover.words("net", 1) and "--toolchain" not in prover.words("net", 1)
+    assert "--statements" not in prover.words("segcached", 4) and "--toolchain" in prover.words("segcached", 4)
+    assert ["--jobs", "4"] == prover.words("net", 4)[4:6]
 
 
 def test_each_crate_of_the_repository_has_its_minutes():

@@ -58,6 +58,11 @@ fn number_option<'a>(alloc: Global, option: &NumberOption) -> Arg<'a> {
         .default_values(option.default)
 }
 
+/// How many workers run; so many if the words don't say.
+fn workers<'a>(alloc: Global, default: &'a [&'a str]) -> Arg<'a> {
+    number_option(alloc, &WORKERS).default_values(default)
+}
+
 /// An option that has no value.
 fn flag<'a>(alloc: Global, name: &'static str, help: &'static str) -> Arg<'a> {
     Arg::new(alloc, name)
@@ -75,57 +80,61 @@ fn evict<'a>(alloc: Global) -> Arg<'a> {
         .default_values(&[OLDEST])
 }
 
-/// The command with these options, and with those that both jobs have. So many workers run if the words don't say.
+/// The command with these options, and with those that both jobs have.
 fn with_options<'a>(
     alloc: Global,
     command: Command<'a>,
-    workers: &'static [&'static str],
     options: &[NumberOption],
 ) -> Result<Command<'a>, AllocError> {
-    let mut command = command.arg(number_option(alloc, &WORKERS).default_values(workers))?;
+    let mut command = command;
     for option in options {
         command = command.arg(number_option(alloc, option))?;
     }
-    command
-        .arg(flag(alloc, UPDATE_IN_PLACE, UPDATE_IN_PLACE_HELP).alias(COUNTERS_IN_PLACE)?)?
-        .arg(evict(alloc))?
-        .arg(flag(alloc, LENIENT, LENIENT_HELP))
+    with_flags(alloc, command)
 }
 
-fn replay_command<'a>(alloc: Global) -> Result<Command<'a>, AllocError> {
+/// The command with the options that have no number, which both jobs have.
+fn with_flags<'a>(alloc: Global, command: Command<'a>) -> Result<Command<'a>, AllocError> {
+    let in_place = flag(alloc, UPDATE_IN_PLACE, UPDATE_IN_PLACE_HELP);
+    let command = command.arg(in_place.alias(COUNTERS_IN_PLACE)?)?;
+    let command = command.arg(evict(alloc))?;
+    command.arg(flag(alloc, LENIENT, LENIENT_HELP))
+}
+
+fn replay<'a>(alloc: Global) -> Result<Command<'a>, AllocError> {
     let file = Arg::new(alloc, FILE)
         .value_name("FILE")
         .help("The script")
         .required(true);
-    Command::new(alloc, "replay")
+    let command = Command::new(alloc, "replay")
         .about("Runs a script and prints what each session was given")
         .override_usage("segcached replay [OPTIONS] <FILE>")
-        .after_help(REPLAY_HELP)
-        .arg(file)
+        .after_help(REPLAY_HELP);
+    let command = command.arg(file)?.arg(workers(alloc, &["1"]))?;
+    with_options(alloc, command, &REPLAY_OPTIONS)
 }
 
-fn serve_command<'a>(alloc: Global) -> Result<Command<'a>, AllocError> {
+fn serve<'a>(alloc: Global) -> Result<Command<'a>, AllocError> {
     let listen = Arg::new(alloc, LISTEN)
         .long(LISTEN)
         .value_name("ADDR")
         .help("An IP address and a port; port 0 is any free one")
         .required(true);
-    Command::new(alloc, "serve")
+    let command = Command::new(alloc, "serve")
         .about("Listens on an address and serves")
         .override_usage("segcached serve [OPTIONS] --listen <ADDR>")
-        .after_help(SERVE_HELP)
-        .arg(listen)
+        .after_help(SERVE_HELP);
+    let command = command.arg(listen)?.arg(workers(alloc, &["2"]))?;
+    with_options(alloc, command, &SERVE_OPTIONS)
 }
 
 /// The command of all words.
 pub(crate) fn command<'a>(alloc: Global) -> Result<Command<'a>, AllocError> {
-    let replay = with_options(alloc, replay_command(alloc)?, &["1"], &REPLAY_OPTIONS)?;
-    let serve = with_options(alloc, serve_command(alloc)?, &["2"], &SERVE_OPTIONS)?;
-    Command::new(alloc, "segcached")
+    let command = Command::new(alloc, "segcached")
         .about("A cache server: memcached's text protocol over Segcache's segments")
         .version(VERSION)
         .no_binary_name(true)
-        .subcommand_required(true)
-        .subcommand(replay)?
-        .subcommand(serve)
+        .subcommand_required(true);
+    let command = command.subcommand(replay(alloc)?)?;
+    command.subcommand(serve(alloc)?)
 }

@@ -183,7 +183,7 @@ impl Book {
         };
         let (_, open) = self.sessions.pair_mut(place);
         let read = open.next_ask(&mut self.unsettled, &mut self.looks, &mut self.upkeep);
-        open.join_queues(session, &mut self.upkeep.ready);
+        open.join_queues(session, &mut self.upkeep);
         let Some(mut request) = read? else {
             return Ok(None);
         };
@@ -309,7 +309,7 @@ impl Book {
     pub fn put_off(&mut self, session: u64) -> bool
         ensures { self.new ≡ self.old }
     {
-        if self.upkeep.load.keys() <= MANY_UNSETTLED {
+        if self.upkeep.load.keys <= MANY_UNSETTLED {
             return false;
         }
         let Some(place) = find(&self.sessions, session, &mut self.upkeep.ready.place) else {
@@ -325,7 +325,7 @@ impl Book {
         ensures above { IsSome result → MAX_OUTPUT < all_output self.now.sessions }
         ensures fullest { IfSome result (IsFullest self.now) }
     {
-        if self.upkeep.load.output() <= MAX_OUTPUT {
+        if self.upkeep.load.output <= MAX_OUTPUT {
             return None;
         }
         self.find_fullest()
@@ -356,15 +356,7 @@ impl Book {
 
     /// Whether the session that was asked last can be read further.
     pub fn reads_on(&self) -> bool {
-        self.upkeep.ready.reads_on()
-    }
-
-    /// How many sessions are to be asked, with those that were put off.
-    pub fn to_ask(&self) -> usize {
-        let ready = &self.upkeep.ready;
-        ready
-            .count(Task::Ask)
-            .saturating_add(ready.count(Task::AskLarge))
+        self.upkeep.reads_on
     }
 
     /// Takes out the next session that is to be asked. One that was put off comes if no other is to be asked, or once as many
@@ -373,7 +365,7 @@ impl Book {
     pub fn next_to_ask(&mut self) -> Option<u64>
         ensures { self.new ≡ self.old }
     {
-        let has_room = self.upkeep.load.keys() <= MANY_UNSETTLED;
+        let has_room = self.upkeep.load.keys <= MANY_UNSETTLED;
         self.upkeep.ready.take_to_ask(has_room)
     }
 
@@ -397,12 +389,12 @@ impl Book {
     /// Whether more than 255 keys stand in unsettled requests, over all sessions. Its owner then asks for one request at a time: so
     /// the hits of the unsettled ones take 41,943,040 bytes at most, or in the strict dialect 167,772,160.
     pub fn is_crowded(&self) -> bool {
-        self.upkeep.load.keys() > MAX_KEYS
+        self.upkeep.load.keys > MAX_KEYS
     }
 
     /// Whether little output waits, over all sessions: then a turn of its owner is short.
     pub fn has_little_output(&self) -> bool {
-        self.upkeep.load.output() <= MAX_WAITING
+        self.upkeep.load.output <= MAX_WAITING
     }
 
     /// Sets the gauges of what it counted, and of how much is unfinished.

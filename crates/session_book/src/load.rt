@@ -49,26 +49,16 @@ impl BookCounts {
 #[derive(Clone, Copy, Default)]
 pub(crate) struct Load {
     /// The keys of unsettled requests.
-    keys: usize,
+    pub(crate) keys: usize,
     /// The bytes that each key took in the last answer for more than `FEW_KEYS` keys, or half of what this number was before, if
     /// that is more.
     key_bytes: usize,
     /// The bytes of output that weren't given yet.
-    output: usize,
+    pub(crate) output: usize,
     counts: BookCounts,
 }
 
 impl Load {
-    /// The keys of unsettled requests.
-    pub(crate) fn keys(&self) -> usize {
-        self.keys
-    }
-
-    /// The bytes of output that weren't given yet.
-    pub(crate) fn output(&self) -> usize {
-        self.output
-    }
-
     /// How many keys a `get` may name before its answer is taken to be large, by what keys took of late.
     pub(crate) fn keys_before_large(&self) -> usize {
         FEW_KEYS.max(LARGE_ANSWER / self.key_bytes.max(1))

@@ -81,8 +81,6 @@ pub(crate) struct ReadyQueues {
     pub(crate) place: usize,
     /// How many sessions were taken out to be asked while another one was put off.
     passed: u64,
-    /// Whether the session that was asked last can be read further.
-    reads_on: bool,
 }
 
 impl ReadyQueues {
@@ -97,7 +95,6 @@ impl ReadyQueues {
             ],
             place: 0,
             passed: 0,
-            reads_on: false,
         }
     }
 
@@ -171,15 +168,5 @@ impl ReadyQueues {
     /// No session has anything to do.
     pub(crate) fn are_empty(&self) -> bool {
         self.queues.iter().all(|queue| queue.sessions.is_empty())
-    }
-
-    /// Whether the session that was asked last can be read further.
-    pub(crate) fn reads_on(&self) -> bool {
-        self.reads_on
-    }
-
-    /// The session that is asked now can be read further, or can't.
-    pub(crate) fn set_reads_on(&mut self, reads_on: bool) {
-        self.reads_on = reads_on;
     }
 }

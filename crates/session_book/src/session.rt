@@ -223,16 +223,17 @@ impl Session {
     }
 
     /// After a read, queues the session for what it may need: feeding its held piece, sending output, or ending.
-    pub fn join_queues(&mut self, session: u64, ready: &mut ReadyQueues)
+    pub fn join_queues(&mut self, session: u64, upkeep: &mut Upkeep)
         ensures { self.new ≡ self.old }
     {
+        let ready = &mut upkeep.ready;
         if self.held.is_some() && self.has_room() {
             ready.add(Task::Feed, session, &mut self.tickets.feed);
         }
         if self.output.len() > 0 || self.ended.is_some() || self.input_ended {
             ready.add(Task::Give, session, &mut self.tickets.give);
         }
-        ready.set_reads_on(self.is_ready());
+        upkeep.reads_on = self.is_ready();
     }
 
     /// Whether the parser is to be called.

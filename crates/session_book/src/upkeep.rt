@@ -13,6 +13,8 @@ use std::alloc::Global;
 #[derive(Drop)]
 pub(crate) struct Upkeep {
     pub(crate) ready: ReadyQueues,
+    /// Whether the session that was asked last can be read further.
+    pub(crate) reads_on: bool,
     pub(crate) load: Load,
     pub(crate) spares: SpareBuffers,
 }
@@ -21,6 +23,7 @@ impl Upkeep {
     pub(crate) fn new(alloc: Global) -> Upkeep {
         Upkeep {
             ready: ReadyQueues::new(alloc),
+            reads_on: false,
             load: Load::default(),
             spares: SpareBuffers::new(alloc),
         }

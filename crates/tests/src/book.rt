@@ -45,15 +45,13 @@ enum Sight {
     /// Which session is to be taken up for the task.
     Ready(Task, Option<u64>),
     NextToAsk(Option<u64>),
-    /// How many sessions are to be asked.
-    ToAsk(usize),
     /// Whether the session is put off.
     PutOff(u64, bool),
     HasLittleOutput(bool),
     Looks(u64),
 }
 
-use Sight::{Finished, HasLittleOutput, Looks, NextToAsk, Output, PutOff, Ready, ToAsk};
+use Sight::{Finished, HasLittleOutput, Looks, NextToAsk, Output, PutOff, Ready};
 use Step::{
     Ask, AskLater, AskNext, Close, EndInput, Feed, FeedLetters, Give, Known, Open, Receive, See,
     Settle, SettleHit, SettleStats,
@@ -69,7 +67,6 @@ fn check_sight(rt: &impl Abort, player: &mut Player, sight: &Sight, place: Place
         Finished(session, cause) => check_same(rt, book.offer(*session).finished, *cause, place),
         Ready(task, session) => check_same(rt, book.next_ready(*task), *session, place),
         NextToAsk(session) => check_same(rt, book.next_to_ask(), *session, place),
-        ToAsk(count) => check_same(rt, book.to_ask(), *count, place),
         PutOff(session, is_put_off) => check_same(rt, book.put_off(*session), *is_put_off, place),
         HasLittleOutput(has) => check_same(rt, book.has_little_output(), *has, place),
         Looks(count) => check_same(rt, book.looks(), *count, place),
@@ -448,7 +445,7 @@ const NOT_PUT: [Part; 2] = [(1, &IN_TURN), (1, &[See(PutOff(2, false))])];
 /// While it is put off others go before it 64 times. Then none is asked before 128 keys or fewer are on their way.
 const PUT_64_TIMES: [Part; 4] = [
     (1, &IN_TURN),
-    (1, &[See(PutOff(2, true)), See(ToAsk(2))]),
+    (1, &[See(PutOff(2, true))]),
     (64, &[See(NextToAsk(Some(1))), AskLater(1)]),
     (
         1,
@@ -456,7 +453,6 @@ const PUT_64_TIMES: [Part; 4] = [
             See(NextToAsk(None)),
             Settle(0, Settled::Kept),
             See(NextToAsk(Some(2))),
-            See(ToAsk(1)),
         ],
     ),
 ];

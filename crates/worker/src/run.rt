@@ -134,7 +134,8 @@ fn ask_session<P: Port, G: Gate>(
     worker.state.book.ask_later(session);
 }
 
-/// Asks the sessions in turn, as long as requests can be asked. True if something was done.
+/// Asks sessions in turn, as long as requests can be asked: `WINDOW` of them at most, so a turn stays short. True if something was
+/// done.
 fn ask_sessions<P: Port, G: Gate>(
     worker: &mut Worker<P>,
     gate: &G,
@@ -143,8 +144,7 @@ fn ask_sessions<P: Port, G: Gate>(
     ensures { Continues P.told P.leads_to worker.old worker.new }
 {
     let mut moved = false;
-    let most = worker.state.book.to_ask().saturating_mul(WINDOW as usize);
-    for _ in 0..most {
+    for _ in 0..WINDOW {
         if worker.is_busy() {
             break;
         }
@@ -162,7 +162,7 @@ fn settle_answers<P: Port, G: Gate>(worker: &mut Worker<P>, gate: &G) -> bool
     ensures { Continues P.told P.leads_to worker.old worker.new }
 {
     let mut moved = false;
-    for _ in 0..worker.state.batch.outstanding() {
+    for _ in 0..WINDOW {
         if !worker.settle_next(gate) {
             break;
         }

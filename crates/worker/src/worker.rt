@@ -1,6 +1,7 @@
 //! A worker that serves its port, by the steps that it takes.
 
-ghost use Rattle.std.specs.Prelude.{◌≡◌, ◌⊎◌, ◌<◌, Some, None, IsSome, [], true, false, MatchOption};
+ghost use Rattle.std.specs.Prelude.{◌≡◌, ◌⊎◌, ◌+◌, ◌<◌, Some, None, IsSome, [], ◌∷◌, ◌++◌, length, true, false};
+ghost use Rattle.std.specs.Prelude.{MatchOption, MatchResult};
 ghost use Rattle.std.specs.Option.{option_and_then};
 ghost use Rattle.session_book.specs.Session.{finished_by, HasReadAll};
 ghost use Rattle.session_book.specs.Book.{session_of};
@@ -148,6 +149,26 @@ impl<P: Port> WorkerState<P> {
         if let Some(key) = posted.request.first_key() {
             storage.leave_hint(self.batch.worker(), posted.number - 1, key);
         }
+    }
+
+    /// Puts a request into its slot, if the gate lets it and there is room. Else it comes back.
+    fn put<G: Gate>(
+        &mut self,
+        posted: Posted,
+        gate: &G,
+        storage: &StorageSignals,
+    ) -> Result<(), Posted>
+        requires { posted.number ≡ length self.old.batch.end.sent + length self.old.batch.put + 1 }
+        ensures leads { P.leads_to self.old.port self.new.port }
+        ensures puts { MatchResult result
+            (λ _. self.new ≡ record self.old { batch = record self.old.batch { put = self.old.batch.put ++ posted ∷ [] } })
+            (λ back. (back ≡ posted) × (self.new ≡ self.old)) }
+    {
+        if !gate.may_post(self.batch.worker(), posted.number) {
+            return Err(posted);
+        }
+        self.prepare(&posted, storage);
+        self.batch.put(posted)
     }
 }
 
@@ -312,12 +333,7 @@ impl<P: Port> Worker<P> {
         let Some(held) = self.state.request.take() else {
             return false;
         };
-        if !gate.may_post(self.state.batch.worker(), held.number) {
-            self.state.request = Some(held);
-            return false;
-        }
-        self.state.prepare(&held, storage);
-        match self.state.batch.put(held) {
+        match self.state.put(held, gate, storage) {
             Ok(()) => true,
             Err(held) => {
                 self.state.request = Some(held);

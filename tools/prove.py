@@ -5,9 +5,9 @@
     tools/prove.py --kept   proves nothing: status 0 if the program was built so, and nothing that it is built of has changed since
 
 It calls the prover for each crate once those below it are proved, as many side by side as there are processors and memory for; those from
-which the way to the program takes longest come first. The prover makes a copy of itself for each processor for the crate with the longest way
-of all, and none for the others. What is proved stands in out/proofs: after an interrupt the next run goes on from there. What the prover says of
-each crate stands beside the program, as segcached.log.
+which the way to the program takes longest come first. Those with the longest ways of all are proved by a copy of the prover on each processor,
+the others by one. What is proved stands in out/proofs: after an interrupt the next run goes on from there. What the prover says of each crate
+stands beside the program, as segcached.log.
 
 What each crate takes stands in tools/gate_minutes.tsv, by a run of the gate; how long the rest may take is an estimate from that.
 """
@@ -33,6 +33,8 @@ LIBRARIES = f"{PROOFS}/libraries"
 IGNORED = ("out", "wrong")
 # A crate that no run of the gate has measured is taken to need half a minute, and one more for each of these numbers of lines.
 LINES_A_MINUTE = 2500
+# A way is one of the longest if the longest of all takes at most this share more.
+NEAR = 0.15
 # For the estimate: how many times as fast the crates of the longest way are proved by several copies, and the share of the processors' time that
 # is used while all of them have work.
 FASTER = 2
@@ -266,7 +268,7 @@ def to_start(crates, ways, proved, running):
 def copies_for(name, ways, proved):
     """How many copies of the prover prove a crate."""
     longest = max(way for it, way in ways.items() if it not in proved)
-    return machine.processors() if ways[name] == longest else 1
+    return machine.processors() if longest <= (1 + NEAR) * ways[name] else 1
 
 
 def prove_side_by_side(crates, proved, progress, interrupts):

@@ -5,9 +5,9 @@
     tools/prove.py --kept   proves nothing: status 0 if the program was built so, and nothing that it is built of has changed since
 
 It calls the prover for each crate once those below it are proved, as many side by side as there are processors and memory for; those from
-which the way to the program takes longest come first. Those with the longest ways of all are proved by a copy of the prover on each processor,
-the others by one. What is proved stands in out/proofs: after an interrupt the next run goes on from there. What the prover says of each crate
-stands beside the program, as segcached.log.
+which the way to the program takes longest come first. Those with the longest ways of all are proved by a copy of the prover on each processor;
+another one by its share of them, if few crates are proved beside it. What is proved stands in out/proofs: after an interrupt the next run goes on
+from there. What the prover says of each crate stands beside the program, as segcached.log.
 
 What each crate takes stands in tools/gate_minutes.tsv, by a run of the gate; how long the rest may take is an estimate from that.
 """
@@ -265,10 +265,12 @@ def to_start(crates, ways, proved, running):
     return sorted(ready, key=ways.get, reverse=True)[: machine.at_once() - len(running)]
 
 
-def copies_for(name, ways, proved):
-    """How many copies of the prover prove a crate."""
+def copies_for(name, ways, proved, beside):
+    """How many copies of the prover prove a crate, if so many others are proved beside it."""
     longest = max(way for it, way in ways.items() if it not in proved)
-    return machine.processors() if longest <= (1 + NEAR) * ways[name] else 1
+    if longest <= (1 + NEAR) * ways[name]:
+        return machine.processors()
+    return max(1, machine.processors() // (beside + 1))
 
 
 def prove_side_by_side(crates, proved, progress, interrupts):
@@ -277,7 +279,8 @@ def prove_side_by_side(crates, proved, progress, interrupts):
     try:
         while progress.left and not interrupts:
             for name in to_start(crates, ways, proved, running):
-                running[name] = Proof(prover.words(name, copies_for(name, ways, proved)), name)
+                words = prover.words(name, copies_for(name, ways, proved, len(running)))
+                running[name] = Proof(words, name)
             time.sleep(EVERY)
             for name in [it for it, proof in running.items() if proof.has_ended()]:
                 if not running.pop(name).note():

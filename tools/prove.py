@@ -5,9 +5,9 @@
     tools/prove.py --kept   proves nothing: status 0 if the program was built so, and nothing that it is built of has changed since
 
 It calls the prover for each crate once those below it are proved, as many side by side as there are processors and memory for; those from
-which the way to the program takes longest come first. Those with the longest ways of all are proved by a copy of the prover on each processor;
-another one by its share of them, if few crates are proved beside it. What is proved stands in out/proofs: after an interrupt the next run goes on
-from there. What the prover says of each crate stands beside the program, as segcached.log.
+which the way to the program takes longest come first. The prover makes a copy of itself for each processor for the crate with the longest way
+of all, and none for the others. What is proved stands in out/proofs: after an interrupt the next run goes on from there. What the prover says of
+each crate stands beside the program, as segcached.log.
 
 What each crate takes stands in tools/gate_minutes.tsv, by a run of the gate; how long the rest may take is an estimate from that.
 """
@@ -33,8 +33,6 @@ LIBRARIES = f"{PROOFS}/libraries"
 IGNORED = ("out", "wrong")
 # A crate that no run of the gate has measured is taken to need half a minute, and one more for each of these numbers of lines.
 LINES_A_MINUTE = 2500
-# A way is one of the longest if the longest of all takes at most this share more.
-NEAR = 0.15
 # For the estimate: how many times as fast the crates of the longest way are proved by several copies, and the share of the processors' time that
 # is used while all of them have work.
 FASTER = 2
@@ -265,12 +263,10 @@ def to_start(crates, ways, proved, running):
     return sorted(ready, key=ways.get, reverse=True)[: machine.at_once() - len(running)]
 
 
-def copies_for(name, ways, proved, beside):
-    """How many copies of the prover prove a crate, if so many others are proved beside it."""
+def copies_for(name, ways, proved):
+    """How many copies of the prover prove a crate."""
     longest = max(way for it, way in ways.items() if it not in proved)
-    if longest <= (1 + NEAR) * ways[name]:
-        return machine.processors()
-    return max(1, machine.processors() // (beside + 1))
+    return machine.processors() if ways[name] == longest else 1
 
 
 def prove_side_by_side(crates, proved, progress, interrupts):
@@ -279,8 +275,7 @@ def prove_side_by_side(crates, proved, progress, interrupts):
     try:
         while progress.left and not interrupts:
             for name in to_start(crates, ways, proved, running):
-                words = prover.words(name, copies_for(name, ways, proved, len(running)))
-                running[name] = Proof(words, name)
+                running[name] = Proof(prover.words(name, copies_for(name, ways, proved)), name)
             time.sleep(EVERY)
             for name in [it for it, proof in running.items() if proof.has_ended()]:
                 if not running.pop(name).note():

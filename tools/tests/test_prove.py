@@ -51,12 +51,12 @@ def test_those_with_the_longest_way_start_first(monkeypatch):
     assert prove.to_start(CRATES, ways, {"base", "left", "right", "aside"}, {}) == ["top"]
 
 
-def test_those_with_the_longest_ways_have_all_processors_and_others_a_share(monkeypatch):
-    ways = {"long": 11.4, "near": 10.0, "far": 9.8}
+def test_the_one_with_the_longest_way_of_all_has_all_processors(monkeypatch):
+    ways = prove.ways_to_the_top(CRATES, MINUTES)
     monkeypatch.setattr(machine, "processors", lambda: 4)
-    assert [prove.copies_for(it, ways, set(), 3) for it in ways] == [4, 4, 1]
-    assert [prove.copies_for("far", ways, set(), beside) for beside in (0, 1, 2, 3, 4)] == [4, 2, 1, 1, 1]
-    assert prove.copies_for("far", ways, {"long"}, 3) == 4
+    assert prove.copies_for("base", ways, set()) == 4
+    assert [prove.copies_for(it, ways, {"base"}) for it in ("left", "right", "aside")] == [4, 1, 1]
+    assert [prove.copies_for(it, ways, {"base", "left"}) for it in ("right", "aside")] == [4, 1]
 
 
 def test_a_library_leaves_its_statements_and_the_program_its_object():

@@ -58,7 +58,7 @@ fn number_option<'a>(alloc: Global, option: &NumberOption) -> Arg<'a> {
         .default_values(option.default)
 }
 
-/// How many workers run; so many if the words don't say.
+/// The option of how many workers run, with this default.
 fn workers<'a>(alloc: Global, default: &'a [&'a str]) -> Arg<'a> {
     number_option(alloc, &WORKERS).default_values(default)
 }

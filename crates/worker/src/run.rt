@@ -162,7 +162,7 @@ fn settle_answers<P: Port, G: Gate>(worker: &mut Worker<P>, gate: &G) -> bool
     ensures { Continues P.told P.leads_to worker.old worker.new }
 {
     let mut moved = false;
-    for _ in 0..WINDOW {
+    for _ in 0..worker.state.batch.outstanding() {
         if !worker.settle_next(gate) {
             break;
         }

@@ -1,5 +1,6 @@
 -- What `segcached serve` prints once it listens.
-use Rattle.std.specs.Prelude.{◌≡◌, ℕ, List, ◌++◌, codes, decimal}
+use Rattle.std.specs.Prelude.{◌≡◌, ℕ, List, ◌++◌, codes, decimal, Option}
+use Rattle.std.specs.Io.KnownBytes.{Appends}
 use Rattle.std.specs.Str.Pattern.{SplitsAroundMatch, RFindsChar}
 
 -- the line of an address, with the real port in place of what follows its last colon
@@ -8,3 +9,8 @@ IsListeningLine listen port line =
     (host : List ℕ) × (rest : List ℕ)
     × SplitsAroundMatch (RFindsChar 58) listen host rest
     × (line ≡ codes "listening on " ++ host ++ codes ":" ++ decimal port ++ codes "\n")
+
+-- what a writer was given, as far as it tells, grew by this line of an address, with some port
+abbrev pub IsAnnounced : List ℕ → Option (List ℕ) → Option (List ℕ) → Type 0
+IsAnnounced listen before after =
+    (port : ℕ) × (line : List ℕ) × IsListeningLine listen port line × Appends before after line

@@ -3,7 +3,7 @@
 ghost use Rattle.std.specs.Prelude.{◌≡◌, ℕ, List, vec_len, IfOk, OnOk};
 ghost use Rattle.std.specs.String.{string_bytes};
 ghost use Rattle.std.specs.Io.KnownBytes.{Appends};
-ghost use Rattle.serving.specs.Listening.{IsListeningLine};
+ghost use Rattle.serving.specs.Listening.{IsListeningLine, IsAnnounced};
 ghost use Rattle.proto.specs.ClockAnswers.{ClockLog};
 ghost use Rattle.worker_port.specs.Giving.{by_system_clock};
 ghost use Rattle.net.specs.Traces.{trace_of, IsNew};
@@ -273,42 +273,6 @@ fn run_workers<H: Runtime + Copy + Drop + Send + 'static>(
     Ok(report)
 }
 
-/// Accepts streams up to the options' limit, and runs the workers until they have ended.
-fn run<H: System>(
-    rt: H,
-    alloc: Global,
-    opened: Opened<H>,
-    geometry: Geometry,
-    seed: u64,
-    options: &ServeOptions,
-) -> Result<Report<H>, Fault>
-    requires store { IsStoreFor geometry seed options.now opened.store }
-    requires count { vec_len opened.ports ≡ options.now.workers }
-    requires exchange { (opened.exchange.workers ≡ vec_len opened.ports)
-        × (opened.exchange.terms ≡ by_system_clock geometry) }
-    requires ports { AreNewPorts geometry options.now.dialect opened.exchange.id opened.ports.items }
-    ensures { IfOk result (λ report. IsServed geometry seed options.entry.now report) }
-{
-    let Opened {
-        listener,
-        hands,
-        exchange,
-        ports,
-        store,
-    } = opened;
-    let listening = start_listening(
-        rt,
-        Watch::new(&rt, alloc),
-        listener,
-        hands,
-        options.sessions,
-    )?;
-    let report = run_workers(rt, alloc, ports, exchange, store, geometry, seed, options)?;
-    listening.join(&rt);
-    Operator::new(rt, alloc).has_ended();
-    Ok(report)
-}
-
 /// Tells the operator the options in force, and prints that it listens.
 fn announce_all<H: Eprint + Net + Drop, W: Write>(
     rt: H,
@@ -323,6 +287,61 @@ fn announce_all<H: Eprint + Net + Drop, W: Write>(
     let in_force = options_in_force(alloc, options)?;
     Operator::new(rt, alloc).serves_with(in_force.as_str());
     announce(alloc, options, port, out)
+}
+
+/// Tells the operator the options in force, prints that it listens, and accepts streams up to the options' limit.
+fn announce_and_listen<H: System, W: Write>(
+    rt: H,
+    alloc: Global,
+    listener: Listener,
+    hands: Vec<StreamSender>,
+    options: &ServeOptions,
+    out: &mut W,
+) -> Result<JoinHandle<ListenReport>, Fault>
+    ensures { OnOk result (IsAnnounced (string_bytes options.entry.now.listen)
+        (W.contents out.old) (W.contents out.new)) }
+{
+    announce_all(rt, alloc, options, listener.port(), out)?;
+    start_listening(
+        rt,
+        Watch::new(&rt, alloc),
+        listener,
+        hands,
+        options.sessions,
+    )
+}
+
+/// Announces what was opened, accepts streams, and runs the workers until they have ended.
+fn run<H: System, W: Write>(
+    rt: H,
+    alloc: Global,
+    opened: Opened<H>,
+    geometry: Geometry,
+    seed: u64,
+    options: &ServeOptions,
+    out: &mut W,
+) -> Result<Report<H>, Fault>
+    requires store { IsStoreFor geometry seed options.now opened.store }
+    requires count { vec_len opened.ports ≡ options.now.workers }
+    requires exchange { (opened.exchange.workers ≡ vec_len opened.ports)
+        × (opened.exchange.terms ≡ by_system_clock geometry) }
+    requires ports { AreNewPorts geometry options.now.dialect opened.exchange.id opened.ports.items }
+    ensures announced { OnOk result (IsAnnounced (string_bytes options.entry.now.listen)
+        (W.contents out.old) (W.contents out.new)) }
+    ensures served { IfOk result (λ report. IsServed geometry seed options.entry.now report) }
+{
+    let Opened {
+        listener,
+        hands,
+        exchange,
+        ports,
+        store,
+    } = opened;
+    let listening = announce_and_listen(rt, alloc, listener, hands, options, out)?;
+    let report = run_workers(rt, alloc, ports, exchange, store, geometry, seed, options)?;
+    listening.join(&rt);
+    Operator::new(rt, alloc).has_ended();
+    Ok(report)
 }
 
 /// Listens on the options' address, prints it, and serves: a thread accepts streams, a group of workers serves them,
@@ -344,14 +363,12 @@ pub fn serve<H: System, W: Write>(
     seed: u64,
     out: &mut W,
 ) -> Result<Report<H>, Fault>
-    ensures announced { OnOk result ((port : ℕ) × (line : List ℕ)
-        × IsListeningLine (string_bytes options.entry.now.listen) port line
-        × Appends (W.contents out.old) (W.contents out.new) line) }
+    ensures announced { OnOk result (IsAnnounced (string_bytes options.entry.now.listen)
+        (W.contents out.old) (W.contents out.new)) }
     ensures served { IfOk result (λ report. IsServed geometry seed options.entry.now report) }
 {
     let opened = open(rt, alloc, options, geometry, seed)?;
-    announce_all(rt, alloc, options, opened.listener.port(), out)?;
-    run(rt, alloc, opened, geometry, seed, options)
+    run(rt, alloc, opened, geometry, seed, options, out)
 }
 
 /// Serves as `serve` does, and drops what the group left.
@@ -367,9 +384,8 @@ pub fn serve_to_end<H: System, W: Write>(
     seed: u64,
     out: &mut W,
 ) -> Result<(), Fault>
-    ensures announced { OnOk result ((port : ℕ) × (line : List ℕ)
-        × IsListeningLine (string_bytes options.entry.now.listen) port line
-        × Appends (W.contents out.old) (W.contents out.new) line) }
+    ensures announced { OnOk result (IsAnnounced (string_bytes options.entry.now.listen)
+        (W.contents out.old) (W.contents out.new)) }
     // there was such a report
     ensures served { OnOk result ((report : GroupReport (MioPort H) ClockLog)
         × IsServed geometry seed options.entry.now report) }

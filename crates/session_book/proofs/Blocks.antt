@@ -109,13 +109,12 @@ data_within d b how p quiet n within spells =
 -- nothing was dropped, and the message is taken out
 pub taken_out : (i : InputState) (d : Dialect) (gone kept left : List ℕ) (need n : ℕ) (m : Message)
     → record { dialect = d; unread = gone ++ kept; need = need } ≡ i → gone ≡ [] → n ≤ length kept → Spells d (take n kept) m
-    → left ≡ drop n kept → Takes i m (record { dialect = d; unread = gone ++ left; need = 1 })
+    → left ≡ drop n kept → Takes i m n (record { dialect = d; unread = gone ++ left; need = 1 })
 taken_out i d gone kept left need n m same none within spells left_is =
-    subst (λ (j : InputState). Takes j m (record { dialect = d; unread = gone ++ left; need = 1 })) same
-    (subst (λ (g : List ℕ). Takes (record { dialect = d; unread = g ++ kept; need = need }) m
+    subst (λ (j : InputState). Takes j m n (record { dialect = d; unread = gone ++ left; need = 1 })) same
+    (subst (λ (g : List ℕ). Takes (record { dialect = d; unread = g ++ kept; need = need }) m n
     (record { dialect = d; unread = g ++ left; need = 1 })) (sym none)
     (record {
-      count = n;
       begins = record { within = within; spells = spells };
       taken = ap (λ (x : List ℕ). record { dialect = d; unread = x; need = 1 }) left_is;
     }))
@@ -162,7 +161,7 @@ pub taken_put : (i : InputState) (d : Dialect) (gone kept left : List ℕ) (need
     (q : Request) → record { dialect = d; unread = gone ++ kept; need = need } ≡ i → gone ≡ []
     → BeginsKept d kept (message_by line.mode (put_by line value) line.noreply) n
     → Ask q line.noreply ≡ message_by line.mode (put_by line cut) line.noreply → cut ≡ value → left ≡ drop n kept
-    → Takes i (Ask q line.noreply) (record { dialect = d; unread = gone ++ left; need = 1 })
+    → Takes i (Ask q line.noreply) n (record { dialect = d; unread = gone ++ left; need = 1 })
 taken_put i d gone kept left need n line value cut q same none h made cut_is left_is =
     let message : Ask q line.noreply ≡ message_by line.mode (put_by line value) line.noreply =
     made ∙ ap (λ (v : List ℕ). message_by line.mode (put_by line v) line.noreply) cut_is in

@@ -52,16 +52,15 @@ pub record BeginsBy (i : InputState) (line : OwnedLine) (size n : ℕ) : Type 0 
   pub size_is : length value ≡ size
   pub begins : Begins i (message_by line.mode (put_by line value) line.noreply) n
 
--- a message is found, and its bytes are taken away
-pub record Takes (before : InputState) (m : Message) (after : InputState) : Type 0 where
-  pub count : ℕ
-  pub begins : Begins before m count
-  pub taken : after ≡ record before { unread = drop count before.unread; need = 1 }
+-- the first n bytes, which spell the message, are taken away
+pub record Takes (before : InputState) (m : Message) (n : ℕ) (after : InputState) : Type 0 where
+  pub begins : Begins before m n
+  pub taken : after ≡ record before { unread = drop n before.unread; need = 1 }
 
 -- A message is found, which may be taken, or none is there yet and more bytes are needed; or there was no memory for its copy.
 abbrev pub Finds : InputState → Result Found NoMemory → InputState → Type 0
 Finds before (Ok (found.Copied m n)) after = Begins before m n × (after ≡ before)
-Finds before (Ok (found.Taken q quiet)) after = Takes before (Ask q quiet) after
+Finds before (Ok (found.Taken q quiet n)) after = Takes before (Ask q quiet) n after
 Finds before (Ok found.Nothing) after =
     IsUnfinished before.dialect before.unread after.need × (after ≡ record before { need = after.need })
 Finds before (Err e) after = after ≡ before

@@ -22,9 +22,9 @@ pub(crate) enum Found {
     Nothing,
     /// A message, copied, and how many bytes spell it.
     Copied(Message, usize),
-    /// A request whose block is large, and whether `noreply` was given. Its bytes were taken out of the input: the value has
-    /// their memory.
-    Taken(Request, bool),
+    /// A request whose block is large, whether `noreply` was given, and how many bytes spelled it. They were taken out of the
+    /// input: the value has their memory.
+    Taken(Request, bool, usize),
 }
 
 /// What the line of a request says whose block is large.
@@ -221,7 +221,7 @@ impl Input {
             exptime,
             value,
         };
-        Ok(Found::Taken(request_to_store(mode, put), noreply))
+        Ok(Found::Taken(request_to_store(mode, put), noreply, n))
     }
 
     /// Takes away the bytes of the message that was found.

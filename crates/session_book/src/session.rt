@@ -158,7 +158,6 @@ impl Session {
         ensures { ReadsNext self.old result self.new }
     {
         self.queue.reserve(1)?;
-        let unread = self.input.kept().len();
         match self.input.next(self.alloc, &mut upkeep.spares)? {
             Found::Nothing => Ok(None),
             Found::Copied(message, length) => {
@@ -168,10 +167,9 @@ impl Session {
                 self.ended = cause_of(&message);
                 Ok(Some(message))
             }
-            Found::Taken(request, noreply) => {
+            Found::Taken(request, noreply, length) => {
                 let message = Message::Ask(request, noreply);
                 self.queue.push_back_reserved(PendingAnswer::of(&message));
-                let length = unread.saturating_sub(self.input.kept().len());
                 upkeep.load.read(&message, length);
                 Ok(Some(message))
             }

@@ -1,14 +1,11 @@
 //! The loop of the storage thread.
 
-ghost use Rattle.std.specs.Prelude.{◌≡◌, ℕ, ◌+◌, ◌-◌, ◌^◌, ◌<◌, ◌≤◌, map, min, length, All, Some, None, true, false};
-ghost use Rattle.std.specs.Prelude.{IsSome, MatchOption, [], ◌≢◌, ◌⊎◌};
+ghost use Rattle.std.specs.Prelude.{◌≡◌, ◌+◌, ◌-◌, ◌^◌, ◌<◌, ◌≤◌, map, min, length, All, Some, None, true, false};
+ghost use Rattle.std.specs.Prelude.{IsSome, MatchOption, []};
 ghost use Rattle.std.specs.Option.{IfNone};
 ghost use Rattle.proto.specs.Cache.{empty_cache};
 ghost use Rattle.proto.specs.History.{max_moment, answers_by, worker_share, Legal, RefusesBy};
-ghost use Rattle.proto.specs.Steps.{Step};
-ghost use Rattle.proto.specs.Tallies.{no_counts, counted, counts_after, TellsCounts};
-ghost use Rattle.engine.specs.Keeping.{KeepsAll};
-ghost use Rattle.engine.specs.Outcomes.{outcome_at, needs_memory};
+ghost use Rattle.proto.specs.Tallies.{no_counts, counts_after};
 ghost use Rattle.engine.specs.Reaching.{Reaches};
 ghost use Rattle.storage_thread.specs.Serving.{AsksClock, IsReadSince, IsTimed, taken_as, SaidBye, IsUnused};
 ghost use Rattle.storage_thread.specs.Serving.{IsSameExchange, IsStorageServing};
@@ -20,7 +17,7 @@ use engine::{Clock, MAX_MOMENT, StorageEngine};
 use exchange::{
     Answered, IdleTurns, Posted, StorageBatch, StorageEnd, StorageSignals, Taken, Waits,
 };
-use proto::{AskedClock, ClockAnswers, Counts, Reply, Request};
+use proto::{AskedClock, Counts, Request};
 use std::sync::Wait;
 use std::time;
 
@@ -80,62 +77,8 @@ pub fn next_moment<C: Clock>(clock: &mut AskedClock<C>, last: u64) -> u64
     now.max(last)
 }
 
-/// Asks the clock as `next_moment` does, and gives all its answers so far too.
-fn ask_clock<C: Clock>(clock: &mut AskedClock<C>, last: u64) -> (u64, ClockAnswers)
-    ensures leads { C.leads_to clock.old.clock clock.new.clock }
-    ensures moment { AsksClock C.told C.start clock.old last clock.new result.0 }
-    ensures order { (last ≤ result.0) × (last ≤ max_moment → result.0 ≤ max_moment) }
-    ensures answers { result.1 ≡ clock.new.answers }
-{
-    let moment = next_moment(clock, last);
-    (moment, clock.answers())
-}
-
-/// What the store replies. If it made room, the time since the clock was read is noted.
-#[inline(always)]
-fn handle<S: StorageEngine, C: Clock, R: time::Clock>(
-    store: &mut S,
-    clock: &AskedClock<C>,
-    source: &mut StatsSource<R>,
-    moment: u64,
-    request: &mut Request,
-) -> Reply
-    requires not_before { S.moment store.old ≤ moment }
-    requires in_range { moment ≤ max_moment }
-    ensures request { request.new ≡ request.old }
-    ensures step { Step (S.sizes store.old) (S.cache store.old) moment request.old result (S.cache store.new) }
-    ensures sizes { S.sizes store.new ≡ S.sizes store.old }
-    ensures moment { S.moment store.new ≡ moment }
-    ensures succeeds { needs_memory S.may_refuse
-        (outcome_at (S.sizes store.old) (S.cache store.old) moment request.old) ≡ false → result ≢ Reply.NoMemory }
-    ensures kept { KeepsAll S.sizes S.cache S.keeps store.old moment request.old result store.new }
-{
-    let reply = store.handle(moment, request);
-    source.note_evictions(clock.at(), store.evictions());
-    reply
-}
-
-/// The reply to a request of the worker, to which the store replied so. It is counted.
-#[inline(always)]
-fn count_reply<S: StorageEngine, R: time::Clock>(
-    counts: &mut Counts,
-    source: &StatsSource<R>,
-    store: &S,
-    worker: usize,
-    request: &Request,
-    stored: Reply,
-) -> Reply
-    ensures tells { TellsCounts counts.old request.now result }
-    ensures same { (stored ≡ result) ⊎ (request.now ≡ Request.Stats) }
-    ensures counts { counts.new ≡ counted counts.old request.now result }
-{
-    let reply = source.reply(counts, store, worker, request, stored);
-    counts.count(request, &reply);
-    reply
-}
-
-/// Executes the open request, counts it, and answers it. Its worker is told at the next flush, or before. It gives the worker
-/// that was told of its answers now, if one was.
+/// Executes the open request, counts it, and answers it. If the store made room for it, the time since the clock was read is
+/// noted. Its worker is told at the next flush, or before. It gives the worker that was told of its answers now, if one was.
 fn execute<S: StorageEngine, C: Clock, R: time::Clock>(
     store: &mut S,
     clock: &mut AskedClock<C>,
@@ -165,21 +108,23 @@ fn execute<S: StorageEngine, C: Clock, R: time::Clock>(
     ensures leads { C.leads_to clock.old.clock clock.new.clock }
     ensures moment { AsksClock C.told C.start clock.old (S.moment store.old) clock.new (S.moment store.new) }
 {
-    let (moment, given) = ask_clock(clock, store.last_moment());
+    let moment = next_moment(clock, store.last_moment());
     let Posted {
         session,
         number,
         mut request,
     } = posted;
-    let stored = handle(store, clock, source, moment, &mut request);
-    let reply = count_reply(counts, source, store, worker, &request, stored);
+    let stored = store.handle(moment, &mut request);
+    source.note_evictions(clock.at(), store.evictions());
+    let reply = source.reply(counts, store, worker, &request, stored);
+    counts.count(&request, &reply);
     let answered = Answered {
         worker,
         session,
         number,
         request,
         moment,
-        clock: given,
+        clock: clock.answers(),
         reply,
     };
     end.answer_later(answered)

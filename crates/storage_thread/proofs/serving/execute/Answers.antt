@@ -30,11 +30,11 @@ returns-clause-counts g c = let p = c.args.posted in
       session = p.session;
       number = p.number;
       request = c.handle-stored.new.request;
-      moment = c.ask_clock-moment.result.0;
-      clock = c.ask_clock-moment.result.1;
-      reply = c.count_reply-reply.result;
+      moment = c.next_moment-moment.result;
+      clock = c.answers.result;
+      reply = c.reply-reply.result;
     } in
-    c.count_reply-reply.ensures.counts ∙ ap (λ (z : Counts). counted z e.request e.reply) c.requires.counts
+    c.count.ensures ∙ ap (λ (z : Counts). counted z e.request e.reply) c.requires.counts
     ∙ sym (counted_more no_counts c.args.end.now.end.history e)
     ∙ ap (λ (z : StorageView). counts_after no_counts z.history) (sym c.answer_later.ensures.answered)
 
@@ -45,32 +45,32 @@ answer_later-requires-clause-legal g c = let p = c.args.posted in
       session = p.session;
       number = p.number;
       request = c.handle-stored.new.request;
-      moment = c.ask_clock-moment.result.0;
-      clock = c.ask_clock-moment.result.1;
-      reply = c.count_reply-reply.result;
+      moment = c.next_moment-moment.result;
+      clock = c.answers.result;
+      reply = c.reply-reply.result;
     } in
-    let by : e.clock ≡ answers_by [] c.args.end.now.end.history ++ c.ask_clock-moment.ensures.moment.0 ∷ [] =
-    c.ask_clock-moment.ensures.answers ∙ c.ask_clock-moment.ensures.moment.2
-    ∙ ap (λ (l : List GivenAnswer). l ++ c.ask_clock-moment.ensures.moment.0 ∷ []) c.requires.answers in
+    let by : e.clock ≡ answers_by [] c.args.end.now.end.history ++ c.next_moment-moment.ensures.moment.0 ∷ [] =
+    c.answers.ensures ∙ c.next_moment-moment.ensures.moment.2
+    ∙ ap (λ (l : List GivenAnswer). l ++ c.next_moment-moment.ensures.moment.0 ∷ []) c.requires.answers in
     let legal = legal_of _ _ _ _
     (reaches_more c.args.end.now.end.terms.geometry c.args.end.now.end.history (g.S.StorageEngine.cache c.args.store.now)
-    (g.S.StorageEngine.cache c.handle-stored.new.store) (g.S.StorageEngine.moment c.args.store.now) e c.requires.reaches (
+    (g.S.StorageEngine.cache c.handle-stored.new.self) (g.S.StorageEngine.moment c.args.store.now) e c.requires.reaches (
       c.handle-stored.result,
-      c.count_reply-reply.ensures.same,
+      c.reply-reply.ensures.same,
       subst (λ (z : Sizes × Request). Step z.0 (g.S.StorageEngine.cache c.args.store.now) e.moment z.1 c.handle-stored.result
-          (g.S.StorageEngine.cache c.handle-stored.new.store))
+          (g.S.StorageEngine.cache c.handle-stored.new.self))
           (λ i. (c.requires.sizes i, sym c.handle-stored.ensures.request i)) c.handle-stored.ensures.step,
     )
-    (tells c.args.counts.now c.args.end.now.end.history e c.requires.counts c.count_reply-reply.ensures.tells)
-    (search rules) c.ask_clock-moment.ensures.moment.0 (c.ask_clock-moment.ensures.answers ∙ c.ask_clock-moment.ensures.moment.2
-    ∙ ap (λ (l : List GivenAnswer). l ++ c.ask_clock-moment.ensures.moment.0 ∷ []) c.requires.answers) (search rules) c.requires.next) in record {
+    (tells c.args.counts.now c.args.end.now.end.history e c.requires.counts c.reply-reply.ensures.tells)
+    (search rules) c.next_moment-moment.ensures.moment.0 (c.answers.ensures ∙ c.next_moment-moment.ensures.moment.2
+    ∙ ap (λ (l : List GivenAnswer). l ++ c.next_moment-moment.ensures.moment.0 ∷ []) c.requires.answers) (search rules) c.requires.next) in record {
       legal = legal;
-      read = λ is. let f = read_more _ _ _ c.args.end.now.end.history e c.ask_clock-moment.ensures.moment.0 by c.requires.read
-          c.ask_clock-moment.ensures.moment.4 c.ask_clock-moment.ensures.moment.5 is in (f.0, f.2);
+      read = λ is. let f = read_more _ _ _ c.args.end.now.end.history e c.next_moment-moment.ensures.moment.0 by c.requires.read
+          c.next_moment-moment.ensures.moment.4 c.next_moment-moment.ensures.moment.5 is in (f.0, f.2);
       refused = λ none. refuses_more g.S.StorageEngine.may_refuse c.args.end.now.end.history e c.requires.refused
-          (λ is. refused_told e c.handle-stored.result c.count_reply-reply.ensures.same
+          (λ is. refused_told e c.handle-stored.result c.reply-reply.ensures.same
           (refused_get g.S.StorageEngine.may_refuse (g.S.StorageEngine.sizes c.args.store.now) (g.S.StorageEngine.cache c.args.store.now)
-          c.ask_clock-moment.result.0 p.request c.handle-stored.new.request c.handle-stored.result c.handle-stored.ensures.succeeds
+          c.next_moment-moment.result p.request c.handle-stored.new.request c.handle-stored.result c.handle-stored.ensures.succeeds
           c.handle-stored.ensures.request is)) (c.requires.refuses none);
     }
 
@@ -81,24 +81,24 @@ returns-clause-reaches g c = let p = c.args.posted in
       session = p.session;
       number = p.number;
       request = c.handle-stored.new.request;
-      moment = c.ask_clock-moment.result.0;
-      clock = c.ask_clock-moment.result.1;
-      reply = c.count_reply-reply.result;
+      moment = c.next_moment-moment.result;
+      clock = c.answers.result;
+      reply = c.reply-reply.result;
     } in
     let more = reaches_more c.args.end.now.end.terms.geometry c.args.end.now.end.history
     (g.S.StorageEngine.cache c.args.store.now)
-    (g.S.StorageEngine.cache c.handle-stored.new.store) (g.S.StorageEngine.moment c.args.store.now) e c.requires.reaches (
+    (g.S.StorageEngine.cache c.handle-stored.new.self) (g.S.StorageEngine.moment c.args.store.now) e c.requires.reaches (
       c.handle-stored.result,
-      c.count_reply-reply.ensures.same,
+      c.reply-reply.ensures.same,
       subst (λ (z : Sizes × Request). Step z.0 (g.S.StorageEngine.cache c.args.store.now) e.moment z.1 c.handle-stored.result
-          (g.S.StorageEngine.cache c.handle-stored.new.store))
+          (g.S.StorageEngine.cache c.handle-stored.new.self))
           (λ i. (c.requires.sizes i, sym c.handle-stored.ensures.request i)) c.handle-stored.ensures.step,
     )
-    (tells c.args.counts.now c.args.end.now.end.history e c.requires.counts c.count_reply-reply.ensures.tells)
-    (search rules) c.ask_clock-moment.ensures.moment.0 (c.ask_clock-moment.ensures.answers ∙ c.ask_clock-moment.ensures.moment.2
-    ∙ ap (λ (l : List GivenAnswer). l ++ c.ask_clock-moment.ensures.moment.0 ∷ []) c.requires.answers) (search rules) c.requires.next in
+    (tells c.args.counts.now c.args.end.now.end.history e c.requires.counts c.reply-reply.ensures.tells)
+    (search rules) c.next_moment-moment.ensures.moment.0 (c.answers.ensures ∙ c.next_moment-moment.ensures.moment.2
+    ∙ ap (λ (l : List GivenAnswer). l ++ c.next_moment-moment.ensures.moment.0 ∷ []) c.requires.answers) (search rules) c.requires.next in
     subst (λ (z : StorageView × ℕ). Reaches z.0.terms.geometry z.0.history
-    (g.S.StorageEngine.cache c.handle-stored.new.store) z.1)
+    (g.S.StorageEngine.cache c.handle-stored.new.self) z.1)
     (λ i. (sym c.answer_later.ensures.answered i, sym c.handle-stored.ensures.moment i)) more
 
 pub returns-clause-kept : goal.returns-clause-kept
@@ -108,27 +108,27 @@ returns-clause-kept g c l = let p = c.args.posted in let m = g.S.StorageEngine i
       session = p.session;
       number = p.number;
       request = c.handle-stored.new.request;
-      moment = c.ask_clock-moment.result.0;
-      clock = c.ask_clock-moment.result.1;
-      reply = c.count_reply-reply.result;
+      moment = c.next_moment-moment.result;
+      clock = c.answers.result;
+      reply = c.reply-reply.result;
     } in
-    let old = m.cache c.args.store.now in let after = m.cache c.handle-stored.new.store in
+    let old = m.cache c.args.store.now in let after = m.cache c.handle-stored.new.self in
     let sizes : m.sizes c.args.store.now ≡ c.args.end.now.end.terms.geometry = c.requires.sizes in
     let request : p.request ≡ c.handle-stored.new.request = sym c.handle-stored.ensures.request in
     let more = leads_more c.args.end.now.end.terms.geometry c.args.end.now.end.history old after e (m.keeps c.args.store.now)
-    (m.keeps c.handle-stored.new.store) l (
+    (m.keeps c.handle-stored.new.self) l (
       c.handle-stored.result,
-      c.count_reply-reply.ensures.same,
+      c.reply-reply.ensures.same,
       subst (λ (z : Sizes × Request). Step z.0 old e.moment z.1 c.handle-stored.result after)
           (λ i. (sizes i, request i)) c.handle-stored.ensures.step,
     )
     (keeps_told c.args.end.now.end.terms.geometry old e c.handle-stored.result after (m.keeps c.args.store.now)
-    (m.keeps c.handle-stored.new.store) c.count_reply-reply.ensures.same
+    (m.keeps c.handle-stored.new.self) c.reply-reply.ensures.same
     (λ is. c.handle-stored.ensures.succeeds (needs_none m.may_refuse (m.sizes c.args.store.now) old
-    c.ask_clock-moment.result.0 p.request (request ∙ is)))
+    c.next_moment-moment.result p.request (request ∙ is)))
     (subst (λ (z : Sizes × Request). KeepsStep z.0 old (record e { request = z.1; reply = c.handle-stored.result }) after
-    (m.keeps c.args.store.now) (m.keeps c.handle-stored.new.store)) (λ i. (sizes i, request i)) c.handle-stored.ensures.kept)) in
-    subst (λ (z : StorageView). LeadsKeeping z.terms.geometry z.history after (m.keeps c.handle-stored.new.store))
+    (m.keeps c.args.store.now) (m.keeps c.handle-stored.new.self)) (λ i. (sizes i, request i)) c.handle-stored.ensures.kept)) in
+    subst (λ (z : StorageView). LeadsKeeping z.terms.geometry z.history after (m.keeps c.handle-stored.new.self))
     (sym c.answer_later.ensures.answered) more
 
 pub returns-clause-read : goal.returns-clause-read
@@ -138,17 +138,17 @@ returns-clause-read g c = let p = c.args.posted in
       session = p.session;
       number = p.number;
       request = c.handle-stored.new.request;
-      moment = c.ask_clock-moment.result.0;
-      clock = c.ask_clock-moment.result.1;
-      reply = c.count_reply-reply.result;
+      moment = c.next_moment-moment.result;
+      clock = c.answers.result;
+      reply = c.reply-reply.result;
     } in
-    let by : e.clock ≡ answers_by [] c.args.end.now.end.history ++ c.ask_clock-moment.ensures.moment.0 ∷ [] =
-    c.ask_clock-moment.ensures.answers ∙ c.ask_clock-moment.ensures.moment.2
-    ∙ ap (λ (l : List GivenAnswer). l ++ c.ask_clock-moment.ensures.moment.0 ∷ []) c.requires.answers in
-    subst (λ (z : StorageView). IsReadSince z.terms.system_clock (g.C.Clock.start c.ask_clock-moment.new.clock.clock) z.history)
+    let by : e.clock ≡ answers_by [] c.args.end.now.end.history ++ c.next_moment-moment.ensures.moment.0 ∷ [] =
+    c.answers.ensures ∙ c.next_moment-moment.ensures.moment.2
+    ∙ ap (λ (l : List GivenAnswer). l ++ c.next_moment-moment.ensures.moment.0 ∷ []) c.requires.answers in
+    subst (λ (z : StorageView). IsReadSince z.terms.system_clock (g.C.Clock.start c.next_moment-moment.new.clock.clock) z.history)
     (sym c.answer_later.ensures.answered)
-    (read_more _ _ _ c.args.end.now.end.history e c.ask_clock-moment.ensures.moment.0 by c.requires.read
-    c.ask_clock-moment.ensures.moment.4 c.ask_clock-moment.ensures.moment.5)
+    (read_more _ _ _ c.args.end.now.end.history e c.next_moment-moment.ensures.moment.0 by c.requires.read
+    c.next_moment-moment.ensures.moment.4 c.next_moment-moment.ensures.moment.5)
 
 pub returns-clause-refused : goal.returns-clause-refused
 returns-clause-refused g c = let p = c.args.posted in let m = g.S.StorageEngine in
@@ -157,12 +157,12 @@ returns-clause-refused g c = let p = c.args.posted in let m = g.S.StorageEngine 
       session = p.session;
       number = p.number;
       request = c.handle-stored.new.request;
-      moment = c.ask_clock-moment.result.0;
-      clock = c.ask_clock-moment.result.1;
-      reply = c.count_reply-reply.result;
+      moment = c.next_moment-moment.result;
+      clock = c.answers.result;
+      reply = c.reply-reply.result;
     } in
     subst (λ (z : StorageView). RefusesBy m.may_refuse z.history) (sym c.answer_later.ensures.answered)
     (refuses_more m.may_refuse c.args.end.now.end.history e c.requires.refused
-    (λ is. refused_told e c.handle-stored.result c.count_reply-reply.ensures.same (refused_get m.may_refuse (m.sizes c.args.store.now)
-    (m.cache c.args.store.now) c.ask_clock-moment.result.0 p.request c.handle-stored.new.request c.handle-stored.result
+    (λ is. refused_told e c.handle-stored.result c.reply-reply.ensures.same (refused_get m.may_refuse (m.sizes c.args.store.now)
+    (m.cache c.args.store.now) c.next_moment-moment.result p.request c.handle-stored.new.request c.handle-stored.result
     c.handle-stored.ensures.succeeds c.handle-stored.ensures.request is)))

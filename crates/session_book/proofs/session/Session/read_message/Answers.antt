@@ -25,7 +25,7 @@ returns-in-Taken c =
     let queue = c.self.inside.queue.items in
     let asked = asked_behind queue c.in-Taken.request c.in-Taken.noreply c.self.invariant in
     let open_yet : c.self.inside.ended ≡ None = ap (λ (s : SessionState). s.ended) c.self.view_is ∙ c.requires.not_ended in
-    read_found _ _ c.self.inside.input c.self.inside.input c.next.new.self found.count m _ _ _ c.self.view_is c.requires.not_ended
+    read_found _ _ c.self.inside.input c.self.inside.input c.next.new.self c.in-Taken.length m _ _ _ c.self.view_is c.requires.not_ended
     refl refl found.begins refl found.taken open_yet
     (c.push_back_reserved.ensures.items ∙ ap (λ (ms : List Message). ms ++ c.of.result ∷ []) c.in_ok-reserve.ensures.items
     ∙ ap (λ (n : Message). queue ++ n ∷ []) c.of.ensures ∙ sym (left_stays (queue ++ m ∷ []) asked))

@@ -1,16 +1,15 @@
 //! The commands, over any map of live entries.
 
-ghost use Rattle.std.specs.Prelude.{◌≡◌, ◌≤◌, ◌<◌, ◌++◌, ◌+◌, length, IsSome, IsTrue, Some, true, false};
+ghost use Rattle.std.specs.Prelude.{◌≡◌, ◌≤◌, ◌<◌, ◌+◌, length, IsTrue, Some, true, false};
 ghost use Rattle.std.specs.FinMap as map;
 ghost use Rattle.proto.specs.Cache.{Entry, found_at, has_arrived};
 ghost use Rattle.proto.specs.Commands.{write, put, change, join, is_too_large, leaving, hits_of};
 ghost use Rattle.proto.specs.Sizes.{item_limit};
 ghost use Rattle.proto.specs.History.{max_moment};
-ghost use Rattle.proto.specs.Steps.{MayBeDated};
 ghost use Rattle.proto.specs.declared.message.Put.{Put};
 ghost use Rattle.engine.specs.Written.{MayBeWritten, IsChanged};
 ghost use Rattle.engine.specs.Change.{changed_by, joined_by};
-ghost use Rattle.engine.specs.Keeping.{StaysKept, KeepsEntry};
+ghost use Rattle.engine.specs.Keeping.{StaysKept};
 ghost use Rattle.engine.specs.AnswerSizes.{shown_size, answer_size, is_too_long};
 
 use crate::deadline::{deadline_of, has_arrived};
@@ -62,22 +61,6 @@ fn dated<'v>(entry: EntryRef, value: &'v [u8], deadline: Option<u64>) -> EntryRe
         deadline,
         cas: entry.cas,
     }
-}
-
-/// Whether a touch that asks for this deadline leaves the entry of the key, which stands at the place.
-fn stays<M: LiveMap>(entries: &M, key: &[u8], place: M::Place, deadline: Option<u64>) -> bool
-    requires stands { M.stands entries.now key.now place }
-    requires there { IsSome (map.get (M.entries entries.now) key.now) }
-    requires waits { has_arrived deadline (M.moment entries.now) ≡ false }
-    ensures decides { (e : Entry) → map.get (M.entries entries.now) key.now ≡ Some e
-        → result ≡ M.stays (M.moment entries.now) deadline e.deadline }
-    ensures may_stay { IsTrue result → (e : Entry) → map.get (M.entries entries.now) key.now ≡ Some e
-        → MayBeDated (M.moment entries.now) deadline e.deadline Reply.Touched }
-    ensures kept { IsTrue result → (e : Entry) → map.get (M.entries entries.now) key.now ≡ Some e
-        → KeepsEntry M.sizes M.entries M.moment M.keeps entries.now key.now (record e { deadline = deadline })
-        entries.now }
-{
-    entries.may_stay(key, place, deadline)
 }
 
 impl<M: LiveMap> Engine<M> {
@@ -253,7 +236,7 @@ impl<M: LiveMap> Engine<M> {
             self.map.remove(key);
             return Reply::Touched;
         }
-        if stays(&self.map, key, place, deadline) {
+        if self.map.may_stay(key, place, deadline) {
             self.map.count_touch(key, place);
             return Reply::Touched;
         }

@@ -127,13 +127,6 @@ impl<M: LiveMap> Engine<M> {
     {
         self.pending
     }
-
-    /// The last moment of the map.
-    fn reached(&self) -> u64
-        ensures { result ≡ M.moment self.now.map }
-    {
-        self.map.last_moment()
-    }
 }
 
 impl<M: StoreMap> StorageEngine for Engine<M> {
@@ -150,7 +143,7 @@ impl<M: StoreMap> StorageEngine for Engine<M> {
     ghost keeps = { λ s items. M.keeps s.map items };
 
     fn last_moment(&self) -> u64 {
-        self.reached()
+        self.map.last_moment()
     }
 
     fn key_hasher(&self) -> FoldHasher {

@@ -10,8 +10,8 @@ use Rattle.engine.specs.Engines.{cache_in, as_touched, Leaves}
 use Rattle.engine.proofs.TouchLemmas.{asking, leaves_there, leaves_anew}
 use Rattle.engine.proofs.commands.Engine.touch.Goals as goal
 
-pub returns-then-stays : goal.returns-then-stays
-returns-then-stays g c =
+pub returns-then-may_stay : goal.returns-then-may_stay
+returns-then-may_stay g c =
     let m = g.M.LiveMap in
     let old = c.args.self.now in
     let key = c.as_slice-key.result.now in
@@ -28,9 +28,9 @@ returns-then-stays g c =
     let new = record old { map = c.count_touch.new.self } in
     subst (λ (k : List ℕ). Leaves m as_touched old new
     (touch (map.get (m.entries old.map) k) (cache_in m.entries old) (m.moment old.map) k exptime) Touched) c.as_slice-key.ensures
-    (leaves_there m old new key exptime e asked c.stays.result there is waits
-    c.if-stays.true (c.stays.ensures.decides e there) (c.stays.ensures.may_stay c.if-stays.true e there)
-    (c.stays.ensures.kept c.if-stays.true e there) refl refl refl refl
+    (leaves_there m old new key exptime e asked c.may_stay.result there is waits
+    c.if-may_stay.true (c.may_stay.ensures.decides e there) (c.may_stay.ensures.may_stay c.if-may_stay.true e there)
+    (c.may_stay.ensures.kept c.if-may_stay.true e there) refl refl refl refl
     c.count_touch.ensures.sizes c.count_touch.ensures.moment c.count_touch.ensures.entries c.count_touch.ensures.counted
     c.count_touch.ensures.kept)
 
@@ -64,5 +64,5 @@ returns-in-Ok g c =
     subst (λ (k : List ℕ). Leaves m as_touched old new
     (touch (map.get (m.entries old.map) k) (cache_in m.entries old) (m.moment old.map) k exptime) Touched) c.as_slice-key.ensures
     (leaves_anew m old new key exptime e w asked
-    c.stays.result there is waits c.if-stays.false (c.stays.ensures.decides e there) c.in-Ok.ensures.sizes_same
+    c.may_stay.result there is waits c.if-may_stay.false (c.may_stay.ensures.decides e there) c.in-Ok.ensures.sizes_same
     c.in-Ok.ensures.moment_same refl refl refl refl same c.in-Ok.ensures.written c.in-Ok.ensures.exactly c.in-Ok.ensures.kept)

@@ -129,8 +129,9 @@ fn listening_line(alloc: Global, options: &ServeOptions, port: u16) -> Result<St
     Ok(line)
 }
 
-/// Prints that it listens, with the real port.
-fn announce<W: Write>(
+/// Tells the operator the options in force, and prints that it listens, with the real port.
+fn announce<H: Eprint + Net + Drop, W: Write>(
+    rt: H,
     alloc: Global,
     options: &ServeOptions,
     port: u16,
@@ -139,6 +140,8 @@ fn announce<W: Write>(
     ensures { OnOk result ((line : List ℕ) × IsListeningLine (string_bytes options.entry.now.listen) port line
         × Appends (W.contents out.old) (W.contents out.new) line) }
 {
+    let in_force = options_in_force(alloc, options)?;
+    Operator::new(rt, alloc).serves_with(in_force.as_str());
     let line = listening_line(alloc, options, port)?;
     if out.write_all(line.as_bytes()).is_err() || out.flush().is_err() {
         return Err(Fault::CannotWrite);
@@ -273,23 +276,7 @@ fn run_workers<H: Runtime + Copy + Drop + Send + 'static>(
     Ok(report)
 }
 
-/// Tells the operator the options in force, and prints that it listens.
-fn announce_all<H: Eprint + Net + Drop, W: Write>(
-    rt: H,
-    alloc: Global,
-    options: &ServeOptions,
-    port: u16,
-    out: &mut W,
-) -> Result<(), Fault>
-    ensures { OnOk result ((line : List ℕ) × IsListeningLine (string_bytes options.entry.now.listen) port line
-        × Appends (W.contents out.old) (W.contents out.new) line) }
-{
-    let in_force = options_in_force(alloc, options)?;
-    Operator::new(rt, alloc).serves_with(in_force.as_str());
-    announce(alloc, options, port, out)
-}
-
-/// Tells the operator the options in force, prints that it listens, and accepts streams up to the options' limit.
+/// Announces that it listens, and accepts streams up to the options' limit.
 fn announce_and_listen<H: System, W: Write>(
     rt: H,
     alloc: Global,
@@ -301,7 +288,7 @@ fn announce_and_listen<H: System, W: Write>(
     ensures { OnOk result (IsAnnounced (string_bytes options.entry.now.listen)
         (W.contents out.old) (W.contents out.new)) }
 {
-    announce_all(rt, alloc, options, listener.port(), out)?;
+    announce(rt, alloc, options, listener.port(), out)?;
     start_listening(
         rt,
         Watch::new(&rt, alloc),

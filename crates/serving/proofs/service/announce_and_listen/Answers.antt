@@ -7,5 +7,5 @@ on_ok (Ok value) holds = holds
 on_ok (Err error) holds = tt
 
 pub returns : goal.returns
-returns g c = let announced = c.in_ok-announce_all.ensures in
+returns g c = let announced = c.in_ok-announce.ensures in
     on_ok c.start_listening.result (c.port.result, announced.0, announced.1, announced.2)

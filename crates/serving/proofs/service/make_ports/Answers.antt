@@ -1,5 +1,4 @@
 use Rattle.std.proofs.Common.{ℕ, [], ◌∷◌, ◌+◌, length, length-append, sym, ap, subst, ◌∙◌, arith}
-use Rattle.exchange.specs.Ends.{ExchangeId}
 use Rattle.net.specs.Traces.{trace_of, IsNew}
 use Rattle.serving.specs.Runs.{AreNewPorts}
 use Rattle.serving.proofs.Ports.{new_more}

@@ -31,11 +31,6 @@ use std::marker::Model;
 /// 80 go to the words and numbers beside them.
 pub const MAX_HIT: usize = 131_128;
 
-/// Keys of unsettled requests, over all sessions, above which one request at a time goes on. Up to then each key has a hit at
-/// most, and the last request one answer: so before they are put into outputs, their hits take no more than 40 MiB leniently, and
-/// strictly, if a line has 1,021 keys at most, no more than 160 MiB.
-pub const MAX_KEYS: usize = 255;
-
 /// Keys of unsettled requests, over all sessions, above which a `get` is put off whose answer may be large. So the others wait for
 /// one large answer at a time.
 pub const MANY_UNSETTLED: usize = 128;
@@ -386,10 +381,11 @@ impl Book {
         self.upkeep.ready.are_empty()
     }
 
-    /// Whether more than 255 keys stand in unsettled requests, over all sessions. Its owner then asks for one request at a time: so
-    /// the hits of the unsettled ones take 41,943,040 bytes at most, or in the strict dialect 167,772,160.
+    /// Whether more than 255 keys stand in unsettled requests, over all sessions, or those for 8 keys or fewer are likely to be answered
+    /// with more than 1,048,576 bytes. Its owner then asks for one request at a time: so the hits of the unsettled ones take 41,943,040
+    /// bytes at most, or in the strict dialect 167,772,160.
     pub fn is_crowded(&self) -> bool {
-        self.upkeep.load.keys > MAX_KEYS
+        self.upkeep.load.is_crowded()
     }
 
     /// Whether little output waits, over all sessions: then a turn of its owner is short.

@@ -5,7 +5,8 @@ ghost use Rattle.proto.specs.declared.hits.Hit.{Hit};
 ghost use Rattle.proto.specs.declared.limits.TheConstants.{WINDOW, MAX_ANSWER, MAX_KEPT, MAX_SESSIONS, MAX_POSTS};
 ghost use Rattle.proto.specs.Hits.{hit_room};
 ghost use Rattle.session_book.specs.declared.session.TheConstants.{MAX_UNREAD, MAX_WAITING};
-ghost use Rattle.session_book.specs.declared.book.TheConstants.{MAX_KEYS, MAX_HIT, MAX_OUTPUT};
+ghost use Rattle.session_book.specs.declared.load.TheConstants.{MAX_KEYS};
+ghost use Rattle.session_book.specs.declared.book.TheConstants.{MAX_HIT, MAX_OUTPUT};
 ghost use Rattle.session_book.specs.Accounts.{StartsAccounts, FeedKeeps, ReadKeeps, SettleKeeps, GiveKeeps, ReadBegins};
 ghost use Rattle.session_book.specs.Accounts.{ReadIsWhole, SaidBegins, SaidIsWhole};
 
@@ -26,7 +27,7 @@ pub fn beginnings()
     ensures said_whole { SaidIsWhole }
 {}
 
-/// The limits of a book in numbers: those that its contracts cite, and that of `is_crowded`. A hit of an item needs no more
+/// The limits of a book in numbers: those that its contracts cite, and the keys of `is_crowded`. A hit of an item needs no more
 /// room than is reckoned with, nor do the hits of as many keys with one more lenient answer, or with those of a strict line's keys.
 pub fn limits()
     ensures unsettled { WINDOW ≡ 64 }

@@ -8,6 +8,15 @@ const LARGE_ANSWER: usize = 262_144;
 /// The keys up to which the answer to a `get` isn't taken to be large.
 const FEW_KEYS: usize = 8;
 
+/// Keys of unsettled requests, over all sessions, above which one request at a time goes on. Up to then each key has a hit at
+/// most, and the last request one answer: so before they are put into outputs, their hits take no more than 40 MiB leniently, and
+/// strictly, if a line has 1,021 keys at most, no more than 160 MiB.
+pub const MAX_KEYS: usize = 255;
+
+/// The likely bytes of the answers to short `get`s, over all sessions, above which one request at a time goes on. So the others wait
+/// for about 1 MiB of them, unless they are longer than the last ones.
+const MAX_SHORT_ANSWERS: usize = 1_048_576;
+
 /// What a book counts for `stats`. After the greatest number a count goes on from 0.
 #[derive(Clone, Copy, Default)]
 struct BookCounts {
@@ -50,6 +59,10 @@ impl BookCounts {
 pub(crate) struct Load {
     /// The keys of unsettled requests.
     pub(crate) keys: usize,
+    /// The unsettled `get`s that are short: they have `FEW_KEYS` keys or fewer.
+    short_gets: usize,
+    /// The bytes of the last answer to a short `get`, or half of what this number was before, if that is more.
+    short_answer: usize,
     /// The bytes that each key took in the last answer for more than `FEW_KEYS` keys, or half of what this number was before, if
     /// that is more.
     key_bytes: usize,
@@ -79,9 +92,18 @@ impl Load {
         self.counts.count(message, length);
     }
 
+    /// Whether so much is on its way that one request at a time goes on.
+    pub(crate) fn is_crowded(&self) -> bool {
+        self.keys > MAX_KEYS
+            || self.short_gets.saturating_mul(self.short_answer) > MAX_SHORT_ANSWERS
+    }
+
     /// So many keys are asked for.
     pub(crate) fn asked_keys(&mut self, count: usize) {
         self.keys = self.keys.saturating_add(count);
+        if count <= FEW_KEYS {
+            self.short_gets = self.short_gets.saturating_add(1);
+        }
     }
 
     /// A request was settled with so many bytes of output.
@@ -91,6 +113,9 @@ impl Load {
             self.keys = self.keys.saturating_sub(count);
             if count > FEW_KEYS {
                 self.key_bytes = (length / count).max(self.key_bytes / 2);
+            } else {
+                self.short_gets = self.short_gets.saturating_sub(1);
+                self.short_answer = length.max(self.short_answer / 2);
             }
         }
     }

@@ -47,11 +47,12 @@ enum Sight {
     NextToAsk(Option<u64>),
     /// Whether the session is put off.
     PutOff(u64, bool),
+    IsCrowded(bool),
     HasLittleOutput(bool),
     Looks(u64),
 }
 
-use Sight::{Finished, HasLittleOutput, Looks, NextToAsk, Output, PutOff, Ready};
+use Sight::{Finished, HasLittleOutput, IsCrowded, Looks, NextToAsk, Output, PutOff, Ready};
 use Step::{
     Ask, AskLater, AskNext, Close, EndInput, Feed, FeedLetters, Give, Known, Open, Receive, See,
     Settle, SettleHit, SettleStats,
@@ -68,6 +69,7 @@ fn check_sight(rt: &impl Abort, player: &mut Player, sight: &Sight, place: Place
         Ready(task, session) => check_same(rt, book.next_ready(*task), *session, place),
         NextToAsk(session) => check_same(rt, book.next_to_ask(), *session, place),
         PutOff(session, is_put_off) => check_same(rt, book.put_off(*session), *is_put_off, place),
+        IsCrowded(is_crowded) => check_same(rt, book.is_crowded(), *is_crowded, place),
         HasLittleOutput(has) => check_same(rt, book.has_little_output(), *has, place),
         Looks(count) => check_same(rt, book.looks(), *count, place),
     }
@@ -140,7 +142,7 @@ struct Row {
     parts: &'static [Part],
 }
 
-const ROWS: [Row; 10] = [
+const ROWS: [Row; 11] = [
     Row {
         name: "answers are settled in order",
         dialect: Dialect::Strict,
@@ -232,6 +234,46 @@ const ROWS: [Row; 10] = [
                 See(HasLittleOutput(true)),
             ],
         )],
+    },
+    // An answer is likely to be as long as the last one, or as half of what was likely before. The `get` for 9 keys does not count.
+    Row {
+        name: "a book is crowded above 1 MiB of likely answers",
+        dialect: Dialect::Lenient,
+        found: None,
+        parts: &[
+            (1, &[Open(1), Feed(1, b"get b\r\n"), AskNext(1)]),
+            (1, &[SettleHit(131_072), Give(1)]),
+            (8, &ASKED_FOR_1),
+            (
+                1,
+                &[
+                    See(IsCrowded(false)),
+                    Feed(1, b"get b b b b b b b b\r\n"),
+                    AskNext(1),
+                    See(IsCrowded(true)),
+                ],
+            ),
+            (1, &[Settle(0, Settled::Kept), See(IsCrowded(false))]),
+            (8, &ASKED_FOR_1),
+            (
+                1,
+                &[
+                    Feed(1, b"get b b b b b b b b b\r\n"),
+                    AskNext(1),
+                    See(IsCrowded(false)),
+                ],
+            ),
+            (1, &ASKED_FOR_1),
+            (
+                1,
+                &[
+                    See(IsCrowded(true)),
+                    Close(1),
+                    Settle(0, Settled::Dropped),
+                    See(IsCrowded(false)),
+                ],
+            ),
+        ],
     },
     Row {
         name: "numbers of sessions rise",
@@ -338,6 +380,8 @@ const SLOW_ROWS: [Row; 3] = [
 ];
 
 const LONG_LINE_ENDS: [Step; 4] = [Ask(1, None), Feed(1, b"\r"), Ask(1, None), Feed(1, b"\n")];
+
+const ASKED_FOR_1: [Step; 2] = [Feed(1, b"get b\r\n"), AskNext(1)];
 
 const LOCAL_LINES: [Step; 10] = [
     Open(1),

@@ -85,8 +85,8 @@ def read_fast(port, key, size, keys):
 
 def waits_beside(port, seconds, says):
     """How long the requests of a client waited, and those of newcomers from before they connected."""
-    waits, began = [], time.monotonic()
     with connect(port) as stream:
+        waits, began = [wait_of(stream)], time.monotonic()
         while time.monotonic() < began + seconds:
             waits.append(wait_of(stream))
             time.sleep(0.002)

@@ -686,7 +686,7 @@ def main():
         began = time.monotonic()
         try:
             said = PARTS[name](words.long)
-        except (Trouble, OSError, EOFError) as trouble:
+        except Exception as trouble:  # (whatever ended this part, the others are run)
             lines = [str(it.lineno) for it in traceback.extract_tb(trouble.__traceback__)]
             said, failed = f"FAILED: {type(trouble).__name__} {trouble}, at lines {', '.join(lines)}", failed + 1
         print(f"hostile {name}: {said} ({time.monotonic() - began:.0f} s)", flush=True)

@@ -9,7 +9,7 @@ use Rattle.net.specs.Seen.{IsSet, then_received, then_input_ended, is_paused_str
 use Rattle.net.specs.Traces.{trace_of, Tells}
 use Rattle.net.proofs.StreamLemmas.{Agree, trace_after, set_by, open_with, shown_with}
 use Rattle.net.proofs.StreamLemmas.{agree_fed, agree_input_ended, agree_gone, tell_fed, tell_input_ended, tell_gone}
-use Rattle.std.proofs.Common.{subst, refl}
+use Rattle.std.proofs.Common.{subst}
 use Rattle.std.specs.Prelude.{is_some}
 use Rattle.proto.specs.Reading.{Reads}
 use Rattle.net.specs.Seen.{received_of}

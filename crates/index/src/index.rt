@@ -1,13 +1,15 @@
 //! The index.
 
-ghost use Rattle.std.specs.Prelude.{◌≡◌, ◌≢◌, ◌+◌, ◌*◌, ◌^◌, ◌<◌, ◌≤◌, length, IfOk, ◌⊎◌, ◌∷◌, [], IfSome, IsSome};
+ghost use Rattle.std.specs.Prelude.{◌≡◌, ◌≢◌, ◌+◌, ◌*◌, ◌^◌, ◌<◌, ◌≤◌, length, IfOk, ◌⊎◌, ◌∷◌, [], IfSome, IsSome, All, None};
 ghost use Rattle.std.specs.FinMap as map;
 ghost use Rattle.segments.specs.declared.place.Place.{Place as Spot};
 ghost use Rattle.segments.specs.Pools.{item_in, key_at};
+ghost use Rattle.segments.specs.Merges.{planned_moves};
+ghost use Rattle.segments.specs.Places.{moved_by};
 ghost use Rattle.index.specs.Keys.{KeysOf, seeded_hasher, hash_of, home_of};
 ghost use Rattle.index.specs.Slots.{used_in, empty_slot, slot_with};
 ghost use Rattle.index.specs.Layouts.{IsLayout, IsInLayout, CanHold, tag_of};
-ghost use Rattle.index.specs.Relocating.{IsRelocated, forget_place};
+ghost use Rattle.index.specs.Relocating.{IsRelocated, CanRelocate, forget_place, forget_lost, keys_after_merge};
 ghost use Rattle.index.specs.Table.{IsIndex, IsMap, IsSameSize, IsTable, places, place_at, HasPlace};
 
 use crate::backward_shift::delete;
@@ -17,11 +19,14 @@ use crate::layout::Layout;
 use crate::search::{find_key, find_place, first_gap};
 use crate::slots::{Slot, Slots};
 use proto::NoMemory;
-use segments::{Place, Pool};
+use segments::{Move, Place, Pool};
 use std::alloc::Global;
 use std::hash::FoldHasher;
 use std::marker::Model;
 use std::sync::atomic::{AtomicU64, Ordering};
+
+/// The number of moves whose slots are read ahead at once.
+const MOVES_AHEAD: usize = 16;
 
 /// The places of items by their keys, in a table whose memory is taken once. Its used part grows with the keys, and is
 /// never more than half full.
@@ -117,12 +122,6 @@ impl Index {
         read
     }
 
-    /// Reads the slots at which searches begin for keys with these hashes, all at once.
-    pub(crate) fn prefetch_slots(&self, hashes: &[u64]) {
-        self.read_ahead
-            .store(self.peek_slots(hashes), Ordering::Relaxed);
-    }
-
     /// The sum of the slots at which searches begin for keys with these hashes.
     fn peek_slots(&self, hashes: &[u64]) -> u64 {
         let mut read: u64 = 0;
@@ -179,7 +178,7 @@ impl Index {
     }
 
     /// Gives the key another place.
-    pub(crate) fn replace(&mut self, key: &[u8], source: Place, target: Place)
+    fn replace(&mut self, key: &[u8], source: Place, target: Place)
         requires target { IsInLayout self.old.layout target }
         requires there { (keys : KeysOf) × IsIndex keys self.old × (place_at keys self.old key.now ≡ Some source) }
         ensures map { (before after : KeysOf) → IsIndex before self.old
@@ -210,7 +209,7 @@ impl Index {
     }
 
     /// Takes a key out if this is its place.
-    pub(crate) fn take_out(&mut self, pool: &Pool, key: &[u8], place: Place)
+    fn take_out(&mut self, pool: &Pool, key: &[u8], place: Place)
         requires index { IsIndex (key_at pool.now) self.old }
         requires key { key_at pool.now place ≡ Some key.now }
         ensures relocated { IsRelocated (key_at pool.now) (key_at pool.now) (forget_place place) self.old self.new }
@@ -221,6 +220,83 @@ impl Index {
             delete(&mut self.slots, at, self.hasher, pool);
             self.used -= 1;
         }
+    }
+
+    /// Reads the slots at which the searches for the keys of the next moves begin: of those that keep their items, or
+    /// of those that don't. The slots come from memory at the same time.
+    fn read_ahead(&self, pool: &Pool, moves: &[Move], from: usize, kept: bool)
+        requires sources { All (λ m. IsSome (item_in pool.now m.source)) moves.now }
+    {
+        let mut hashes = [0; MOVES_AHEAD];
+        let mut number: usize = 0;
+        for hash in hashes.iter_mut() {
+            if let Some(step) = moves.get(from.wrapping_add(number)) {
+                if step.target.is_some() == kept {
+                    *hash = hash_of(self.hasher, pool.item(step.source).key);
+                }
+            }
+            number = number.wrapping_add(1);
+        }
+        self.read_ahead
+            .store(self.peek_slots(&hashes), Ordering::Relaxed);
+    }
+
+    /// Takes out the keys of the items that moves forget.
+    fn drop_lost(&mut self, pool: &Pool, moves: &[Move])
+        requires index { IsIndex (key_at pool.now) self.old }
+        requires sources { All (λ m. IsSome (item_in pool.now m.source)) moves.now }
+        ensures relocated { IsRelocated (key_at pool.now) (key_at pool.now) (forget_lost moves.now) self.old self.new }
+        ensures size { IsSameSize self.old self.new }
+    {
+        let mut number: usize = 0;
+        for step in moves {
+            if number % MOVES_AHEAD == 0 {
+                self.read_ahead(pool, moves, number, false);
+            }
+            number = number.wrapping_add(1);
+            if step.target.is_none() {
+                let item = pool.item(step.source);
+                self.take_out(pool, item.key, step.source);
+            }
+        }
+    }
+
+    /// Gives the keys of the items that moves keep their new places.
+    fn move_kept(&mut self, pool: &Pool, moves: &[Move])
+        requires index { IsIndex (key_at pool.now) self.old }
+        requires sources { All (λ m. IsSome (item_in pool.now m.source)) moves.now }
+        requires can { CanRelocate (key_at pool.now) (keys_after_merge pool.now) self.old moves.now }
+        requires lost { All (λ m. m.target ≡ None → ¬ (HasPlace self.old m.source)) moves.now }
+        ensures relocated { IsRelocated (key_at pool.now) (keys_after_merge pool.now)
+            (moved_by moves.now) self.old self.new }
+        ensures size { IsSameSize self.old self.new }
+    {
+        let mut number: usize = 0;
+        for step in moves {
+            if number % MOVES_AHEAD == 0 {
+                self.read_ahead(pool, moves, number, true);
+            }
+            number = number.wrapping_add(1);
+            if let Some(target) = step.target {
+                let item = pool.item(step.source);
+                self.replace(item.key, step.source, target);
+            }
+        }
+    }
+
+    /// Relocates the keys as the merge that is planned will move their items, before it is carried out: one search
+    /// for each move.
+    pub fn relocate(&mut self, pool: &Pool)
+        requires index { IsIndex (key_at pool.now) self.old }
+        requires can { CanRelocate (key_at pool.now) (keys_after_merge pool.now) self.old
+            (planned_moves pool.now.plan) }
+        ensures relocated { IsRelocated (key_at pool.now) (keys_after_merge pool.now)
+            (moved_by (planned_moves pool.now.plan)) self.old self.new }
+        ensures size { IsSameSize self.old self.new }
+    {
+        let moves = pool.moves();
+        self.drop_lost(pool, moves);
+        self.move_kept(pool, moves);
     }
 
     /// Takes all keys out, and keeps one slot.

@@ -8,7 +8,6 @@ mod hash;
 mod index;
 mod laws;
 mod layout;
-mod relocating;
 mod search;
 mod slots;
 

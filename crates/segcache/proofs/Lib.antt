@@ -26,9 +26,9 @@ pub mod WriteParts
 pub mod MergedMarks
 -- the contract of `merge`: `made`
 pub mod MergedRoom
--- the contract of `evict`, whose plan is of no account
+-- the contract of `forget_some`, whose plan is of no account
 pub mod MergePlans
--- the contracts of `evict`, `free_segment` and `write_item`: `evicted`, `room`, `placed`
+-- the contracts of `forget_some`, `free_segment` and `write_item`: `evicted`, `room`, `placed`
 pub mod ForgottenKeys
 -- the contracts of `merge` and `clear_victim`: `evicted`
 pub mod MergedKeys

@@ -46,26 +46,8 @@ impl SegmentMap {
     }
 
     /// Forgets what has to be forgotten if each segment has a live item: what a merge doesn't keep, or, if nothing
-    /// can be merged, a segment's items. It says whether it merged.
-    fn forget_some(&mut self) -> bool
-        requires full { IsPoolFull self.old.pool }
-        requires crowded { IsCrowded self.old.pool self.old.index self.old.moment }
-        ensures made { IsRoomMade self.old.pool self.old.index self.old.moment self.new.pool self.new.index }
-        ensures evicted { IsEvicted (lives_by self.old.marks) self.old.pool self.old.index
-            self.new.pool self.new.index }
-        ensures moment { self.new.moment ≡ self.old.moment }
-    {
-        if self.pool.plan_merge(&self.marks) {
-            self.merge();
-            true
-        } else {
-            self.clear_victim();
-            false
-        }
-    }
-
-    /// The same, counted.
-    fn evict(&mut self)
+    /// can be merged, a segment's items. What was forgotten is counted.
+    fn forget_some(&mut self)
         requires full { IsPoolFull self.old.pool }
         requires crowded { IsCrowded self.old.pool self.old.index self.old.moment }
         ensures made { IsRoomMade self.old.pool self.old.index self.old.moment self.new.pool self.new.index }
@@ -74,9 +56,15 @@ impl SegmentMap {
         ensures moment { self.new.moment ≡ self.old.moment }
     {
         let keys = self.index.len();
-        let merged = self.forget_some();
-        self.counts
-            .forgot(merged, keys.saturating_sub(self.index.len()));
+        if self.pool.plan_merge(&self.marks) {
+            self.merge();
+            self.counts
+                .forgot(true, keys.saturating_sub(self.index.len()));
+        } else {
+            self.clear_victim();
+            self.counts
+                .forgot(false, keys.saturating_sub(self.index.len()));
+        }
     }
 
     /// Gives back the segments without a live item, and if there are none forgets something.
@@ -90,7 +78,7 @@ impl SegmentMap {
     {
         self.unindex_expired();
         if self.pool.give_back(&self.marks) == 0 {
-            self.evict();
+            self.forget_some();
         }
     }
 

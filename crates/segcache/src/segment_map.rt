@@ -138,38 +138,6 @@ fn item_over<'a>(pool: &Pool, place: Place, key: &'a [u8], entry: EntryRef<'a>) 
     }
 }
 
-/// A pool without an item, whose segments are merged or evicted by this rule. NoMemory if out of memory.
-fn pool_evicting_by(alloc: Global, geometry: Geometry, eviction: Eviction) -> Result<Pool, NoMemory>
-    ensures new { IfOk result (λ p. p ≡ with_eviction (new_pool geometry) eviction) }
-    ensures pool { IfOk result IsPool }
-{
-    let mut pool = Pool::new(alloc, geometry)?;
-    pool.evict_by(eviction);
-    Ok(pool)
-}
-
-impl SegmentMap {
-    /// Sets the gauges of the pool, and of the bytes of what is current.
-    fn set_pool_gauges(&self, gauges: &Gauges) {
-        let geometry = self.pool.geometry();
-        let size = u64::from(geometry.segment_size());
-        let (segments, free) = (
-            u64::from(geometry.segments()),
-            self.pool.free_count() as u64,
-        );
-        let used = size.wrapping_mul(segments.saturating_sub(free));
-        gauges.set(&[
-            (Gauge::LimitBytes, size.wrapping_mul(segments)),
-            (Gauge::SegmentSize, size),
-            (Gauge::Segments, segments),
-            (Gauge::SegmentsFree, free),
-            (Gauge::CurrItems, self.index.len() as u64),
-            (Gauge::Bytes, self.counts.bytes),
-            (Gauge::DeadBytes, used.saturating_sub(self.counts.bytes)),
-        ]);
-    }
-}
-
 impl LiveMap for SegmentMap {
     ghost use Rattle.std.specs.Prelude.{false};
     ghost use Rattle.segcache.specs.Shown.{shown_entries};
@@ -222,8 +190,19 @@ impl LiveMap for SegmentMap {
 
     fn set_gauges(&self, gauges: &Gauges) {
         let counts = &self.counts;
-        self.set_pool_gauges(gauges);
+        let geometry = self.pool.geometry();
+        let size = u64::from(geometry.segment_size());
+        let segments = u64::from(geometry.segments());
+        let free = self.pool.free_count() as u64;
+        let used = size.wrapping_mul(segments.saturating_sub(free));
         gauges.set(&[
+            (Gauge::LimitBytes, size.wrapping_mul(segments)),
+            (Gauge::SegmentSize, size),
+            (Gauge::Segments, segments),
+            (Gauge::SegmentsFree, free),
+            (Gauge::CurrItems, self.index.len() as u64),
+            (Gauge::Bytes, counts.bytes),
+            (Gauge::DeadBytes, used.saturating_sub(counts.bytes)),
             (Gauge::Evictions, counts.evicted_keys()),
             (Gauge::EvictedByMerge, counts.merged_keys),
             (Gauge::EvictedByClearing, counts.cleared_keys),
@@ -316,8 +295,10 @@ impl StoreMap for SegmentMap {
         seed: u64,
         eviction: Eviction,
     ) -> Result<Self, NoMemory> {
+        let mut pool = Pool::new(alloc, geometry)?;
+        pool.evict_by(eviction);
         Ok(SegmentMap {
-            pool: pool_evicting_by(alloc, geometry, eviction)?,
+            pool,
             index: Index::new(alloc, slots_for(geometry), layout_for(geometry), seed)?,
             marks: LiveMarks::new(alloc, geometry)?,
             moment: 0,

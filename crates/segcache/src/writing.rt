@@ -38,18 +38,6 @@ fn mark_instead(marks: &mut LiveMarks, source: Option<Place>, place: Place)
 }
 
 impl SegmentMap {
-    /// Whether an item goes over the one at a place.
-    fn goes_over(&self, place: Place, item: ItemRef) -> bool
-        requires there { IsSome (item_in self.now.pool place) }
-        requires storable { IsStorable (item_limit self.now.pool.sizes) (item_of item) }
-        ensures { result ≡ goes_over self.now item.entry.deadline (item_of item.entry) place }
-    {
-        let deadline = self.pool.item(place).deadline;
-        self.pool.lets_go_over()
-            && may_give(self.moment, item.deadline, deadline)
-            && self.pool.fits_over(place, item)
-    }
-
     /// The place of the item of its key over which an item goes; None if it is written anew.
     pub(crate) fn place_over(&self, item: ItemRef) -> Option<Place>
         requires { IsStorable (item_limit self.now.pool.sizes) (item_of item) }
@@ -63,7 +51,8 @@ impl SegmentMap {
             return None;
         }
         let place = self.index.look_up(&self.pool, item.key)?;
-        if self.goes_over(place, item) {
+        let deadline = self.pool.item(place).deadline;
+        if may_give(self.moment, item.deadline, deadline) && self.pool.fits_over(place, item) {
             Some(place)
         } else {
             None

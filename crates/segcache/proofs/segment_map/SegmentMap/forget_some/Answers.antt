@@ -1,5 +1,8 @@
-use Rattle.std.proofs.Common.{None, Some}
-use Rattle.segcache.specs.Room.{IsCrowded}
+use Rattle.std.proofs.Common.{None, Some, sym, subst}
+use Rattle.segments.specs.Marks.{lives_by}
+use Rattle.segcache.specs.ForgottenKeys.{IsEvicted}
+use Rattle.segcache.specs.Room.{IsCrowded, IsRoomMade}
+use Rattle.segcache.specs.State.{MapState}
 use Rattle.segcache.proofs.MergePlans.{tied_replanned, crowded_replanned, made_replanned, has_plan}
 use Rattle.segcache.proofs.ForgottenKeys.{evicted_replanned, none_replanned}
 use Rattle.segcache.proofs.segment_map.SegmentMap.forget_some.Goals as goal
@@ -34,17 +37,17 @@ returns-then-plan_merge-clause-made c =
     let a = c.self.inside in
     let h = c.if-plan_merge.ensures.plan in
     let crowded : IsCrowded a.pool a.index a.moment = (let h = c.requires.crowded in rw (← c.self.view_is) at h) in
-    rw (← c.self.view_is)
+    rw (← c.self.view_is) (subst (λ (m : MapState). IsRoomMade a.pool a.index a.moment m.pool m.index) (sym c.self-then-plan_merge.view_is)
     (made_replanned a.pool c.plan_merge.new.self (Some h.0) a.index a.marks a.moment c.merge.new.self.pool
-    c.merge.new.self.index c.self.invariant.tied c.plan_merge.ensures.pool h.2 crowded c.merge.ensures.made)
+    c.merge.new.self.index c.self.invariant.tied c.plan_merge.ensures.pool h.2 crowded c.merge.ensures.made))
 
 pub returns-then-plan_merge-clause-evicted : goal.returns-then-plan_merge-clause-evicted
 returns-then-plan_merge-clause-evicted c =
     let a = c.self.inside in
     let h = c.if-plan_merge.ensures.plan in
-    rw (← c.self.view_is)
+    rw (← c.self.view_is) (subst (λ (m : MapState). IsEvicted (lives_by a.marks) a.pool a.index m.pool m.index) (sym c.self-then-plan_merge.view_is)
     (evicted_replanned a.pool c.plan_merge.new.self (Some h.0) a.index a.marks c.merge.new.self.pool
-    c.merge.new.self.index c.self.invariant.tied c.plan_merge.ensures.pool h.2 c.merge.ensures.evicted)
+    c.merge.new.self.index c.self.invariant.tied c.plan_merge.ensures.pool h.2 c.merge.ensures.evicted))
 
 pub invariant_of-self-else-plan_merge : goal.invariant_of-self-else-plan_merge
 invariant_of-self-else-plan_merge c =
@@ -71,15 +74,15 @@ returns-else-plan_merge-clause-made c =
     let a = c.self.inside in
     let h = c.if-plan_merge.ensures.plan in
     let crowded : IsCrowded a.pool a.index a.moment = (let h = c.requires.crowded in rw (← c.self.view_is) at h) in
-    rw (← c.self.view_is)
+    rw (← c.self.view_is) (subst (λ (m : MapState). IsRoomMade a.pool a.index a.moment m.pool m.index) (sym c.self-else-plan_merge.view_is)
     (made_replanned a.pool c.plan_merge.new.self None a.index a.marks a.moment c.clear_victim.new.self.pool
-    c.clear_victim.new.self.index c.self.invariant.tied c.plan_merge.ensures.pool h.1 crowded c.clear_victim.ensures.made)
+    c.clear_victim.new.self.index c.self.invariant.tied c.plan_merge.ensures.pool h.1 crowded c.clear_victim.ensures.made))
 
 pub returns-else-plan_merge-clause-evicted : goal.returns-else-plan_merge-clause-evicted
 returns-else-plan_merge-clause-evicted c =
     let a = c.self.inside in
     let h = c.if-plan_merge.ensures.plan in
-    rw (← c.self.view_is)
+    rw (← c.self.view_is) (subst (λ (m : MapState). IsEvicted (lives_by a.marks) a.pool a.index m.pool m.index) (sym c.self-else-plan_merge.view_is)
     (evicted_replanned a.pool c.plan_merge.new.self None a.index a.marks c.clear_victim.new.self.pool
     c.clear_victim.new.self.index c.self.invariant.tied c.plan_merge.ensures.pool h.1 (c.clear_victim.ensures.evicted
-    (none_replanned a.pool c.plan_merge.new.self None h.1 h.0)))
+    (none_replanned a.pool c.plan_merge.new.self None h.1 h.0))))

@@ -52,8 +52,8 @@ invariant_of-self-else-give_back-eq0 c =
       past = subst (λ (t : ℕ). IsPast new t) (sym moment) w.past;
     }
 
-pub evict-requires-clause-full : goal.evict-requires-clause-full
-evict-requires-clause-full c =
+pub forget_some-requires-clause-full : goal.forget_some-requires-clause-full
+forget_some-requires-clause-full c =
     let s = c.args.self.now in
     let a = c.self.inside in
     let new = c.give_back.new.self in
@@ -70,8 +70,8 @@ evict-requires-clause-full c =
     full_given (lives_by a.marks) a.pool new c.self.invariant.tied.known.pool full c.give_back.ensures.freed
     (sym c.give_back.ensures.count ∙ c.if-give_back-eq0.true)
 
-pub evict-requires-clause-crowded : goal.evict-requires-clause-crowded
-evict-requires-clause-crowded c =
+pub forget_some-requires-clause-crowded : goal.forget_some-requires-clause-crowded
+forget_some-requires-clause-crowded c =
     let s = c.args.self.now in
     let a = c.self.inside in
     let new = c.give_back.new.self in
@@ -104,9 +104,9 @@ returns-then-give_back-eq0-clause-made c =
     (let h = c.unindex_expired.ensures.left in rw (← c.self.view_is) at h) in
     let w = swept_left s b new c.unindex_expired.ensures.kept c.self.invariant pool moment left c.give_back.ensures.pool
     c.give_back.ensures.freed in
-    swept_evicted s.pool s.index s.moment new a.index a.marks c.evict.new.self.pool c.evict.new.self.index w
-    (subst (λ (t : ℕ). IsRoomMade new a.index t c.evict.new.self.pool c.evict.new.self.index) moment
-    c.evict.ensures.made)
+    swept_evicted s.pool s.index s.moment new a.index a.marks c.forget_some.new.self.pool c.forget_some.new.self.index w
+    (subst (λ (t : ℕ). IsRoomMade new a.index t c.forget_some.new.self.pool c.forget_some.new.self.index) moment
+    c.forget_some.ensures.made)
 
 pub returns-else-give_back-eq0-clause-made : goal.returns-else-give_back-eq0-clause-made
 returns-else-give_back-eq0-clause-made c =
@@ -155,8 +155,8 @@ returns-then-give_back-eq0-clause-room c =
     λ bucket i full.
     room_evicted s.pool s.index (lives_by a.marks)
     (live_marks s.marks s.moment) bucket s.moment i new a.index a.marks
-    c.evict.new.self.pool c.evict.new.self.index c.unindex_expired.ensures.kept.tied.known.pool agree full
-    (sym count ∙ c.if-give_back-eq0.true) given w c.evict.ensures.evicted
+    c.forget_some.new.self.pool c.forget_some.new.self.index c.unindex_expired.ensures.kept.tied.known.pool agree full
+    (sym count ∙ c.if-give_back-eq0.true) given w c.forget_some.ensures.evicted
 
 pub returns-else-give_back-eq0-clause-room : goal.returns-else-give_back-eq0-clause-room
 returns-else-give_back-eq0-clause-room c =

@@ -15,14 +15,14 @@ use Rattle.segcache.proofs.segment_map.SegmentMapStoreMap.seeded.Goals as goal
 pub invariant_of-result : goal.invariant_of-result
 unfolding new_pool
 invariant_of-result c =
-    let p = c.in_ok-pool_evicting_by.field-0 in
-    let is : p ≡ with_eviction (new_pool c.args.geometry) c.args.eviction = c.in_ok-pool_evicting_by.ensures.new in
+    let p = c.evict_by.new.self in
+    let is : p ≡ with_eviction (new_pool c.args.geometry) c.args.eviction = c.evict_by.ensures.evicts ∙ ap (λ (q : PoolState). with_eviction q c.args.eviction) c.in_ok-pool.ensures.empty in
     let sizes : p.sizes ≡ c.args.geometry = ap (λ (q : PoolState). q.sizes) is in
     let room : c.in_ok-new.field-0.room ≡ c.slots_for.result = c.in_ok-new.ensures.room in
     let many = c.slots_for.ensures.1 in
     let marks : c.in_ok-new-2.field-0 ≡ no_marks p.sizes = c.in_ok-new-2.ensures ∙ ap no_marks (sym sizes) in
     record {
-      tied = tied_start p c.in_ok-new.field-0 c.in_ok-new-2.field-0 c.in_ok-pool_evicting_by.ensures.pool marks
+      tied = tied_start p c.in_ok-new.field-0 c.in_ok-new-2.field-0 c.evict_by.ensures.pool marks
           (c.in_ok-new.ensures.map (key_at p))
           (subst (λ (s : Sizes). 2 * (s.segments * (s.segment_size / 32)) ≤ c.in_ok-new.field-0.room)
           (sym sizes) (omega (arith, room, many)))
@@ -32,19 +32,19 @@ invariant_of-result c =
 
 pub returns-clause-sizes : goal.returns-clause-sizes
 unfolding new_pool
-returns-clause-sizes c = ap (λ (q : PoolState). q.sizes) c.in_ok-pool_evicting_by.ensures.new
+returns-clause-sizes c = ap (λ (q : PoolState). q.sizes) (c.evict_by.ensures.evicts ∙ ap (λ (q : PoolState). with_eviction q c.args.eviction) c.in_ok-pool.ensures.empty)
 
 pub returns-clause-entries : goal.returns-clause-entries
 returns-clause-entries c =
-    let p = c.in_ok-pool_evicting_by.field-0 in
+    let p = c.evict_by.new.self in
     ap (λ (m : Places). live_entries p m 0) (c.in_ok-new.ensures.map (key_at p)).places_are ∙ shown_empty p 0
 
 pub returns-clause-keeps : goal.returns-clause-keeps
 returns-clause-keeps c =
     let m : MapState = record {
-      pool = c.in_ok-pool_evicting_by.field-0;
+      pool = c.evict_by.new.self;
       index = c.in_ok-new.field-0;
       marks = c.in_ok-new-2.field-0;
       moment = 0;
     } in
-    keeps_none m c.args.geometry c.args.eviction c.in_ok-pool_evicting_by.ensures.new
+    keeps_none m c.args.geometry c.args.eviction (c.evict_by.ensures.evicts ∙ ap (λ (q : PoolState). with_eviction q c.args.eviction) c.in_ok-pool.ensures.empty)

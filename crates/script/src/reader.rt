@@ -89,27 +89,6 @@ fn no_workers(alloc: Global, workers: usize) -> Result<Vec<WorkerScript>, NoMemo
 }
 
 impl<'a> ScriptReader<'a> {
-    /// At the first line, which may name a worker below this number.
-    ///
-    /// # Errors
-    ///
-    /// NoMemory if out of memory.
-    pub fn new(
-        alloc: Global,
-        script: &'a [u8],
-        workers: usize,
-    ) -> Result<ScriptReader<'a>, NoMemory>
-        requires { length script.now ≤ max_script }
-        ensures { IfOk result (λ r. r ≡ first_position workers script.now) }
-    {
-        Ok(ScriptReader {
-            rest: script,
-            workers: no_workers(alloc, workers)?,
-            read: 0,
-            alloc,
-        })
-    }
-
     /// Reads the next line, if there is one, and says whether there was.
     ///
     /// # Errors
@@ -152,7 +131,12 @@ pub fn read_script(
     if script.len() > MAX_SCRIPT {
         return Err(ScriptFault::TooLarge);
     }
-    let mut reader = ScriptReader::new(alloc, script, workers)?;
+    let mut reader = ScriptReader {
+        rest: script,
+        workers: no_workers(alloc, workers)?,
+        read: 0,
+        alloc,
+    };
     while reader.next_line()? {}
     Ok(reader.workers)
 }

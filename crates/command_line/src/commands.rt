@@ -83,18 +83,12 @@ fn evict<'a>(alloc: Global) -> Arg<'a> {
 /// The command with these options, and with those that both jobs have.
 fn with_options<'a>(
     alloc: Global,
-    command: Command<'a>,
+    mut command: Command<'a>,
     options: &[NumberOption],
 ) -> Result<Command<'a>, AllocError> {
-    let mut command = command;
     for option in options {
         command = command.arg(number_option(alloc, option))?;
     }
-    with_flags(alloc, command)
-}
-
-/// The command with the options that have no number, which both jobs have.
-fn with_flags<'a>(alloc: Global, command: Command<'a>) -> Result<Command<'a>, AllocError> {
     let in_place = flag(alloc, UPDATE_IN_PLACE, UPDATE_IN_PLACE_HELP);
     let command = command.arg(in_place.alias(COUNTERS_IN_PLACE)?)?;
     let command = command.arg(evict(alloc))?;

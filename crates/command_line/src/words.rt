@@ -94,16 +94,6 @@ fn eviction(matches: &ArgMatches<'_>) -> Eviction {
     }
 }
 
-/// For how many microseconds a thread looks for work before it sleeps.
-fn spin(alloc: Global, matches: &ArgMatches<'_>) -> Result<Option<u32>, WordsFault>
-    ensures { IfOk result (λ found. IfSome found (λ micros. micros ≤ 1000000)) }
-{
-    match number_or_none(alloc, matches, &SPIN)? {
-        Some(micros) => Ok(Some(micros as u32)),
-        None => Ok(None),
-    }
-}
-
 fn replay_options(alloc: Global, matches: &ArgMatches<'_>) -> Result<Options, WordsFault>
     ensures { IfOk result IsReplayInRange }
 {
@@ -129,7 +119,7 @@ fn serve_options(alloc: Global, matches: &ArgMatches<'_>) -> Result<ServeOptions
         workers: number(alloc, matches, &WORKERS)?,
         sessions: number_or_none(alloc, matches, &SESSIONS)?,
         idle: number_or_none(alloc, matches, &IDLE)?,
-        spin: spin(alloc, matches)?,
+        spin: number_or_none(alloc, matches, &SPIN)?.map(|micros| micros as u32),
         segment_size: number(alloc, matches, &SEGMENT_SIZE)?,
         segments: number(alloc, matches, &SEGMENTS)?,
         dialect: dialect(matches),

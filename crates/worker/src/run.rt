@@ -1,7 +1,7 @@
 //! The loop of a worker.
 
-ghost use Rattle.std.specs.Prelude.{◌≡◌, ◌<◌, length, true, false, None, is_some};
-ghost use Rattle.worker.specs.Workers.{end_of, once_flushed, Continues, IsDrained};
+ghost use Rattle.std.specs.Prelude.{◌≡◌, ◌<◌, true, None, is_some};
+ghost use Rattle.worker.specs.Workers.{end_of, Continues, IsDrained};
 ghost use Rattle.worker_port.specs.Ports.{PortTrace};
 ghost use Rattle.worker_port.specs.Giving.{IsTraceOf};
 ghost use Rattle.worker.specs.Reports.{IsReported, HasSaidBye};
@@ -11,9 +11,9 @@ use crate::gate::Gate;
 use crate::pauses::Pauses;
 use crate::session_list::SessionList;
 use crate::worker::{AskAgain, Worker, WorkerState};
-use exchange::{StorageSignals, Waits, WorkerBatch, WorkerEnd};
+use exchange::{StorageSignals, Waits, WorkerEnd};
 use proto::{Dialect, WINDOW};
-use session_book::Task;
+use session_book::{EndCause, Task};
 use std::alloc::Global;
 use std::sync::Wait;
 use std::time::Clock;
@@ -49,27 +49,6 @@ pub struct WorkerReport<P> {
     pub strangers: u64,
 }
 
-/// Takes one event. The time for which the port may wait isn't busy, and before it the worker sets its gauges. True if there
-/// was one.
-fn take_event<P: Port, R: Clock>(
-    rt: &R,
-    worker: &mut Worker<P>,
-    pauses: &mut Pauses,
-    storage: &StorageSignals,
-) -> bool
-    ensures { Continues P.told P.leads_to worker.old worker.new }
-{
-    let may_wait = worker.may_wait();
-    if !may_wait {
-        return worker.take_event(may_wait);
-    }
-    worker.state.set_gauges(storage);
-    pauses.waits.begin(rt);
-    let came = worker.take_event(may_wait);
-    pauses.waits.end(rt);
-    came
-}
-
 /// Takes a few events. After each it reads the requests that the event brought, so a session's requests are read before the
 /// event that its client has gone. If a session has requests that can't be read now, few events are taken, and storage
 /// doesn't wait for them. True if something was done.
@@ -84,7 +63,17 @@ fn take_events<P: Port, G: Gate, R: Clock>(
 {
     let mut moved = false;
     for taken in 1..=EVENTS_A_TURN {
-        if !take_event(rt, worker, pauses, storage) {
+        // The time for which the port may wait isn't busy, and before it the worker sets its gauges.
+        let may_wait = worker.may_wait();
+        if may_wait {
+            worker.state.set_gauges(storage);
+            pauses.waits.begin(rt);
+        }
+        let came = worker.take_event(may_wait);
+        if may_wait {
+            pauses.waits.end(rt);
+        }
+        if !came {
             break;
         }
         moved = true;
@@ -183,15 +172,17 @@ fn give_output<P: Port>(worker: &mut Worker<P>, task: Task, most: usize) -> bool
     moved
 }
 
-/// Shuts the sessions that have the most output, until that of all is within its limit. True if something was done.
+/// Shuts the sessions that have the most output, as long as so much waits over all sessions that there is no room for it. True if
+/// something was done.
 fn limit_output<P: Port>(worker: &mut Worker<P>) -> bool
     ensures { Continues P.told P.leads_to worker.old worker.new }
 {
     let mut moved = false;
     for _ in 0..WINDOW {
-        if !worker.shut_fullest() {
+        let Some(session) = worker.state.book.fullest() else {
             break;
-        }
+        };
+        worker.state.shut(session, EndCause::NoMemory);
         moved = true;
     }
     moved
@@ -293,7 +284,7 @@ fn count_turn<P: Port>(turns: &mut u32, worker: &Worker<P>, storage: &StorageSig
     }
 }
 
-/// Says bye, and leaves the report.
+/// Says bye, for which storage is unparked, and leaves the report.
 fn leave<P: Port>(worker: Worker<P>, storage: &StorageSignals) -> WorkerReport<P>
     requires { IsDrained worker }
     ensures port { result.port ≡ worker.port }
@@ -318,23 +309,15 @@ fn leave<P: Port>(worker: Worker<P>, storage: &StorageSignals) -> WorkerReport<P
     } = state;
     drop(book);
     drop(request);
+    // All that was put has been flushed, as it came back.
+    let mut worker_end = batch.into_end();
+    worker_end.bye();
+    storage.parking().unpark();
     WorkerReport {
         port,
-        worker_end: say_bye(batch, storage),
+        worker_end,
         sessions,
         unopened,
         strangers,
     }
-}
-
-/// The end once it has said bye: all that was put has been flushed, as it came back. Storage is unparked for it.
-fn say_bye(batch: WorkerBatch, storage: &StorageSignals) -> WorkerEnd
-    requires running { (once_flushed batch).said_bye ≡ false }
-    requires quiet { length (once_flushed batch).back ≡ length (once_flushed batch).sent }
-    ensures { result ≡ record (once_flushed batch) { said_bye = true } }
-{
-    let mut worker_end = batch.into_end();
-    worker_end.bye();
-    storage.parking().unpark();
-    worker_end
 }

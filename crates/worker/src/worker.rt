@@ -1,7 +1,6 @@
 //! A worker that serves its port, by the steps that it takes.
 
-ghost use Rattle.std.specs.Prelude.{◌≡◌, ◌⊎◌, ◌+◌, ◌<◌, Some, None, IsSome, [], ◌∷◌, ◌++◌, length, true, false};
-ghost use Rattle.std.specs.Prelude.{MatchOption, MatchResult};
+ghost use Rattle.std.specs.Prelude.{◌≡◌, ◌⊎◌, ◌<◌, Some, None, IsSome, [], true, false, MatchOption};
 ghost use Rattle.std.specs.Option.{option_and_then};
 ghost use Rattle.session_book.specs.Session.{finished_by, HasReadAll};
 ghost use Rattle.session_book.specs.Book.{session_of};
@@ -39,15 +38,6 @@ pub(crate) enum AskAgain {
     Later,
 }
 
-/// What an offer of output came to.
-#[derive(Clone, Copy)]
-pub(crate) struct Offered {
-    /// Something was done: bytes were accepted, or the session was closed.
-    pub(crate) moved: bool,
-    /// How the session has finished, if it has.
-    pub(crate) finished: Option<EndCause>,
-}
-
 /// What a worker holds. While it takes a step, these parts needn't agree.
 #[derive(Drop)]
 pub(crate) struct WorkerState<P> {
@@ -75,7 +65,7 @@ impl<P: Port> WorkerState<P> {
         self.sessions.close(session, cause);
     }
 
-    fn shut(&mut self, session: u64, cause: EndCause)
+    pub(crate) fn shut(&mut self, session: u64, cause: EndCause)
         requires { (trace : PortTrace) → P.told self.old.port ≡ Some trace
             → is_open session trace.events ≡ true }
         ensures shuts { Shuts P.told self.old self.new session cause }
@@ -149,26 +139,6 @@ impl<P: Port> WorkerState<P> {
         if let Some(key) = posted.request.first_key() {
             storage.leave_hint(self.batch.worker(), posted.number - 1, key);
         }
-    }
-
-    /// Puts a request into its slot, if the gate lets it and there is room. Else it comes back.
-    fn put<G: Gate>(
-        &mut self,
-        posted: Posted,
-        gate: &G,
-        storage: &StorageSignals,
-    ) -> Result<(), Posted>
-        requires { posted.number ≡ length self.old.batch.end.sent + length self.old.batch.put + 1 }
-        ensures leads { P.leads_to self.old.port self.new.port }
-        ensures puts { MatchResult result
-            (λ _. self.new ≡ record self.old { batch = record self.old.batch { put = self.old.batch.put ++ posted ∷ [] } })
-            (λ back. (back ≡ posted) × (self.new ≡ self.old)) }
-    {
-        if !gate.may_post(self.batch.worker(), posted.number) {
-            return Err(posted);
-        }
-        self.prepare(&posted, storage);
-        self.batch.put(posted)
     }
 }
 
@@ -333,7 +303,12 @@ impl<P: Port> Worker<P> {
         let Some(held) = self.state.request.take() else {
             return false;
         };
-        match self.state.put(held, gate, storage) {
+        if !gate.may_post(self.state.batch.worker(), held.number) {
+            self.state.request = Some(held);
+            return false;
+        }
+        self.state.prepare(&held, storage);
+        match self.state.batch.put(held) {
             Ok(()) => true,
             Err(held) => {
                 self.state.request = Some(held);
@@ -370,58 +345,30 @@ impl<P: Port> Worker<P> {
         true
     }
 
-    /// Offers the session's output in one call, if it is worth it.
-    fn offer(&mut self, session: u64) -> Offered
-        ensures goes_on { Continues P.told P.leads_to self.old self.new }
-        ensures finished { result.finished ≡ option_and_then finished_by (session_of self.new.book session) }
-        ensures read { HasReadAll (session_of self.new.book session) result.finished }
-    {
-        let offer = self.state.book.offer(session);
-        if offer.out.is_empty() {
-            return Offered {
-                moved: false,
-                finished: offer.finished,
-            };
-        }
-        let history = self.state.batch.told();
-        match self.state.port.give(session, offer.out, history) {
-            Ok(accepted) => Offered {
-                moved: accepted > 0,
-                finished: self.state.book.gave(session, accepted),
-            },
-            Err(Gone) => {
-                self.state.close(session, EndCause::Gone);
-                Offered {
-                    moved: true,
-                    finished: None,
-                }
-            }
-        }
-    }
-
-    /// Offers the output of the next session that is to be taken up for the task, and shuts it if it has finished. True if
-    /// something was done.
+    /// Offers in one call the output of the next session that is to be taken up for the task, if it is worth it, and shuts the
+    /// session if it has finished. True if something was done.
     pub(crate) fn give_next(&mut self, task: Task) -> bool
         ensures { Continues P.told P.leads_to self.old self.new }
     {
         let Some(session) = self.state.book.next_ready(task) else {
             return false;
         };
-        let offered = self.offer(session);
-        let shut = self.finish(session, offered.finished);
-        offered.moved || shut
-    }
-
-    /// Shuts the session with the most output, if so much waits over all sessions that there is no room for it. True if there
-    /// was one.
-    pub(crate) fn shut_fullest(&mut self) -> bool
-        ensures { Continues P.told P.leads_to self.old self.new }
-    {
-        let Some(session) = self.state.book.fullest() else {
-            return false;
-        };
-        self.state.shut(session, EndCause::NoMemory);
-        true
+        let offer = self.state.book.offer(session);
+        if offer.out.is_empty() {
+            let finished = offer.finished;
+            return self.finish(session, finished);
+        }
+        let history = self.state.batch.told();
+        match self.state.port.give(session, offer.out, history) {
+            Ok(accepted) => {
+                let finished = self.state.book.gave(session, accepted);
+                self.finish(session, finished) || accepted > 0
+            }
+            Err(Gone) => {
+                self.state.close(session, EndCause::Gone);
+                true
+            }
+        }
     }
 
     /// Shuts a session that has ended itself, or whose input has, once all was answered and given. True if something was done.

@@ -21,16 +21,6 @@ use std::alloc::{AllocError, Global};
 use std::io::{Read, Write};
 use worker::OpenGate;
 
-/// The events of a script's bytes, by worker.
-fn events_in(alloc: Global, options: &Options, script: &[u8]) -> Result<Vec<WorkerScript>, Fault>
-    ensures { IfOk result (λ scripts. AreEventsOf options.entry.now.workers script.now scripts.items) }
-{
-    match read_script(alloc, script, options.workers as usize) {
-        Ok(scripts) => Ok(scripts),
-        Err(fault) => Err(Fault::Script(fault)),
-    }
-}
-
 /// The events of the script, by worker, and the bytes that its reads gave.
 fn read_events<R: Read + Drop>(
     alloc: Global,
@@ -41,7 +31,8 @@ fn read_events<R: Read + Drop>(
     ensures all { IfOk result (λ r. IfSome (R.remaining script) (λ text. r.1.items ≡ text)) }
 {
     let (bytes, text) = script_bytes(alloc, options, script)?;
-    let scripts = events_in(alloc, options, bytes.as_slice())?;
+    let workers = options.workers as usize;
+    let scripts = read_script(alloc, bytes.as_slice(), workers).map_err(Fault::Script)?;
     Ok((scripts, text))
 }
 

@@ -1,7 +1,11 @@
 -- What is left of a map that shows the hits of keys.
-use Rattle.std.specs.Prelude.{◌≡◌, Bool, List, ℕ}
+use Rattle.std.specs.Prelude.{◌≡◌, ◌<◌, Bool, false, List, ℕ, length, Result, Err, IfOk, OnOk, OnErr, IsTrue}
+use Rattle.proto.specs.declared.dialect.Dialect.{Dialect}
 use Rattle.proto.specs.Commands.{hits_of}
 use Rattle.proto.specs.Hits.{Writing}
+use Rattle.engine.specs.declared.hits.Unshown.{Unshown}
+use Rattle.engine.specs.declared.hits.Unshown.TheVariants.{TooLong}
+use Rattle.engine.specs.AnswerSizes.{shown_size, is_too_long}
 use Rattle.engine.specs.Members.{MapOf}
 use Rattle.engine.specs.Keeping.{StaysKept}
 use Rattle.engine.specs.Counting.{CountsEach, keys_of}
@@ -17,3 +21,14 @@ pub record HasShown {M P : Type 0} (m : MapOf M P) (with_cas : Bool) (old : M) (
   pub sizes : m.sizes new ≡ m.sizes old
   pub moment : m.moment new ≡ m.moment old
   pub kept : StaysKept m.keeps old new
+
+-- The hits of the keys were shown, which an answer of the dialect may; or none, and the map stays: they take too many bytes, or
+-- memory was refused, and only if there are some.
+pub record ShowsOrRefuses {M P : Type 0} (m : MapOf M P) (with_cas : Bool) (dialect : Dialect) (old : M) (keys : List (List ℕ))
+    (new : M) (result : Result Writing Unshown) : Type 0 where
+  pub ok : IfOk result (λ written. HasShown m with_cas old keys new written)
+  pub too_long : result ≡ Err TooLong
+      → IsTrue (is_too_long dialect (shown_size (hits_of with_cas (m.entries old) keys)))
+  pub limit : OnOk result (is_too_long dialect (shown_size (hits_of with_cas (m.entries old) keys)) ≡ false)
+  pub err : OnErr result (0 < length (hits_of with_cas (m.entries old) keys))
+  pub refused : OnErr result (new ≡ old)

@@ -30,7 +30,7 @@ pub struct Engine<M> {
     pub(crate) in_place: bool,
     /// Whose limit answers keep.
     pub(crate) dialect: Dialect,
-    /// Where a value is put together that is written anew.
+    /// Where a value is put together, or a number written out, before it is stored.
     pub(crate) scratch: Scratch,
 }
 
@@ -48,65 +48,19 @@ fn is_joined_too_large(limit: u32, key: &[u8], first: usize, second: usize) -> b
         || item_size(key.len(), first + second) > limit
 }
 
-/// The entry with this value and this deadline in place of its own.
-fn dated<'v>(entry: EntryRef, value: &'v [u8], deadline: Option<u64>) -> EntryRef<'v>
-    ensures value { result.value.now ≡ value.now }
-    ensures flags { result.flags ≡ entry.entry.flags }
-    ensures deadline { result.deadline ≡ deadline }
-    ensures cas { result.cas ≡ entry.entry.cas }
-{
-    EntryRef {
-        value,
-        flags: entry.flags,
-        deadline,
-        cas: entry.cas,
-    }
-}
-
 impl<M: LiveMap> Engine<M> {
-    ghost use Rattle.engine.specs.Engines.{cache_in, Leaves, LeavesExecuted, change_way, as_written, as_changed};
-
-    /// Stores an entry with the next cas number. NoCas if the greatest one was given out, NoMemory if memory is
-    /// refused.
-    fn write(
-        &mut self,
-        key: &[u8],
-        value: &[u8],
-        flags: u32,
-        deadline: Option<u64>,
-        reply: Reply,
-    ) -> Reply
-        requires waits { has_arrived deadline (M.moment self.old.map) ≡ false }
-        requires fits { MayBeWritten (M.sizes self.old.map) (M.entries self.old.map) key.now value.now }
-        ensures { Leaves M.LiveMap as_written self.old self.new (write (cache_in M.entries self.old) key.now
-            (λ cas. record { value = value.now; flags = flags; deadline = deadline; cas = cas }) reply) result }
-    {
-        if self.last_cas == u64::MAX {
-            return Reply::NoCas;
-        }
-        let cas = self.last_cas + 1;
-        let entry = EntryRef {
-            value,
-            flags,
-            deadline,
-            cas,
-        };
-        if self.map.write(key, entry).is_err() {
-            return Reply::NoMemory;
-        }
-        self.last_cas = cas;
-        reply
-    }
+    ghost use Rattle.engine.specs.Engines.{cache_in, Leaves, LeavesExecuted, change_way, as_written};
 
     /// Stores what the scratch has as the value of the key's entry, which stands at the place and has these flags and this
-    /// deadline, with the next cas number: where it stands, if entries are changed in place and it fits there. It gives NoCas and
-    /// NoMemory as `write` does.
+    /// deadline, with the next cas number: where it stands, if entries are changed in place and it fits there. It gives this
+    /// reply, NoCas if the greatest number was given out, or NoMemory if memory is refused.
     fn store_scratch(
         &mut self,
         key: &[u8],
         place: M::Place,
         flags: u32,
         deadline: Option<u64>,
+        reply: Reply,
     ) -> Reply
         requires stands { M.stands self.old.map key.now place }
         requires changed { IsChanged (map.get (M.entries self.old.map) key.now)
@@ -115,8 +69,7 @@ impl<M: LiveMap> Engine<M> {
         requires fits { MayBeWritten (M.sizes self.old.map) (M.entries self.old.map) key.now self.old.scratch }
         ensures { Leaves M.LiveMap (change_way self.old.in_place) self.old self.new
             (write (cache_in M.entries self.old) key.now
-            (λ cas. record { value = self.old.scratch; flags = flags; deadline = deadline; cas = cas })
-            Reply.Stored) result }
+            (λ cas. record { value = self.old.scratch; flags = flags; deadline = deadline; cas = cas }) reply) result }
     {
         let Some(cas) = self.last_cas.checked_add(1) else {
             return Reply::NoCas;
@@ -135,51 +88,14 @@ impl<M: LiveMap> Engine<M> {
         match stored {
             Ok(()) => {
                 self.last_cas = cas;
-                Reply::Stored
+                reply
             }
             Err(_) => Reply::NoMemory,
         }
     }
 
-    /// Changes the entry of the key, which stands at the place and has these flags and this deadline, to this number
-    /// with the next cas number. It gives NoCas and NoMemory as `write` does.
-    fn rewrite(
-        &mut self,
-        key: &[u8],
-        place: M::Place,
-        value: &[u8],
-        flags: u32,
-        deadline: Option<u64>,
-        number: u64,
-    ) -> Reply
-        requires stands { M.stands self.old.map key.now place }
-        requires changed { IsChanged (map.get (M.entries self.old.map) key.now)
-            (record { value = value.now; flags = flags; deadline = deadline; cas = 0 }) }
-        requires waits { has_arrived deadline (M.moment self.old.map) ≡ false }
-        requires fits { MayBeWritten (M.sizes self.old.map) (M.entries self.old.map) key.now value.now }
-        ensures { Leaves M.LiveMap as_changed self.old self.new (write (cache_in M.entries self.old) key.now
-            (λ cas. record { value = value.now; flags = flags; deadline = deadline; cas = cas })
-            (Reply.Number number)) result }
-    {
-        let Some(cas) = self.last_cas.checked_add(1) else {
-            return Reply::NoCas;
-        };
-        let entry = EntryRef {
-            value,
-            flags,
-            deadline,
-            cas,
-        };
-        match self.map.rewrite(key, place, entry) {
-            Ok(()) => {
-                self.last_cas = cas;
-                Reply::Number(number)
-            }
-            Err(_) => Reply::NoMemory,
-        }
-    }
-
-    /// Stores the entry of a put, or takes its key out if its deadline has come already.
+    /// Stores the entry of a put with the next cas number, or takes its key out if its deadline has come already. It gives NoCas
+    /// and NoMemory as `store_scratch` does.
     fn put(&mut self, item: &Put) -> Reply
         requires in_range { M.moment self.old.map ≤ max_moment }
         requires small { is_too_large (item_limit (M.sizes self.old.map)) item.now ≡ false }
@@ -191,17 +107,25 @@ impl<M: LiveMap> Engine<M> {
             self.map.remove(item.key.as_slice());
             return Reply::Stored;
         }
-        self.write(
-            item.key.as_slice(),
-            item.value.as_slice(),
-            item.flags,
+        if self.last_cas == u64::MAX {
+            return Reply::NoCas;
+        }
+        let cas = self.last_cas + 1;
+        let entry = EntryRef {
+            value: item.value.as_slice(),
+            flags: item.flags,
             deadline,
-            Reply::Stored,
-        )
+            cas,
+        };
+        if self.map.write(item.key.as_slice(), entry).is_err() {
+            return Reply::NoMemory;
+        }
+        self.last_cas = cas;
+        Reply::Stored
     }
 
     /// Joins the value with that of the entry of the key, behind it or before it, with the next cas number. It gives NotStored
-    /// if the key has no entry, TooLarge, and NoCas and NoMemory as `write` does.
+    /// if the key has no entry, TooLarge, and NoCas and NoMemory as `store_scratch` does.
     fn join(&mut self, item: &Put, behind: bool) -> Reply
         ensures { Leaves M.LiveMap (change_way self.old.in_place) self.old self.new
             (join (joined_by behind item.now.value) (map.get (M.entries self.old.map) item.now.key)
@@ -218,11 +142,11 @@ impl<M: LiveMap> Engine<M> {
         }
         let (flags, deadline) = (here.flags, here.deadline);
         self.scratch.put(here.value, more, behind);
-        self.store_scratch(key, place, flags, deadline)
+        self.store_scratch(key, place, flags, deadline, Reply::Stored)
     }
 
     /// Gives the entry of the key another deadline, or takes it out if that has come already. NotFound if the key has no entry,
-    /// and NoMemory as `write` gives it.
+    /// and NoMemory if memory is refused.
     fn touch(&mut self, asked: &Touch) -> Reply
         requires { M.moment self.old.map ≤ max_moment }
         ensures { LeavesExecuted M.LiveMap self.old (Request.Touch asked.now) result self.new }
@@ -241,7 +165,12 @@ impl<M: LiveMap> Engine<M> {
             return Reply::Touched;
         }
         self.scratch.put(entry.value, b"", true);
-        let dated = dated(entry, self.scratch.as_slice(), deadline);
+        let dated = EntryRef {
+            value: self.scratch.as_slice(),
+            flags: entry.flags,
+            deadline,
+            cas: entry.cas,
+        };
         match self.map.write(key, dated) {
             Ok(()) => Reply::Touched,
             Err(_) => Reply::NoMemory,
@@ -270,15 +199,12 @@ impl<M: LiveMap> Engine<M> {
         let Some(number) = number_of(entry.value) else {
             return Reply::NotNumber;
         };
-        let flags = entry.flags;
-        let deadline = entry.deadline;
+        let (flags, deadline) = (entry.flags, entry.deadline);
         let number = by.applied_to(number);
         let mut buffer = Buffer::new();
         let value = buffer.format(number).as_bytes();
-        if self.in_place {
-            return self.rewrite(key, place, value, flags, deadline, number);
-        }
-        self.write(key, value, flags, deadline, Reply::Number(number))
+        self.scratch.put(value, b"", true);
+        self.store_scratch(key, place, flags, deadline, Reply::Number(number))
     }
 
     fn flush(&mut self, delay: u64) -> Reply
@@ -317,13 +243,8 @@ impl<M: LiveMap> Engine<M> {
     fn is_too_large(&self, item: &Put) -> bool
         ensures { result ≡ is_too_large (item_limit (M.sizes self.now.map)) item.now }
     {
-        let limit = self.map.item_limit();
-        let key_length = item.key.as_slice().len();
-        let value_length = item.value.as_slice().len();
-        key_length == 0
-            || key_length > MAX_KEY
-            || value_length > limit as usize
-            || item_size(key_length, value_length) > limit
+        let second = item.value.as_slice().len();
+        is_joined_too_large(self.map.item_limit(), item.key.as_slice(), 0, second)
     }
 
     /// Shows the entries at the keys, in the buffer that the keys were lent if that is large enough, and counts a read
@@ -357,27 +278,16 @@ impl<M: LiveMap> Engine<M> {
         self.put(item)
     }
 
-    fn add(&mut self, item: &Put) -> Reply
+    /// Stores the entry of a put where its key has an entry, or where it has none. NotStored if it is the other way round.
+    fn put_where(&mut self, item: &Put, there: bool) -> Reply
         requires { M.moment self.old.map ≤ max_moment }
-        ensures { LeavesExecuted M.LiveMap self.old (Request.Add item.now) result self.new }
+        ensures add { there ≡ false → LeavesExecuted M.LiveMap self.old (Request.Add item.now) result self.new }
+        ensures replace { there ≡ true → LeavesExecuted M.LiveMap self.old (Request.Replace item.now) result self.new }
     {
         if self.is_too_large(item) {
             return Reply::TooLarge;
         }
-        if self.map.contains_key(item.key.as_slice()) {
-            return Reply::NotStored;
-        }
-        self.put(item)
-    }
-
-    fn replace(&mut self, item: &Put) -> Reply
-        requires { M.moment self.old.map ≤ max_moment }
-        ensures { LeavesExecuted M.LiveMap self.old (Request.Replace item.now) result self.new }
-    {
-        if self.is_too_large(item) {
-            return Reply::TooLarge;
-        }
-        if !self.map.contains_key(item.key.as_slice()) {
+        if self.map.contains_key(item.key.as_slice()) != there {
             return Reply::NotStored;
         }
         self.put(item)
@@ -410,8 +320,8 @@ impl<M: LiveMap> Engine<M> {
         match request {
             Request::Get { keys, with_cas } => self.get(keys, *with_cas),
             Request::Set(item) => self.set(item),
-            Request::Add(item) => self.add(item),
-            Request::Replace(item) => self.replace(item),
+            Request::Add(item) => self.put_where(item, false),
+            Request::Replace(item) => self.put_where(item, true),
             Request::Cas(item, unique) => self.cas(item, *unique),
             Request::Append(item) => self.join(item, true),
             Request::Prepend(item) => self.join(item, false),

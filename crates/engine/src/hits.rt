@@ -1,14 +1,14 @@
 //! What a `get` shows.
 
 ghost use Rattle.std.specs.Prelude.{◌≡◌, ◌+◌, ◌<◌, ◌≤◌, ◌^◌, ◌∷◌, [], length, decimal, sum_by, nat_lt, if◌then◌else◌};
-ghost use Rattle.std.specs.Prelude.{Some, None, Err, IfOk, IfSome, IsTrue, OnOk, OnErr, MatchOption, false, ◌++◌};
+ghost use Rattle.std.specs.Prelude.{Some, None, IfOk, OnOk, OnErr, MatchOption, ◌++◌};
 ghost use Rattle.proto.specs.Commands.{hits_of};
 ghost use Rattle.proto.specs.Hits.{hit_bytes, hit_room};
 ghost use Rattle.proto.specs.SeenHits.{seen_hit};
 ghost use Rattle.engine.specs.declared.hits.Found.{Found};
 ghost use Rattle.engine.specs.Finding.{AreFound, HasFound, keys_found};
 ghost use Rattle.engine.specs.AnswerSizes.{shown_size, is_too_long};
-ghost use Rattle.engine.specs.Showing.{HasShown};
+ghost use Rattle.engine.specs.Showing.{HasShown, ShowsOrRefuses};
 
 use crate::live_map::LiveMap;
 use itoa::Buffer;
@@ -90,21 +90,6 @@ struct Found<'k, P> {
     place: P,
 }
 
-/// A key with the place of its entry.
-fn found_at<'k, P: Copy>(key: &'k [u8], place: P) -> Found<'k, P>
-    ensures key { result.key.now ≡ key.now }
-    ensures place { result.place ≡ place }
-{
-    Found { key, place }
-}
-
-/// The room with that of one more hit; None if it is more than memory can have.
-fn room_with(room: usize, hit: HitRef) -> Option<usize>
-    ensures { IfSome result (λ n. n ≡ room + hit_room (seen_hit hit.entry)) }
-{
-    room.checked_add(hit.room()?)
-}
-
 /// Adds a key that is there, with the place of its entry. With the first one the list takes memory for so many.
 fn add_found<'k, P: Copy>(
     found: &mut Vec<Found<'k, P>>,
@@ -117,7 +102,7 @@ fn add_found<'k, P: Copy>(
 {
     let wanted = if found.is_empty() { count } else { 1 };
     found.reserve(wanted)?;
-    found.push(found_at(key, place))?;
+    found.push(Found { key, place })?;
     Ok(())
 }
 
@@ -140,7 +125,8 @@ fn list_found<'k, M: LiveMap>(
     while let Some(key) = words.next() {
         if let Some((entry, place)) = map.get(key) {
             let hit = hit_with(key, entry.value, entry.flags, entry.cas, with_cas);
-            room = room_with(room, hit).ok_or(NoMemory)?;
+            let more = hit.room().ok_or(NoMemory)?;
+            room = room.checked_add(more).ok_or(NoMemory)?;
             add_found(found, key, place, keys.len())?;
         }
     }
@@ -194,28 +180,6 @@ fn hits_found<M: LiveMap>(
     hits
 }
 
-/// Writes the only hit, for which it takes memory. The writer is new.
-///
-/// # Errors
-///
-/// TooLong if the hit takes more bytes than an answer of the dialect may show; NoMemory if out of memory.
-fn write_only(hits: &mut HitWriter, hit: HitRef, dialect: Dialect) -> Result<(), Unshown>
-    requires new { hits.old ≡ record { hits = []; room = 0 } }
-    requires room { length (hit_bytes (seen_hit hit)) ≤ hit_room (seen_hit hit) }
-    ensures ok { OnOk result (hits.new ≡ record { hits = seen_hit hit.entry ∷ []; room = 0 }) }
-    ensures too_long { result ≡ Err Unshown.TooLong
-        → IsTrue (is_too_long dialect (shown_size (seen_hit hit.entry ∷ []))) }
-    ensures limit { OnOk result (is_too_long dialect (shown_size (seen_hit hit.entry ∷ [])) ≡ false) }
-{
-    let wanted = hit.room().ok_or(Unshown::NoMemory)?;
-    if dialect == Dialect::Lenient && wanted > MAX_ANSWER && left_after(MAX_ANSWER, hit).is_none() {
-        return Err(Unshown::TooLong);
-    }
-    hits.reserve(wanted)?;
-    hits.push(hit);
-    Ok(())
-}
-
 /// Writes the hit of the only key, which is looked up once, and counts its read. The writer is new.
 ///
 /// # Errors
@@ -229,17 +193,19 @@ pub fn hit_of_only<M: LiveMap>(
     mut hits: HitWriter,
 ) -> Result<HitWriter, Unshown>
     requires { hits ≡ record { hits = []; room = 0 } }
-    ensures ok { IfOk result (λ written. HasShown M.LiveMap with_cas map.old (only.now ∷ []) map.new written) }
-    ensures too_long { result ≡ Err Unshown.TooLong
-        → IsTrue (is_too_long dialect (shown_size (hits_of with_cas (M.entries map.old) (only.now ∷ [])))) }
-    ensures limit { OnOk result
-        (is_too_long dialect (shown_size (hits_of with_cas (M.entries map.old) (only.now ∷ []))) ≡ false) }
-    ensures err { OnErr result (0 < length (hits_of with_cas (M.entries map.old) (only.now ∷ []))) }
-    ensures refused { OnErr result (map.new ≡ map.old) }
+    ensures { ShowsOrRefuses M.LiveMap with_cas dialect map.old (only.now ∷ []) map.new result }
 {
     if let Some((entry, place)) = map.get(only) {
         let hit = hit_with(only, entry.value, entry.flags, entry.cas, with_cas);
-        write_only(&mut hits, hit, dialect)?;
+        let room = hit.room().ok_or(Unshown::NoMemory)?;
+        if dialect == Dialect::Lenient
+            && room > MAX_ANSWER
+            && left_after(MAX_ANSWER, hit).is_none()
+        {
+            return Err(Unshown::TooLong);
+        }
+        hits.reserve(room)?;
+        hits.push(hit);
         map.count_read(only, place);
     }
     Ok(hits)
@@ -266,39 +232,6 @@ fn read_ahead<M: LiveMap>(map: &M, keys: &Keys) {
     map.prefetch(&hashes[..count]);
 }
 
-/// Writes the hits of keys that were found, which take this room, and counts a read of each. The writer is new.
-///
-/// # Errors
-///
-/// TooLong if the hits take more bytes than an answer of the dialect may show; NoMemory if out of memory.
-fn show_found<M: LiveMap>(
-    map: &mut M,
-    found: &[Found<M::Place>],
-    room: usize,
-    with_cas: bool,
-    dialect: Dialect,
-    mut hits: HitWriter,
-) -> Result<HitWriter, Unshown>
-    requires found { AreFound M.LiveMap map.old found.now }
-    requires room { room ≡ sum_by hit_room (hits_of with_cas (M.entries map.old) (keys_found found.now)) }
-    requires enough { shown_size (hits_of with_cas (M.entries map.old) (keys_found found.now)) ≤ room }
-    requires hits { hits ≡ record { hits = []; room = 0 } }
-    ensures ok { IfOk result
-        (λ written. HasShown M.LiveMap with_cas map.old (keys_found found.now) map.new written) }
-    ensures too_long { result ≡ Err Unshown.TooLong
-        → IsTrue (is_too_long dialect (shown_size (hits_of with_cas (M.entries map.old) (keys_found found.now)))) }
-    ensures limit { OnOk result
-        (is_too_long dialect (shown_size (hits_of with_cas (M.entries map.old) (keys_found found.now))) ≡ false) }
-    ensures err { OnErr result (0 < length (hits_of with_cas (M.entries map.old) (keys_found found.now))) }
-    ensures refused { OnErr result (map.new ≡ map.old) }
-{
-    if room > MAX_ANSWER && are_too_long(map, found, with_cas, dialect) {
-        return Err(Unshown::TooLong);
-    }
-    hits.reserve(room)?;
-    Ok(hits_found(map, found, with_cas, hits))
-}
-
 /// Writes the hits of the keys, each of which is looked up once, and counts a read of each. Memory is taken in two
 /// steps: for the list of the keys that are there, and then for all their hits. The writer is new.
 ///
@@ -310,19 +243,18 @@ pub fn hits_of_keys<M: LiveMap>(
     keys: &Keys,
     with_cas: bool,
     dialect: Dialect,
-    hits: HitWriter,
+    mut hits: HitWriter,
 ) -> Result<HitWriter, Unshown>
     requires { hits ≡ record { hits = []; room = 0 } }
-    ensures ok { IfOk result (λ written. HasShown M.LiveMap with_cas map.old keys.now map.new written) }
-    ensures too_long { result ≡ Err Unshown.TooLong
-        → IsTrue (is_too_long dialect (shown_size (hits_of with_cas (M.entries map.old) keys.now))) }
-    ensures limit { OnOk result
-        (is_too_long dialect (shown_size (hits_of with_cas (M.entries map.old) keys.now)) ≡ false) }
-    ensures err { OnErr result (0 < length (hits_of with_cas (M.entries map.old) keys.now)) }
-    ensures refused { OnErr result (map.new ≡ map.old) }
+    ensures { ShowsOrRefuses M.LiveMap with_cas dialect map.old keys.now map.new result }
 {
     read_ahead(map, keys);
     let mut found = Vec::new(keys.allocator());
     let room = list_found(&mut found, map, keys, with_cas)?;
-    show_found(map, found.as_slice(), room, with_cas, dialect, hits)
+    let found = found.as_slice();
+    if room > MAX_ANSWER && are_too_long(map, found, with_cas, dialect) {
+        return Err(Unshown::TooLong);
+    }
+    hits.reserve(room)?;
+    Ok(hits_found(map, found, with_cas, hits))
 }

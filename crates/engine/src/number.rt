@@ -1,19 +1,11 @@
 //! Values that are numbers.
 
-ghost use Rattle.std.specs.Prelude.{◌≡◌, ◌+◌, ◌*◌, ◌<◌, ◌^◌};
-ghost use Rattle.std.specs.Option.{SomeIff};
+ghost use Rattle.std.specs.Prelude.{◌≡◌};
 ghost use Rattle.engine.specs.Number.{number_of};
 ghost use Rattle.engine.specs.Change.{changed_by};
 
 /// The longest value that is read as a number, in bytes.
 pub const MAX_DIGITS: usize = 20;
-
-/// The number with one more digit; None if it is 2^64 or more.
-fn then_digit(n: u64, digit: u8) -> Option<u64>
-    ensures { SomeIff result (n * 10 + digit < 2 ^ 64) (n * 10 + digit) }
-{
-    n.checked_mul(10)?.checked_add(u64::from(digit))
-}
 
 /// The number that the value writes in 1 to 20 digits, also with leading zeros. None if it is 2^64 or more, or the
 /// value is no number.
@@ -28,7 +20,7 @@ pub fn number_of(value: &[u8]) -> Option<u64>
         if !byte.is_ascii_digit() {
             return None;
         }
-        n = then_digit(n, *byte - b'0')?;
+        n = n.checked_mul(10)?.checked_add(u64::from(*byte - b'0'))?;
     }
     Some(n)
 }

@@ -13,8 +13,8 @@ use Rattle.engine.proofs.HitLemmas.{hit_of, hits_there, found_more, hits_found_m
 use Rattle.engine.proofs.hits.list_found.Goals as goal
 
 -- one key more was found
-pub loop-key-preserved-in-Continue-branch-2 : goal.loop-key-preserved-in-Continue-branch-2
-loop-key-preserved-in-Continue-branch-2 g c =
+pub loop-key-preserved-in-Continue-branch-3 : goal.loop-key-preserved-in-Continue-branch-3
+loop-key-preserved-in-Continue-branch-3 g c =
     let m = g.M.LiveMap in
     let inv = c.loop-key.invariant in
     let entries = m.entries c.args.map.now in
@@ -35,9 +35,10 @@ loop-key-preserved-in-Continue-branch-2 g c =
     c.in-Some.ensures ∙ ap (λ (k : List ℕ). k ∷ rest) (sym same) in
     let hits : hits_of c.args.with_cas entries c.loop-key.words ≡ hit ∷ hits_of c.args.with_cas entries rest =
     hits_there c.args.with_cas entries c.loop-key.words rest key e c.in-Some.ensures there in
-    let more : c.in_ok-room.room ≡ c.loop-key.room + hit_room hit =
-    (rw c.in_ok-room.ensures.ok_part at c.room_with.ensures)
-    ∙ ap (λ h. c.loop-key.room + hit_room h) c.hit_with-hit.ensures.hit in
+    let one : c.in_ok-more.more ≡ hit_room hit =
+    (rw c.in_ok-more.ensures.ok_part at c.room.ensures) ∙ ap hit_room c.hit_with-hit.ensures.hit in
+    let sum = rw c.in_ok-room.ensures.ok_part at c.checked_add.ensures in
+    let more : c.in_ok-room.room ≡ c.loop-key.room + hit_room hit = sum.1 ∙ ap (λ n. c.loop-key.room + n) one in
     let sum = sum_by-cons hit_room hit (hits_of c.args.with_cas entries rest) in
     let shown : shown_size (hits_of c.args.with_cas entries c.loop-key.words)
     ≡ length (hit_bytes hit) + shown_size (hits_of c.args.with_cas entries rest) =

@@ -51,15 +51,8 @@ returns-in-Ok g c =
     ap (has_arrived asked) (sym c.last_moment-2.ensures) ∙ sym c.has_arrived.ensures ∙ c.if-has_arrived.false in
     let value : c.as_slice.result.now ≡ c.in-Some.entry.value.now =
     c.as_slice.ensures ∙ c.put.ensures ∙ append-nil c.in-Some.entry.value.now in
-    let made = c.dated-dated.ensures in
-    let w : Entry = entry_of c.dated-dated.result in
-    let same : w ≡ asking e asked =
-    (λ i. record {
-      value = (made.value ∙ value) i;
-      flags = made.flags i;
-      deadline = made.deadline i;
-      cas = made.cas i;
-    }) in
+    let w : Entry = record { value = c.as_slice.result.now; flags = e.flags; deadline = asked; cas = e.cas } in
+    let same : w ≡ asking e asked = (λ i. record { value = value i; flags = e.flags; deadline = asked; cas = e.cas }) in
     let new = record old { map = c.write.new.self; scratch = c.put.new.self } in
     subst (λ (k : List ℕ). Leaves m as_touched old new
     (touch (map.get (m.entries old.map) k) (cache_in m.entries old) (m.moment old.map) k exptime) Touched) c.as_slice-key.ensures

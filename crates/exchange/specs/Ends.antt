@@ -1,6 +1,6 @@
 -- What contracts see of the ends of an exchange, and what a call of each end tells.
 use Rattle.std.specs.Prelude.{◌≡◌, ◌≢◌, ◌⊎◌, ℕ, ◌+◌, ◌-◌, ◌<◌, ◌≤◌, ◌^◌, List, [], ◌∷◌, ◌++◌, length, map, take, All, Option, Some, None, MatchOption, Bool}
-use Rattle.std.specs.Prelude.{true, false, ◌==◌, if◌then◌else◌}
+use Rattle.std.specs.Prelude.{true, false, ◌==◌, if◌then◌else◌, IfSome}
 use Rattle.std.specs.List.{filter, range_with_len}
 use mathlib.Core.Option.{some}
 use lib.ListN.{get_elem?}
@@ -13,7 +13,7 @@ use Rattle.proto.specs.History.{LegalBy, worker_share, asked_posted}
 use Rattle.exchange.specs.declared.messages.Taken.{Taken}
 use Rattle.exchange.specs.declared.messages.Taken.TheVariants.{Asked, Bye}
 use Rattle.proto.specs.Counts.{times}
-use Rattle.exchange.specs.Beginnings.{StartsWith}
+use Rattle.exchange.specs.Beginnings.{StartsWith, posted_of}
 
 -- which exchange it is
 abbrev pub ExchangeId : Type 0
@@ -168,6 +168,11 @@ TakesSeen old result new = WasTold old × MatchOption result
     ((old.back ≡ worker_share old.seen old.worker) × (new ≡ old))
     (λ answered. (get_elem? (worker_share old.seen old.worker) (length old.back) ≡ some answered)
     × (new ≡ record old { back = old.back ++ answered ∷ [] }))
+
+-- an answer that is taken is the worker's, and to the next of the requests that it sent
+abbrev pub IsToNextSent : WorkerView → Option Answered → Type 0
+IsToNextSent view result = IfSome result (λ a. (a.worker ≡ view.worker)
+    × (get_elem? view.sent (length view.back) ≡ some (posted_of a)))
 
 -- fewer than WINDOW requests are outstanding or put, the worker hasn't said bye, and it hasn't put its last request
 abbrev pub CanPut : WorkerBatchView → Type 0

@@ -3,7 +3,7 @@ ghost use Rattle.std.specs.Prelude.{◌≡◌, ℕ, suc, ◌+◌, ◌*◌, ◌^�
 ghost use Rattle.atomic_table.specs.Table.{rest};
 ghost use Rattle.proto.specs.declared.history.Answered.{Answered};
 ghost use Rattle.exchange.specs.declared.messages.LaneMessage.{LaneMessage};
-ghost use Rattle.exchange.specs.declared.messages.LaneMessage.TheVariants.{Ask, Bye, Answer};
+ghost use Rattle.exchange.specs.declared.messages.LaneMessage.TheVariants.{Ask, Answer};
 ghost use Rattle.exchange.specs.declared.rule.LaneView.TheVariants.{Worker, Storage};
 ghost use Rattle.exchange.specs.Beginnings.{posted_of};
 ghost use mathlib.Core.Option.{some};
@@ -12,14 +12,13 @@ ghost use Rattle.proto.specs.History.{LegalBy, worker_share};
 ghost use Rattle.exchange.specs.Ends.{settled_count};
 ghost use Rattle.exchange.specs.Lanes.{lane_slot};
 ghost use Rattle.exchange.specs.Steps.{put_on, holding_slot, with_seen_slot_taken, with_bye, with_held_answered};
-ghost use Rattle.exchange.specs.Steps.{bye_settled, looked_at, with_message_held, IsNextOfLane};
+ghost use Rattle.exchange.specs.Steps.{with_message_held, IsNextOfLane};
 ghost use Rattle.exchange.specs.Seats.{worker_at, storage_at, IsLane, SameSeat, MayPost, MayTake, HasSeen};
 ghost use Rattle.exchange.specs.Seats.{HasSeenMessage, StateTakes, HoldsTaken, HoldsSlot, exchanged_to};
 
 use crate::messages::LaneMessage;
 use crate::rule::{
-    Answers, Begins, LaneSeat, LaneTable, LoadsDone, LoadsPosted, OpensSeen, PostsBye, ReturnsSlot,
-    SettlesBye, TakesSeen,
+    Answers, Begins, LaneSeat, LaneTable, LoadsDone, OpensSeen, PostsBye, ReturnsSlot, TakesSeen,
 };
 use proto::{Answered, WINDOW};
 
@@ -129,19 +128,6 @@ pub(crate) fn take_seen_answer(
     answered
 }
 
-/// Loads posted, which names the messages of the lane.
-pub(crate) fn load_posted(lane_table: &LaneTable, seat: &mut LaneSeat, lane: usize) -> u64
-    requires table { (seat.old.table_id ≡ lane_table.now.shared.table_id) × IsLane seat.old.table_id lane
-        × (lane < lane_table.now.shared.key.workers) }
-    requires idle { seat.old.me ≡ (Storage (storage_at seat.old.me), []) }
-    ensures table { SameSeat seat.old seat.new }
-    ensures looked { seat.new.me ≡ (Storage (looked_at (storage_at seat.old.me) lane result), []) }
-{
-    lane_table
-        .shared
-        .load::<LoadsPosted>(seat, LANE * lane + POSTED)
-}
-
 /// Takes the next message, which a look named, out of its slot. It loads done, which no other thread writes.
 pub(crate) fn take_message(
     lane_table: &LaneTable,
@@ -185,17 +171,4 @@ pub(crate) fn put_answer(
     let answer = LaneMessage::Answer(answered);
     drop(lane_table.shared.exchange(seat, slot, Some(answer)));
     lane_table.shared.load::<Answers>(seat, LANE * lane + DONE);
-}
-
-/// Gives the slot of a Bye back, and stores done.
-pub(crate) fn settle_bye(lane_table: &LaneTable, seat: &mut LaneSeat, lane: usize, count: u64)
-    requires table { (seat.old.table_id ≡ lane_table.now.shared.table_id) × IsLane seat.old.table_id lane
-        × (lane < lane_table.now.shared.key.workers) }
-    requires held { HoldsTaken seat.old.me lane count Bye }
-    ensures table { SameSeat seat.old seat.new }
-    ensures byes { seat.new.me ≡ (Storage (bye_settled (storage_at seat.old.me) lane), []) }
-{
-    lane_table
-        .shared
-        .store::<SettlesBye>(seat, LANE * lane + DONE, count + 1);
 }

@@ -1,8 +1,8 @@
 //! The storage thread's end of all lanes, by which the workers are told of several answers at once, or of each.
 
 use crate::messages::{LaneMessage, Taken};
-use crate::rule::{Compares, JoinsWorker, LaneSeat, LaneTable, TellsDone};
-use crate::steps::{DONE, LANE, load_posted, put_answer, settle_bye, take_message};
+use crate::rule::{Compares, JoinsWorker, LaneSeat, LaneTable, LoadsPosted, SettlesBye, TellsDone};
+use crate::steps::{DONE, LANE, POSTED, put_answer, take_message};
 use crate::worker::WorkerEnd;
 use proto::{Answered, AskedClock, Clock, MAX_WORKERS};
 use std::alloc::Global;
@@ -52,7 +52,7 @@ impl Model for StorageBatch {
 
 impl StorageBatch {
     ghost use Rattle.std.specs.Prelude.{◌≡◌, ◌≢◌, ◌⊎◌, ℕ, ◌+◌, ◌-◌, ◌*◌, ◌<◌, ◌≤◌, ◌++◌, ◌∷◌, [], length, None, Some};
-    ghost use Rattle.std.specs.Prelude.{is_some, MatchOption, IsOk};
+    ghost use Rattle.std.specs.Prelude.{MatchOption, IsOk};
     ghost use Rattle.std.specs.Option.{IfNone};
     ghost use Rattle.std.specs.Arc.{arc_value};
     ghost use Rattle.proto.specs.declared.terms.Terms.{Terms};
@@ -98,13 +98,6 @@ impl StorageBatch {
         self.workers
     }
 
-    /// Whether a request was taken that isn't answered yet.
-    pub(crate) fn is_open(&self) -> bool
-        ensures { result ≡ is_some self.now.end.open_request }
-    {
-        self.open_now
-    }
-
     /// Answers the open request. Its worker isn't told of it before the next `flush_answers`, or the next answer to
     /// another worker. It gives the worker that was told of its answers now, if one was. Waits for nobody and takes no memory.
     pub fn answer_later(&mut self, answered: Answered) -> Option<usize>
@@ -115,7 +108,13 @@ impl StorageBatch {
             × (worker ≢ answered.worker) × (self.new.told ≡ self.old.end.history)) }
     {
         let told = self.flush_others(answered.worker);
-        self.add_answer(answered);
+        let lane = answered.worker;
+        self.open_now = false;
+        self.untold = true;
+        self.untold_lane = lane;
+        let count = self.counts[lane];
+        put_answer(&self.lane_table, &mut self.seat, count, answered);
+        self.counts[lane] = count + 1;
         told
     }
 
@@ -133,26 +132,6 @@ impl StorageBatch {
         } else {
             self.flush_answers()
         }
-    }
-
-    /// Answers the open request, if all untold answers are of its lane.
-    fn add_answer(&mut self, answered: Answered)
-        requires open_request { self.old.end.open_request ≡ Some (answered.worker, posted_of answered) }
-        requires legal { LegalBy self.old.end.terms (self.old.end.history ++ answered ∷ []) }
-        requires others { (j : ℕ) → j ≢ answered.worker
-            → worker_share self.old.end.history j ≡ worker_share self.old.told j }
-        ensures answered { self.new.end ≡ with_answer self.old.end answered }
-        ensures told { self.new.told ≡ self.old.told }
-    {
-        // This read is for the proof: with it is known that there are 8 workers at most, and so that the lane is an index.
-        let _workers = self.workers;
-        let lane = answered.worker;
-        let count = self.counts[lane];
-        put_answer(&self.lane_table, &mut self.seat, count, answered);
-        self.counts[lane] = count + 1;
-        self.open_now = false;
-        self.untold = true;
-        self.untold_lane = lane;
     }
 
     /// Tells the workers of all answers, in one step. It gives the worker whose answers they are, if there are any. Waits for
@@ -179,9 +158,11 @@ impl StorageBatch {
         ensures looks { LooksAt self.old.end lane result self.new.end }
         ensures told { self.new.told ≡ self.old.told }
     {
-        let posted = load_posted(&self.lane_table, &mut self.seat, lane);
+        self.named = self
+            .lane_table
+            .shared
+            .load::<LoadsPosted>(&mut self.seat, LANE * lane + POSTED);
         self.looked_lane = lane;
-        self.named = posted;
         self.take_named()
     }
 
@@ -206,7 +187,9 @@ impl StorageBatch {
                 })
             }
             LaneMessage::Bye => {
-                settle_bye(&self.lane_table, &mut self.seat, lane, count);
+                self.lane_table
+                    .shared
+                    .store::<SettlesBye>(&mut self.seat, LANE * lane + DONE, count + 1);
                 self.last = lane;
                 self.counts[lane] = count + 1;
                 Some(Taken::Bye { worker: lane })
@@ -326,7 +309,7 @@ impl StorageEnd {
     pub fn is_open(&self) -> bool
         ensures { result ≡ is_some self.now.open_request }
     {
-        self.batch.is_open()
+        self.batch.open_now
     }
 
     /// Answers the open request. Never hands back, waits for nobody and takes no memory.

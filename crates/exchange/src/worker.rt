@@ -45,17 +45,15 @@ impl Model for WorkerBatch {
 
 impl WorkerBatch {
     ghost use Rattle.std.specs.Prelude.{◌≡◌, ℕ, ◌+◌, ◌*◌, ◌^◌, ◌<◌, ◌≤◌, ◌++◌, ◌∷◌, [], length, true, false};
-    ghost use Rattle.std.specs.Prelude.{MatchResult, IfSome};
+    ghost use Rattle.std.specs.Prelude.{◌↔◌, MatchResult, IfSome};
     ghost use Rattle.std.specs.Arc.{arc_value};
     ghost use Rattle.proto.specs.declared.terms.Terms.{Terms};
-    ghost use mathlib.Core.Option.{some};
-    ghost use lib.ListN.{get_elem?};
     ghost use Rattle.proto.specs.History.{worker_share, asked_posted};
     ghost use Rattle.exchange.specs.declared.rule.LaneView.TheVariants.{Worker};
     ghost use Rattle.exchange.specs.declared.rule.WorkerState.{WorkerState};
-    ghost use Rattle.exchange.specs.Beginnings.{StartsWith, AreOfOne, posted_of};
+    ghost use Rattle.exchange.specs.Beginnings.{StartsWith, AreOfOne};
     ghost use Rattle.exchange.specs.Lanes.{first_worker_state};
-    ghost use Rattle.exchange.specs.Ends.{new_worker_view, max_posts, CanPut, with_put_sent, TakesAnswer, TakesSeen};
+    ghost use Rattle.exchange.specs.Ends.{new_worker_view, CanPut, with_put_sent, TakesAnswer, TakesSeen, IsToNextSent};
     ghost use Rattle.exchange.specs.Seats.{IsLane, worker_view};
 
     pub(crate) fn new(
@@ -104,28 +102,6 @@ impl WorkerBatch {
         self.worker
     }
 
-    pub fn said_bye(&self) -> bool
-        ensures { result ≡ self.now.end.said_bye }
-    {
-        self.said_bye
-    }
-
-    /// How many requests were sent. Those that were put and not flushed aren't counted.
-    pub fn sent(&self) -> u64
-        ensures value { result ≡ length self.now.end.sent }
-        ensures range { result ≤ max_posts }
-    {
-        self.sent
-    }
-
-    /// How many requests were put and not flushed.
-    pub fn unflushed(&self) -> u64
-        ensures value { result ≡ length self.now.put }
-        ensures range { result ≤ WINDOW }
-    {
-        self.put
-    }
-
     /// How many requests were sent or put, and not taken back.
     pub fn outstanding(&self) -> u64
         ensures value { result + length self.now.end.back ≡ length self.now.end.sent + length self.now.put }
@@ -158,18 +134,22 @@ impl WorkerBatch {
         Ok(())
     }
 
-    /// Sends all requests that were put, in their order, in one step. Waits for nobody and takes no memory.
-    pub fn flush(&mut self)
-        ensures { self.new ≡ with_put_sent self.old }
+    /// Sends all requests that were put, in their order, in one step. It tells whether there were any. Waits for nobody and
+    /// takes no memory.
+    pub fn flush(&mut self) -> bool
+        ensures sent { self.new ≡ with_put_sent self.old }
+        ensures none { (result ≡ false) ↔ (self.old.put ≡ []) }
     {
-        if self.put > 0 {
-            let number = self.sent + self.put;
-            self.lane_table
-                .shared
-                .store::<Posts>(&mut self.seat, LANE * self.worker + POSTED, number);
-            self.sent = number;
-            self.put = 0;
+        if self.put == 0 {
+            return false;
         }
+        let number = self.sent + self.put;
+        self.lane_table
+            .shared
+            .store::<Posts>(&mut self.seat, LANE * self.worker + POSTED, number);
+        self.sent = number;
+        self.put = 0;
+        true
     }
 
     /// The next answer of this worker, in the order of its requests. Waits for nobody and takes no
@@ -177,8 +157,7 @@ impl WorkerBatch {
     pub fn take(&mut self) -> Option<Answered>
         ensures taken { TakesAnswer self.old.end result self.new.end }
         ensures put { self.new.put ≡ self.old.put }
-        ensures own { IfSome result (λ a. (a.worker ≡ self.old.end.worker)
-            × (get_elem? self.old.end.sent (length self.old.end.back) ≡ some (posted_of a))) }
+        ensures own { IsToNextSent self.old.end result }
         ensures in_order { IfSome result (λ a. a.number ≡ length self.old.end.back + 1) }
         ensures back { StartsWith (worker_share self.new.end.seen self.old.end.worker) self.new.end.back }
     {
@@ -201,8 +180,7 @@ impl WorkerBatch {
     pub fn take_seen(&mut self) -> Option<Answered>
         ensures taken { TakesSeen self.old.end result self.new.end }
         ensures put { self.new.put ≡ self.old.put }
-        ensures own { IfSome result (λ a. (a.worker ≡ self.old.end.worker)
-            × (get_elem? self.old.end.sent (length self.old.end.back) ≡ some (posted_of a))) }
+        ensures own { IsToNextSent self.old.end result }
         ensures in_order { IfSome result (λ a. a.number ≡ length self.old.end.back + 1) }
     {
         if self.known <= self.back {
@@ -297,11 +275,9 @@ impl Model for WorkerEnd {
 impl WorkerEnd {
     ghost use Rattle.std.specs.Prelude.{◌≡◌, ◌+◌, ◌<◌, ◌≤◌, ◌++◌, ◌∷◌, [], length, true, false, MatchResult, IfSome};
     ghost use Rattle.proto.specs.declared.limits.TheConstants.{WINDOW};
-    ghost use mathlib.Core.Option.{some};
-    ghost use lib.ListN.{get_elem?};
     ghost use Rattle.proto.specs.History.{worker_share};
-    ghost use Rattle.exchange.specs.Beginnings.{StartsWith, posted_of};
-    ghost use Rattle.exchange.specs.Ends.{max_posts, CanPost, TakesAnswer};
+    ghost use Rattle.exchange.specs.Beginnings.{StartsWith};
+    ghost use Rattle.exchange.specs.Ends.{max_posts, CanPost, TakesAnswer, IsToNextSent};
 
     /// The same end, for a worker that tells storage of several requests at once.
     pub fn batched(self) -> WorkerBatch
@@ -321,7 +297,7 @@ impl WorkerEnd {
     pub fn said_bye(&self) -> bool
         ensures { result ≡ self.now.said_bye }
     {
-        self.batch.said_bye()
+        self.batch.said_bye
     }
 
     /// How many requests were sent.
@@ -329,7 +305,7 @@ impl WorkerEnd {
         ensures value { result ≡ length self.now.sent }
         ensures range { result ≤ max_posts }
     {
-        self.batch.sent()
+        self.batch.sent
     }
 
     /// How many requests were sent and not taken back.
@@ -356,8 +332,7 @@ impl WorkerEnd {
     /// memory.
     pub fn take(&mut self) -> Option<Answered>
         ensures taken { TakesAnswer self.old result self.new }
-        ensures own { IfSome result (λ a. (a.worker ≡ self.old.worker)
-            × (get_elem? self.old.sent (length self.old.back) ≡ some (posted_of a))) }
+        ensures own { IsToNextSent self.old result }
         ensures in_order { IfSome result (λ a. a.number ≡ length self.old.back + 1) }
         ensures back { StartsWith (worker_share self.new.seen self.old.worker) self.new.back }
     {

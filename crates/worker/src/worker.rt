@@ -321,8 +321,7 @@ impl<P: Port> Worker<P> {
     pub(crate) fn flush(&mut self, storage: &StorageSignals)
         ensures { Continues P.told P.leads_to self.old self.new }
     {
-        if self.state.batch.unflushed() > 0 {
-            self.state.batch.flush();
+        if self.state.batch.flush() {
             storage.parking().unpark();
         }
     }

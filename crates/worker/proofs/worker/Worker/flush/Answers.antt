@@ -12,11 +12,11 @@ flushed_same batch after h =
 
 pub invariant_of-self : goal.invariant_of-self
 invariant_of-self g c = let w = c.self.inside.state in
-    (flushed_goes_on g.P.Port.told w c.flush.new.self (flushed_same w.batch c.flush.new.self c.flush.ensures)
+    (flushed_goes_on g.P.Port.told w c.flush.new.self (flushed_same w.batch c.flush.new.self c.flush.ensures.sent)
     c.self.invariant).serving
 
-pub returns-then-unflushed-gt0 : goal.returns-then-unflushed-gt0
-returns-then-unflushed-gt0 g c = let w = c.self.inside.state in
+pub returns : goal.returns
+returns g c = let w = c.self.inside.state in
     continues c.self.view_is (g.met.P.Port.leads_reflexive _)
-    (flushed_goes_on g.P.Port.told w c.flush.new.self (flushed_same w.batch c.flush.new.self c.flush.ensures)
+    (flushed_goes_on g.P.Port.told w c.flush.new.self (flushed_same w.batch c.flush.new.self c.flush.ensures.sent)
     c.self.invariant)

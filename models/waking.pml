@@ -168,7 +168,7 @@ inline execute() {                                 /* storage_thread/serving.rt:
   :: waiting && waiting_lane != lane -> flush_answers()
   :: else
   fi;
-  d_step {                                         /* exchange/storage.rt: add_answer */
+  d_step {                                         /* exchange/storage.rt: answer_later */
     counts[lane]++; waiting = true; waiting_lane = lane; untold++;
     executed = (executed + 1) % EIGHTH
   };
@@ -187,7 +187,7 @@ proctype storage() {                               /* storage_thread/serving.rt:
      take_next();
      if
      :: found && is_bye ->
-        d_step { last = lane; counts[lane]++; done[lane] = counts[lane]; left-- };   /* exchange/steps.rt: settle_bye */
+        d_step { last = lane; counts[lane]++; done[lane] = counts[lane]; left-- };   /* exchange/storage.rt: take_named */
         reset(storage_word)
      :: found && !is_bye ->
         last = lane; execute(); reset(storage_word)

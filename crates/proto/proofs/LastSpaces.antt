@@ -3,7 +3,8 @@ use Rattle.std.proofs.Common.{◌≡◌, ℕ, false, true, eqb, ◌&&◌, List, 
 use Rattle.std.specs.List.{list_all}
 use Rattle.std.proofs.lemmas.Bool.{and_right}
 use Rattle.std.proofs.lemmas.List.Folds.{list_all-append}
-use Rattle.proto.specs.declared.dialect.Dialect.TheVariants.{Lenient}
+use Rattle.proto.specs.declared.dialect.Dialect.{Dialect}
+use Rattle.proto.specs.declared.dialect.Dialect.TheVariants.{Strict, Lenient}
 use Rattle.proto.specs.Lines.{line_text}
 use Rattle.proto.specs.Words.{space}
 
@@ -20,7 +21,7 @@ last_space (b ∷ line) = rw (all_more (b ∷ line), last_space line) refl
     all_more line = list_all-append (λ c. eqb c space) line (space ∷ []) ∙ and_true _
 
 -- another byte at the end
-pub last_other : (line : List ℕ) (b : ℕ) → eqb b space ≡ false → line_text Lenient (line ++ b ∷ []) ≡ line ++ b ∷ []
+last_other : (line : List ℕ) (b : ℕ) → eqb b space ≡ false → line_text Lenient (line ++ b ∷ []) ≡ line ++ b ∷ []
 last_other [] b other = rw other refl
 last_other (a ∷ line) b other = rw (not_all (a ∷ line), last_other line b other) refl
   where
@@ -28,3 +29,8 @@ last_other (a ∷ line) b other = rw (not_all (a ∷ line), last_other line b ot
     not_all line =
         list_all-append (λ c. eqb c space) line (b ∷ [])
         ∙ and_right (list_all (λ c. eqb c space) line) (eqb b space && true) (rw other refl)
+
+-- the same in each dialect
+pub any_other : (d : Dialect) (line : List ℕ) (b : ℕ) → eqb b space ≡ false → line_text d (line ++ b ∷ []) ≡ line ++ b ∷ []
+any_other Strict line b other = refl
+any_other Lenient line b other = last_other line b other

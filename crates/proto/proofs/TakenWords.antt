@@ -2,7 +2,8 @@
 use Rattle.std.proofs.Common.{◌≡◌, ℕ, ℤ, ◌^◌, Bool, List, [], ◌∷◌, Option, Some, refl, sym, ap, ◌∙◌}
 use Rattle.proto.specs.Lines.{is_key}
 use Rattle.proto.specs.declared.storage_line.StoreMode.{StoreMode}
-use Rattle.proto.specs.PlainReader.{key_in, taken, number_in, signed_in, TailReader, line_with, storage_in}
+use Rattle.proto.specs.declared.storage_line.StoreMode.TheVariants as mode
+use Rattle.proto.specs.PlainReader.{key_in, taken, number_in, signed_in, quiet_in, TailReader, plain_tail, unique_tail, line_with, storage_in}
 use Rattle.proto.proofs.Options.{bind_some, guarded_some, some_is}
 
 -- a word that was taken, what it is read as, and the words after it
@@ -45,3 +46,19 @@ storage_taken tail words w1 w2 w3 w4 key f e n t key_read flags_read exptime_rea
     (b.words_are ∙ ap (λ (ws : List (List ℕ)). b.word ∷ ws)
     (c.words_are ∙ ap (λ (ws : List (List ℕ)). c.word ∷ ws) d.words_are)) in
     rw (all, parts.0, b.read_is, c.read_is, d.read_is, ← tail_read, key_is) refl
+
+-- what ends a storage line: how it stores, and whether it is quiet
+abbrev ending : StoreMode → Bool → Option (StoreMode × Bool)
+ending m quiet = Some (m, quiet)
+
+-- the words behind its size, without a cas number
+pub plain_taken : (m : StoreMode) (quiet : Bool) (words rest : List (List ℕ)) → Some quiet ≡ quiet_in rest → rest ≡ words
+    → ending m quiet ≡ plain_tail m words
+plain_taken m quiet words rest read same = rw (← same, ← read) refl
+
+-- the same with one
+pub unique_taken : (n : ℕ) (quiet : Bool) (words more rest : List (List ℕ)) → Some (n, more) ≡ taken (number_in (2 ^ 64)) words
+    → Some quiet ≡ quiet_in rest → rest ≡ more → ending (mode.Cas n) quiet ≡ unique_tail words
+unique_taken n quiet words more rest number read same =
+    let first = is_taken (number_in (2 ^ 64)) words more n number in
+    rw (first.words_are, first.read_is, ← same, ← read) refl

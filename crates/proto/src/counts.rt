@@ -3,7 +3,7 @@
 ghost use Rattle.std.specs.Prelude.{◌≡◌};
 ghost use Rattle.proto.specs.Stored.{is_no_memory};
 ghost use Rattle.proto.specs.StatTexts.{more};
-ghost use Rattle.proto.specs.Tallies.{conflicts_in, counted, counted_by, counted_put, hits_in, misses_in};
+ghost use Rattle.proto.specs.Tallies.{counted, counted_by, counted_put, hits_in, misses_in};
 ghost use Rattle.proto.specs.Tallies.{no_counts, tallied};
 
 use crate::message::{Reply, Request};
@@ -42,15 +42,7 @@ fn hits_in(reply: &Reply) -> u64
     match reply {
         Reply::Values(hits) => hits.len() as u64,
         Reply::Stored | Reply::Deleted | Reply::Number(_) | Reply::Touched => 1,
-        Reply::NotStored
-        | Reply::Exists
-        | Reply::NotFound
-        | Reply::Flushed
-        | Reply::TooLarge
-        | Reply::NoMemory
-        | Reply::NotNumber
-        | Reply::NoCas
-        | Reply::Stats(_) => 0,
+        _ => 0,
     }
 }
 
@@ -58,18 +50,7 @@ fn hits_in(reply: &Reply) -> u64
 fn misses_in(reply: &Reply) -> u64
     ensures { result ≡ misses_in reply.now }
 {
-    if matches!(reply, Reply::NotFound) {
-        1
-    } else {
-        0
-    }
-}
-
-/// Whether the reply says that the entry has another cas number, as a number.
-fn conflicts_in(reply: &Reply) -> u64
-    ensures { result ≡ conflicts_in reply.now }
-{
-    if matches!(reply, Reply::Exists) { 1 } else { 0 }
+    u64::from(matches!(reply, Reply::NotFound))
 }
 
 impl Tally {
@@ -145,7 +126,8 @@ impl Counts {
             Request::Cas(..) => {
                 self.count_put(reply);
                 self.cas.count(reply);
-                self.badvals = self.badvals.wrapping_add(conflicts_in(reply));
+                let conflicts = u64::from(matches!(reply, Reply::Exists));
+                self.badvals = self.badvals.wrapping_add(conflicts);
             }
             Request::Delete { .. } => self.deletes.count(reply),
             Request::Incr { .. } => self.incrs.count(reply),

@@ -2,6 +2,7 @@
 
 ghost use Rattle.proto.specs.declared.counts.Counts.{Counts};
 ghost use Rattle.std.specs.Prelude.{IsTrue};
+ghost use Rattle.std.specs.List.{list_all};
 ghost use Rattle.proto.specs.StatTexts.{names_gauge};
 
 use std::alloc::{AllocError, Global};
@@ -73,48 +74,6 @@ pub enum Gauge {
     MergeLongest,
 }
 
-/// In the order in which they are told.
-pub(crate) const GAUGES: [Gauge; 38] = [
-    Gauge::Pid,
-    Gauge::Uptime,
-    Gauge::Time,
-    Gauge::PointerSize,
-    Gauge::Threads,
-    Gauge::CurrConnections,
-    Gauge::TotalConnections,
-    Gauge::RejectedConnections,
-    Gauge::ListenDisabled,
-    Gauge::ConnectionsWaiting,
-    Gauge::ConnectionsLeft,
-    Gauge::IdleKicks,
-    Gauge::BytesRead,
-    Gauge::BytesWritten,
-    Gauge::InputBytes,
-    Gauge::OutputBytes,
-    Gauge::RequestsInFlight,
-    Gauge::StorageBusy,
-    Gauge::UnknownCommands,
-    Gauge::BadLines,
-    Gauge::ClosedMalformed,
-    Gauge::ClosedBinary,
-    Gauge::StoreTooLarge,
-    Gauge::LimitBytes,
-    Gauge::Bytes,
-    Gauge::CurrItems,
-    Gauge::Evictions,
-    Gauge::EvictedByMerge,
-    Gauge::EvictedByClearing,
-    Gauge::Reclaimed,
-    Gauge::SegmentSize,
-    Gauge::Segments,
-    Gauge::SegmentsFree,
-    Gauge::DeadBytes,
-    Gauge::SegmentsEmptied,
-    Gauge::Merges,
-    Gauge::SegmentsCleared,
-    Gauge::MergeLongest,
-];
-
 /// What each worker tells of itself. A `stats` is told their sums.
 pub const WORKER_GAUGES: [Gauge; 13] = [
     Gauge::CurrConnections,
@@ -140,53 +99,51 @@ pub const LISTENER_GAUGES: [Gauge; 4] = [
     Gauge::ConnectionsLeft,
 ];
 
-impl Gauge {
-    /// Under which name it is told.
-    #[tactic(auto, unfolding(crate::specs::StatTexts::names_gauge, crate::specs::StatTexts::count_lines, crate::specs::StatTexts::total_lines, crate::specs::StatTexts::tally_lines))]
-    pub(crate) fn name(self) -> &'static [u8]
-        ensures { (c : Counts) → IsTrue (names_gauge c result.now) }
-    {
-        match self {
-            Gauge::Pid => b"pid",
-            Gauge::Uptime => b"uptime",
-            Gauge::Time => b"time",
-            Gauge::PointerSize => b"pointer_size",
-            Gauge::Threads => b"threads",
-            Gauge::CurrConnections => b"curr_connections",
-            Gauge::TotalConnections => b"total_connections",
-            Gauge::RejectedConnections => b"rejected_connections",
-            Gauge::ListenDisabled => b"listen_disabled_num",
-            Gauge::ConnectionsWaiting => b"connections_waiting",
-            Gauge::ConnectionsLeft => b"connections_left",
-            Gauge::IdleKicks => b"idle_kicks",
-            Gauge::BytesRead => b"bytes_read",
-            Gauge::BytesWritten => b"bytes_written",
-            Gauge::InputBytes => b"input_bytes",
-            Gauge::OutputBytes => b"output_bytes",
-            Gauge::RequestsInFlight => b"requests_in_flight",
-            Gauge::StorageBusy => b"storage_busy_us",
-            Gauge::UnknownCommands => b"unknown_commands",
-            Gauge::BadLines => b"bad_lines",
-            Gauge::ClosedMalformed => b"closed_malformed",
-            Gauge::ClosedBinary => b"closed_binary",
-            Gauge::StoreTooLarge => b"store_too_large",
-            Gauge::LimitBytes => b"limit_maxbytes",
-            Gauge::Bytes => b"bytes",
-            Gauge::CurrItems => b"curr_items",
-            Gauge::Evictions => b"evictions",
-            Gauge::EvictedByMerge => b"evicted_by_merge",
-            Gauge::EvictedByClearing => b"evicted_by_clearing",
-            Gauge::Reclaimed => b"reclaimed",
-            Gauge::SegmentSize => b"segment_size",
-            Gauge::Segments => b"segments",
-            Gauge::SegmentsFree => b"segments_free",
-            Gauge::DeadBytes => b"segment_bytes_dead",
-            Gauge::SegmentsEmptied => b"segments_emptied",
-            Gauge::Merges => b"merges",
-            Gauge::SegmentsCleared => b"segments_cleared",
-            Gauge::MergeLongest => b"merge_us_max",
-        }
-    }
+/// Each gauge with the name under which it is told, in the order in which they are told.
+#[tactic(auto, unfolding(crate::specs::StatTexts::names_gauge, crate::specs::StatTexts::count_lines, crate::specs::StatTexts::total_lines, crate::specs::StatTexts::tally_lines))]
+pub(crate) fn gauge_names() -> [(Gauge, &'static [u8]); 38]
+    ensures { (c : Counts) → IsTrue (list_all (λ row. names_gauge c row.1.now) result) }
+{
+    [
+        (Gauge::Pid, b"pid"),
+        (Gauge::Uptime, b"uptime"),
+        (Gauge::Time, b"time"),
+        (Gauge::PointerSize, b"pointer_size"),
+        (Gauge::Threads, b"threads"),
+        (Gauge::CurrConnections, b"curr_connections"),
+        (Gauge::TotalConnections, b"total_connections"),
+        (Gauge::RejectedConnections, b"rejected_connections"),
+        (Gauge::ListenDisabled, b"listen_disabled_num"),
+        (Gauge::ConnectionsWaiting, b"connections_waiting"),
+        (Gauge::ConnectionsLeft, b"connections_left"),
+        (Gauge::IdleKicks, b"idle_kicks"),
+        (Gauge::BytesRead, b"bytes_read"),
+        (Gauge::BytesWritten, b"bytes_written"),
+        (Gauge::InputBytes, b"input_bytes"),
+        (Gauge::OutputBytes, b"output_bytes"),
+        (Gauge::RequestsInFlight, b"requests_in_flight"),
+        (Gauge::StorageBusy, b"storage_busy_us"),
+        (Gauge::UnknownCommands, b"unknown_commands"),
+        (Gauge::BadLines, b"bad_lines"),
+        (Gauge::ClosedMalformed, b"closed_malformed"),
+        (Gauge::ClosedBinary, b"closed_binary"),
+        (Gauge::StoreTooLarge, b"store_too_large"),
+        (Gauge::LimitBytes, b"limit_maxbytes"),
+        (Gauge::Bytes, b"bytes"),
+        (Gauge::CurrItems, b"curr_items"),
+        (Gauge::Evictions, b"evictions"),
+        (Gauge::EvictedByMerge, b"evicted_by_merge"),
+        (Gauge::EvictedByClearing, b"evicted_by_clearing"),
+        (Gauge::Reclaimed, b"reclaimed"),
+        (Gauge::SegmentSize, b"segment_size"),
+        (Gauge::Segments, b"segments"),
+        (Gauge::SegmentsFree, b"segments_free"),
+        (Gauge::DeadBytes, b"segment_bytes_dead"),
+        (Gauge::SegmentsEmptied, b"segments_emptied"),
+        (Gauge::Merges, b"merges"),
+        (Gauge::SegmentsCleared, b"segments_cleared"),
+        (Gauge::MergeLongest, b"merge_us_max"),
+    ]
 }
 
 /// The names of what a worker tells of itself alone, from its number: how many connections it has, and how many microseconds it
@@ -230,8 +187,9 @@ impl Gauges {
     ///
     /// AllocError if out of memory.
     pub fn new(alloc: Global) -> Result<Gauges, AllocError> {
-        let mut words = Vec::with_capacity(alloc, GAUGES.len())?;
-        for _ in GAUGES {
+        let gauges = gauge_names();
+        let mut words = Vec::with_capacity(alloc, gauges.len())?;
+        for _ in gauges {
             words.push(AtomicU64::new(0))?;
         }
         Ok(Gauges {
@@ -257,13 +215,7 @@ impl Gauges {
     /// Sets these gauges to what they are there.
     pub fn copy(&self, from: &Gauges, gauges: &[Gauge]) {
         for gauge in gauges {
-            let place = *gauge as usize;
-            if let (Some(word), Some(there)) = (self.words.get(place), from.words.get(place)) {
-                let n = there.load(Ordering::Relaxed);
-                if word.load(Ordering::Relaxed) != n {
-                    word.store(n, Ordering::Relaxed);
-                }
-            }
+            self.set(&[(*gauge, from.get(*gauge))]);
         }
     }
 

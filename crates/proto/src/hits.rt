@@ -95,24 +95,15 @@ impl Hits {
         self.text.is_empty()
     }
 
-    /// Appends their text and the line that ends it, or changes nothing.
-    pub(crate) fn show(&self, out: &mut Vec<u8>) -> Result<(), NoMemory>
-        ensures ok { OnOk result
-            (out.new.items ≡ out.old.items ++ flat_map hit_bytes self.now ++ codes "END" ++ line_end) }
-        ensures err { OnErr result (out.new.items ≡ out.old.items) }
-    {
-        show_lines(out, self.text.as_slice())
-    }
-
-    /// The same. If the output is empty and has no more capacity than the text, the two buffers are swapped instead of copied.
-    /// A larger output buffer is kept, since more answers may follow.
+    /// Appends their text and the line that ends it, or changes nothing. If the output is empty and has no more capacity than the
+    /// text, the two buffers are swapped instead of copied. A larger output buffer is kept, since more answers may follow.
     pub(crate) fn give(&mut self, out: &mut Vec<u8>) -> Result<(), NoMemory>
         ensures ok { OnOk result
             (out.new.items ≡ out.old.items ++ flat_map hit_bytes self.old ++ codes "END" ++ line_end) }
         ensures err { OnErr result (out.new.items ≡ out.old.items) }
     {
         if !out.is_empty() || self.text.capacity() < out.capacity() {
-            return self.show(out);
+            return show_lines(out, self.text.as_slice());
         }
         self.text.reserve(5)?;
         self.text.extend_from_slice(b"END\r\n").unwrap();

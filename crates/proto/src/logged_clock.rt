@@ -3,10 +3,11 @@
 
 ghost use Rattle.std.specs.Prelude.{◌≡◌, ◌++◌, ◌∷◌, [], IfSome};
 ghost use Rattle.std.specs.Time.{system_time_nanos, instant_nanos, FitsClock};
+ghost use Rattle.proto.specs.ClockAnswers.{unix_seconds, seconds_between};
 
 use crate::trace::{Noted, Trace};
 use std::marker::Model;
-use std::time::{self, Instant, SystemTime};
+use std::time::{self, Instant, SystemTime, UNIX_EPOCH};
 
 /// What was read at the start: the Unix time and the monotonic clock, None if they couldn't be read. Only `LoggedClock` makes
 /// one.
@@ -86,24 +87,26 @@ impl<R: time::Clock + Drop> LoggedClock<R> {
 }
 
 impl ClockStart {
-    pub(crate) fn unix(self) -> Option<SystemTime>
-        ensures { result ≡ self.unix }
+    /// The whole seconds from 1970 to the Unix time, 0 if it couldn't be read.
+    pub(crate) fn unix_seconds(self) -> u64
+        ensures { result ≡ unix_seconds self.unix }
     {
-        self.unix
-    }
-
-    pub(crate) fn monotonic(self) -> Option<Instant>
-        ensures { result ≡ self.monotonic }
-    {
-        self.monotonic
+        match self.unix.map(|time| time.duration_since(UNIX_EPOCH)) {
+            Some(Ok(since)) => since.as_secs(),
+            _ => 0,
+        }
     }
 }
 
 impl ClockReading {
-    pub(crate) fn start(self) -> ClockStart
-        ensures { result ≡ self.start }
+    /// The whole seconds by the monotonic clock since the start, 0 if it couldn't be read then or now.
+    pub(crate) fn seconds(self) -> u64
+        ensures { result ≡ seconds_between self.start.monotonic self.now }
     {
-        self.start
+        match (self.start.monotonic, self.now) {
+            (Some(first), Some(now)) => now.duration_since(first).as_secs(),
+            _ => 0,
+        }
     }
 
     pub(crate) fn now(self) -> Option<Instant>

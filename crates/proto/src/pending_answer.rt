@@ -1,7 +1,7 @@
 //! The bytes that answer a message, whether its reply is there already or is still to come. The room of a whole answer is
 //! reserved before its first byte is written.
 
-ghost use Rattle.std.specs.Prelude.{◌≡◌, ◌+◌, ◌≤◌, ◌++◌, length, is_some, option_copied, None, IsOk, IsTrue};
+ghost use Rattle.std.specs.Prelude.{◌≡◌, ◌++◌, is_some, option_copied, None, IsOk, IsTrue};
 ghost use Rattle.std.specs.Prelude.{OnOk, OnErr};
 ghost use Rattle.std.specs.Option.{option_copied_mut};
 ghost use Rattle.proto.specs.Answers.{answer, is_ask, is_silent, reply_bytes};
@@ -26,19 +26,6 @@ fn show_line(out: &mut Vec<u8>, text: &[u8]) -> Result<(), NoMemory>
     Ok(())
 }
 
-/// Appends a line that has two short parts, or changes nothing.
-fn show_parts(out: &mut Vec<u8>, front: &[u8], behind: &[u8]) -> Result<(), NoMemory>
-    requires { length front.now + length behind.now ≤ 100 }
-    ensures ok { OnOk result (out.new.items ≡ out.old.items ++ front.now ++ behind.now ++ line_end) }
-    ensures err { OnErr result (out.new.items ≡ out.old.items) }
-{
-    out.reserve(front.len() + behind.len() + 2)?;
-    out.extend_from_slice(front).unwrap();
-    out.extend_from_slice(behind).unwrap();
-    out.extend_from_slice(b"\r\n").unwrap();
-    Ok(())
-}
-
 /// Appends the answer that shows a reply, or changes nothing.
 fn show_copied(out: &mut Vec<u8>, reply: &Reply) -> Result<(), NoMemory>
     ensures ok { OnOk result (out.new.items ≡ out.old.items ++ reply_bytes reply.now) }
@@ -49,7 +36,7 @@ fn show_copied(out: &mut Vec<u8>, reply: &Reply) -> Result<(), NoMemory>
         Reply::NotStored => show_line(out, b"NOT_STORED"),
         Reply::Exists => show_line(out, b"EXISTS"),
         Reply::NotFound => show_line(out, b"NOT_FOUND"),
-        Reply::Values(hits) => hits.show(out),
+        Reply::Values(hits) => show_lines(out, hits.text.as_slice()),
         Reply::Deleted => show_line(out, b"DELETED"),
         Reply::Number(n) => {
             let mut buffer = Buffer::new();
@@ -150,7 +137,11 @@ impl PendingAnswer {
             | AnswerKind::Fatal(FatalKind::Binary) => Ok(()),
             AnswerKind::Local(LocalKind::Unknown) => show_line(out, b"ERROR"),
             AnswerKind::Local(LocalKind::Version) => {
-                show_parts(out, b"VERSION 1.6.0-segcached-", VERSION.as_bytes())
+                out.reserve(VERSION.len() + 26)?;
+                out.extend_from_slice(b"VERSION 1.6.0-segcached-").unwrap();
+                out.extend_from_slice(VERSION.as_bytes()).unwrap();
+                out.extend_from_slice(b"\r\n").unwrap();
+                Ok(())
             }
             AnswerKind::Local(LocalKind::Verbosity) => show_line(out, b"OK"),
             AnswerKind::Local(LocalKind::End) => show_line(out, b"END"),

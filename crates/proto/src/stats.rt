@@ -1,12 +1,12 @@
 //! The lines of a `stats`, as text.
 
 ghost use Rattle.std.specs.Prelude.{◌≡◌, ◌++◌, IsTrue, IfOk, OnOk, decimal, flat_map};
-ghost use Rattle.proto.specs.StatTexts.{stat_bytes, number_bytes, total_lines, tally_lines, count_lines, is_plain};
+ghost use Rattle.proto.specs.StatTexts.{stat_bytes, number_bytes, tally_lines, count_lines, is_plain};
 ghost use Rattle.proto.specs.StatTexts.{names_gauge, IsStats};
 
 use crate::byte_string::ByteString;
 use crate::counts::{Counts, Tally};
-use crate::gauges::{GAUGES, Gauges, worker_names};
+use crate::gauges::{Gauges, gauge_names, worker_names};
 use crate::no_memory::NoMemory;
 use itoa::Buffer;
 use std::alloc::Global;
@@ -50,20 +50,6 @@ fn push_part(text: &mut Vec<u8>, name: &[u8], part: &[u8], n: u64) -> Result<(),
     Ok(())
 }
 
-/// Appends the lines of counts that aren't hits or misses.
-fn push_totals(text: &mut Vec<u8>, counts: &Counts) -> Result<(), NoMemory>
-    ensures { OnOk result (text.new.items ≡ text.old.items ++ flat_map number_bytes (total_lines counts.now)) }
-{
-    push_count(text, b"cmd_get", counts.gets.total())?;
-    push_count(text, b"cmd_set", counts.sets.total())?;
-    push_count(text, b"cmd_touch", counts.touches.total())?;
-    push_count(text, b"cmd_flush", counts.flushes)?;
-    push_count(text, b"total_items", counts.sets.hits)?;
-    push_count(text, b"cas_badval", counts.badvals)?;
-    push_count(text, b"out_of_memory", counts.refused)?;
-    Ok(())
-}
-
 /// Appends the lines of hits and misses.
 fn push_tally(text: &mut Vec<u8>, name: &[u8], tally: Tally) -> Result<(), NoMemory>
     ensures { OnOk result (text.new.items ≡ text.old.items ++ flat_map number_bytes (tally_lines name.now tally)) }
@@ -77,7 +63,13 @@ fn push_tally(text: &mut Vec<u8>, name: &[u8], tally: Tally) -> Result<(), NoMem
 fn push_counts(text: &mut Vec<u8>, counts: &Counts) -> Result<(), NoMemory>
     ensures { OnOk result (text.new.items ≡ text.old.items ++ flat_map number_bytes (count_lines counts.now)) }
 {
-    push_totals(text, counts)?;
+    push_count(text, b"cmd_get", counts.gets.total())?;
+    push_count(text, b"cmd_set", counts.sets.total())?;
+    push_count(text, b"cmd_touch", counts.touches.total())?;
+    push_count(text, b"cmd_flush", counts.flushes)?;
+    push_count(text, b"total_items", counts.sets.hits)?;
+    push_count(text, b"cas_badval", counts.badvals)?;
+    push_count(text, b"out_of_memory", counts.refused)?;
     push_tally(text, b"get", counts.gets)?;
     push_tally(text, b"delete", counts.deletes)?;
     push_tally(text, b"incr", counts.incrs)?;
@@ -118,17 +110,13 @@ impl StatsText {
     }
 
     /// The same with a line more, of a gauge whose value is a word.
-    pub fn with_word(self, name: &[u8], value: &[u8]) -> Result<StatsText, NoMemory>
+    pub fn with_word(mut self, name: &[u8], value: &[u8]) -> Result<StatsText, NoMemory>
         requires name { IsTrue (names_gauge self name.now) }
         requires value { IsTrue (is_plain value.now) }
         ensures { IfOk result (λ text. text ≡ self) }
     {
-        let mut text = self.text;
-        push_line(&mut text, name, value)?;
-        Ok(StatsText {
-            text,
-            counts: self.counts,
-        })
+        push_line(&mut self.text, name, value)?;
+        Ok(self)
     }
 
     /// The same, of a gauge whose value is a number.
@@ -145,8 +133,8 @@ impl StatsText {
         ensures { IfOk result (λ text. text ≡ self) }
     {
         let mut text = self;
-        for gauge in GAUGES {
-            text = text.with(gauge.name(), gauges.get(gauge))?;
+        for (gauge, name) in gauge_names() {
+            text = text.with(name, gauges.get(gauge))?;
         }
         Ok(text)
     }

@@ -42,22 +42,6 @@ pub(crate) fn noreply(words: Words) -> Option<bool>
     }
 }
 
-/// Reads the words after the size of a storage line.
-fn tail(word: StorageWord, mut words: Words) -> Option<(StoreMode, bool)>
-    ensures { result ≡ tail_of word words.entry }
-{
-    let mode = match word {
-        StorageWord::Set => StoreMode::Set,
-        StorageWord::Add => StoreMode::Add,
-        StorageWord::Replace => StoreMode::Replace,
-        StorageWord::Append => StoreMode::Append,
-        StorageWord::Prepend => StoreMode::Prepend,
-        StorageWord::Cas => StoreMode::Cas(words.next_number(u64::MAX)?),
-    };
-    let noreply = noreply(words)?;
-    Some((mode, noreply))
-}
-
 /// Reads the words after the command word of a storage line.
 pub(crate) fn storage_line<'a>(
     word: StorageWord,
@@ -69,7 +53,15 @@ pub(crate) fn storage_line<'a>(
     let flags = words.next_number(u32::MAX as u64)?;
     let exptime = words.next_signed()?;
     let size = words.next_number(MAX_TEN_DIGITS)?;
-    let (mode, noreply) = tail(word, words)?;
+    let mode = match word {
+        StorageWord::Set => StoreMode::Set,
+        StorageWord::Add => StoreMode::Add,
+        StorageWord::Replace => StoreMode::Replace,
+        StorageWord::Append => StoreMode::Append,
+        StorageWord::Prepend => StoreMode::Prepend,
+        StorageWord::Cas => StoreMode::Cas(words.next_number(u64::MAX)?),
+    };
+    let noreply = noreply(words)?;
     Some(StorageLineView {
         mode,
         key,

@@ -2,13 +2,13 @@
 
 ghost use Rattle.std.specs.Prelude.{◌≡◌, ◌++◌, [], ◌∷◌, Option};
 ghost use Rattle.std.specs.declared.time.Instant.{Instant};
-ghost use Rattle.proto.specs.ClockAnswers.{unix_seconds, seconds_between, seconds_since};
+ghost use Rattle.proto.specs.ClockAnswers.{seconds_since};
 
 use crate::clock::Clock;
 use crate::logged_clock::{ClockReading, LoggedClock};
 use crate::trace::Trace;
 use std::marker::Model;
-use std::time::{self, Instant, SystemTime, UNIX_EPOCH};
+use std::time::{self, Instant};
 
 /// One answer of a clock. For contracts only, it knows which reading it came from: only `SystemClock` makes one with a reading.
 #[derive(Drop)]
@@ -46,26 +46,6 @@ impl ClockAnswer {
     }
 }
 
-/// The whole seconds from 1970 to a reading of the Unix time, 0 if it couldn't be read.
-fn unix_seconds(reading: Option<SystemTime>) -> u64
-    ensures { result ≡ unix_seconds reading }
-{
-    match reading.and_then(|time| time.duration_since(UNIX_EPOCH).ok()) {
-        Some(since) => since.as_secs(),
-        None => 0,
-    }
-}
-
-/// The whole seconds between two readings of the monotonic clock, 0 if one of them couldn't be read.
-fn seconds_between(first: Option<Instant>, now: Option<Instant>) -> u64
-    ensures { result ≡ seconds_between first now }
-{
-    match (first, now) {
-        (Some(first), Some(now)) => now.duration_since(first).as_secs(),
-        _ => 0,
-    }
-}
-
 /// The system's clock, in whole seconds: the Unix time of its start, counted on by the monotonic clock, so that its answers
 /// don't jump with the system's time. Its value is what was read.
 #[derive(Drop)]
@@ -92,7 +72,7 @@ impl<R: time::Clock + Drop> SystemClock<R> {
         ensures { result.readings ≡ [] }
     {
         let log = LoggedClock::new(rt);
-        let began = unix_seconds(log.start().unix());
+        let began = log.start().unix_seconds();
         SystemClock { log, began }
     }
 
@@ -106,7 +86,7 @@ impl<R: time::Clock + Drop> SystemClock<R> {
             }) }
     {
         let reading = self.log.read();
-        let seconds = self.began + seconds_between(reading.start().monotonic(), reading.now());
+        let seconds = self.began + reading.seconds();
         let mut read = Trace::new();
         read.note_as(&reading);
         ClockAnswer {

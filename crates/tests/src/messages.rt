@@ -225,7 +225,7 @@ fn a_storage_line_says_what_is_needed_and_dropped(rt: HostRuntime) {
 
 /// Whether a copy of the key is these bytes.
 fn copies_as(alloc: Global, key: &ByteString, wanted: &[u8]) -> Result<bool, AllocError> {
-    let copy = key.try_clone(alloc)?.into_vec();
+    let copy = ByteString::from_slice(alloc, key.as_slice())?.into_vec();
     Ok(copy.as_slice() == wanted)
 }
 

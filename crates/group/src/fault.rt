@@ -2,7 +2,7 @@
 ghost use Rattle.std.specs.Prelude.{◌≡◌};
 ghost use Rattle.group.specs.declared.fault.GroupFault.TheVariants.{NoMemory};
 
-use std::alloc::{AllocError, AllocFailed};
+use std::alloc::AllocError;
 use thiserror::Error;
 
 /// Why a group didn't run. No event was taken then, and no request was executed.
@@ -20,14 +20,6 @@ impl From<AllocError> for GroupFault {
     ghost from_gives = { λ error fault. fault ≡ NoMemory };
 
     fn from(_error: AllocError) -> GroupFault {
-        GroupFault::NoMemory
-    }
-}
-
-impl<T: Drop> From<AllocFailed<T>> for GroupFault {
-    ghost from_gives = { λ error fault. fault ≡ NoMemory };
-
-    fn from(_failed: AllocFailed<T>) -> GroupFault {
         GroupFault::NoMemory
     }
 }

@@ -1,40 +1,24 @@
 //! A whole run of a group.
-ghost use Rattle.std.specs.Prelude.{◌≡◌, Some, IsSome, ◌≤◌, List, [], All, map, IfOk, vec_len, vec_capacity, true, false};
+ghost use Rattle.std.specs.Prelude.{◌≡◌, Some, IsSome, ◌≤◌, List, [], IfOk, vec_len, vec_capacity, true, false};
 ghost use Rattle.proto.specs.declared.terms.Terms.{Terms};
 ghost use Rattle.proto.specs.Cache.{empty_cache};
 ghost use Rattle.exchange.specs.Ends.{AreMade, AreTogether, IsCount};
-ghost use Rattle.group.specs.Threads.{ArePortsOf, AreJoined, IsLeftByStorage, StartsEmpty, ends_of, worker_of, workers_of};
+ghost use Rattle.group.specs.Threads.{ArePortsOf, AreJoined, IsLeftByStorage, StartsEmpty, ends_of, workers_of};
 ghost use Rattle.group.specs.Headline.{IsRun};
 
 use crate::context::{GroupContext, Runtime};
 use crate::fault::GroupFault;
 use crate::report::{Config, GroupReport, GroupWorker};
 use crate::start::announce_start;
-use crate::threads::{
-    StorageHandle, WorkerHandle, join_storage, join_workers, start_storage, start_workers,
-};
+use crate::threads::{StorageHandle, WorkerHandle, join_workers, start_storage, start_workers};
 use engine::{Clock, StorageEngine};
 use exchange::{Exchange, StorageSignals, WorkerEnd, gather};
 use std::alloc::{AllocError, Global};
-use std::sync::{OnceLock, OnceToken};
-use std::thread::{self, Scope, Threads};
+use std::sync::OnceLock;
+use std::thread::{self, Scope};
 use storage_thread::StorageReport;
 use worker::{Gate, WorkerReport};
 use worker_port::Port;
-
-/// What the group says of a worker, and the worker's end.
-fn split_report<P: Port>(report: WorkerReport<P>) -> (GroupWorker<P>, WorkerEnd)
-    ensures { (result.0 ≡ worker_of report) × (result.1 ≡ report.worker_end) }
-{
-    let worker = GroupWorker {
-        port: report.port,
-        sent: report.worker_end.sent_list(),
-        sessions: report.sessions,
-        unopened: report.unopened,
-        strangers: report.strangers,
-    };
-    (worker, report.worker_end)
-}
 
 /// Splits the reports into what the group says of each worker, and the ends. The lists have room for them.
 fn split_reports<P: Port>(
@@ -47,9 +31,14 @@ fn split_reports<P: Port>(
     ensures { (result.0.items ≡ workers_of reports.items) × (result.1.items ≡ ends_of reports.items) }
 {
     for report in reports {
-        let (worker, end) = split_report(report);
-        workers.push_reserved(worker);
-        ends.push_reserved(end);
+        workers.push_reserved(GroupWorker {
+            port: report.port,
+            sent: report.worker_end.sent_list(),
+            sessions: report.sessions,
+            unopened: report.unopened,
+            strangers: report.strangers,
+        });
+        ends.push_reserved(report.worker_end);
     }
     (workers, ends)
 }
@@ -102,32 +91,6 @@ fn room_for<'s, P: Port>(alloc: Global, count: usize) -> Result<Room<'s, P>, All
     })
 }
 
-/// Joins all threads, which were told to begin, and gathers what they leave. The lists have room for it.
-fn join_all<'s, P: Port, E: StorageEngine, C: Clock, R: Threads>(
-    rt: &R,
-    told: &OnceToken<'s, bool>,
-    handles: Vec<WorkerHandle<'s, P>>,
-    storage: StorageHandle<'s, E, C>,
-    reports: Vec<WorkerReport<P>>,
-    workers: Vec<GroupWorker<P>>,
-    ends: Vec<WorkerEnd>,
-) -> GroupReport<P, C>
-    requires began { All (λ h. told.now.of ≡ h.promise.start.now.id) handles.items × (told.now.value ≡ true) }
-    requires storage { told.now.of ≡ storage.promise.start.now.id }
-    requires made { AreMade (vec_len handles) storage.promise.end.value.terms
-        (map (λ h. h.promise.end.value) handles.items) storage.promise.end.value }
-    requires reports { (reports.items ≡ []) × (vec_len handles ≤ vec_capacity reports) }
-    requires workers { (workers.items ≡ []) × (vec_len handles ≤ vec_capacity workers) }
-    requires ends { (ends.items ≡ []) × (vec_len handles ≤ vec_capacity ends) }
-    ensures { IsRun P.told P.leads_to C.told C.leads_to (E.keeps storage.entry.promise.store.value []) E.may_refuse
-        storage.entry.promise.end.value.terms.geometry (map (λ h. h.promise.port.value) handles.entry.items)
-        storage.entry.promise.clock.value result }
-{
-    let left = join_workers(rt, told, handles, reports);
-    let stored = join_storage(rt, told, storage);
-    gather_report::<P, E, C>(left, stored, workers, ends)
-}
-
 /// Starts a thread for each port, has all threads begin, and joins them. The storage thread was started, with its end of the
 /// exchange that the other ends are of.
 fn run_started<'s, P: Port + Send + 's, E: StorageEngine, C: Clock>(
@@ -157,19 +120,17 @@ fn run_started<'s, P: Port + Send + 's, E: StorageEngine, C: Clock>(
         workers,
         ends: gathered,
     } = room;
-    match start_workers(rt, scope, context, ports, ends, handles) {
-        Ok(handles) => {
-            let told = announce_start(rt, context.start, true);
-            if !*context.start.value(&told) {
-                return Err(GroupFault::NoThread);
-            }
-            Ok(join_all(rt, &told, handles, storage, reports, workers, gathered))
-        }
-        Err(fault) => {
-            announce_start(rt, context.start, false);
-            Err(fault)
-        }
+    let started = start_workers(rt, scope, context, ports, ends, handles);
+    // The threads that were started are told not to begin if one wasn't.
+    let told = announce_start(rt, context.start, started.is_ok());
+    let handles = started?;
+    if !*context.start.value(&told) {
+        return Err(GroupFault::NoThread);
     }
+    let left = join_workers(rt, &told, handles, reports);
+    let stored = storage.join(rt);
+    stored.told.agrees(&told);
+    Ok(gather_report::<P, E, C>(left, stored.ran.unwrap(), workers, gathered))
 }
 
 /// Makes all room that joining needs, starts the threads, and joins them.

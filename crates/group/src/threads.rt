@@ -13,7 +13,7 @@ use crate::context::{GroupContext, Runtime};
 use crate::fault::GroupFault;
 use crate::start::{Finished, wait_for_start};
 use engine::{Clock, StorageEngine};
-use exchange::{StorageEnd, StorageSignals, WorkerEnd};
+use exchange::{StorageEnd, WorkerEnd};
 use os::set_thread_name;
 use std::snapshot::Snapshot;
 use std::sync::{OnceLock, OnceToken, Wait};
@@ -71,22 +71,6 @@ fn thread_name(worker: usize) -> [u8; 8]
     name
 }
 
-/// Runs a worker over a port and an end as they were made.
-fn run_new_worker<P: Port, G: Gate, R: Wait + time::Clock>(
-    rt: &R,
-    context: &GroupContext<'_, G>,
-    port: P,
-    end: WorkerEnd,
-) -> WorkerReport<P>
-    requires port { IsPortAt P.told context.now.config.dialect port end }
-    requires fresh { HasSentNothing end }
-    ensures { KeepsWorker P.told P.leads_to port end result }
-{
-    let dialect = context.config.dialect;
-    let (gate, signals) = (context.gate, context.signals);
-    run_worker(rt, context.alloc, port, end, dialect, gate, signals)
-}
-
 /// Names the thread, and runs a worker in it once it is told to begin.
 fn worker_thread<'a, P: Port, G: Gate, R: Wait + time::Clock>(
     rt: &R,
@@ -100,28 +84,14 @@ fn worker_thread<'a, P: Port, G: Gate, R: Wait + time::Clock>(
 {
     // Names are for the operator: where the system takes none, the thread runs as well.
     let _ = set_thread_name(&thread_name(end.worker()));
+    let dialect = context.config.dialect;
+    let (gate, signals) = (context.gate, context.signals);
     let told = wait_for_start(rt, context.start);
-    let ran = if *context.start.value(&told) {
-        Some(run_new_worker(rt, context, port, end))
-    } else {
-        None
-    };
+    if !*context.start.value(&told) {
+        return Finished { told, ran: None };
+    }
+    let ran = Some(run_worker(rt, context.alloc, port, end, dialect, gate, signals));
     Finished { told, ran }
-}
-
-/// Runs the storage loop over an end and a store as they were made.
-fn run_new_storage<E: StorageEngine + Drop, C: Clock, R: Wait + time::Clock>(
-    rt: &R,
-    store: E,
-    clock: C,
-    end: StorageEnd,
-    signals: &StorageSignals,
-) -> StorageReport<C>
-    requires store { StartsEmpty E.cache E.moment E.sizes E.may_refuse C.told C.start end.terms store clock }
-    requires unused { IsUnused end }
-    ensures { KeepsStorage C.told C.leads_to (E.keeps store []) E.may_refuse clock end result }
-{
-    run_storage(rt, store, clock, end, signals)
 }
 
 /// Names the thread, and runs the storage loop in it once it is told to begin.
@@ -139,11 +109,10 @@ fn run_storage_thread<'a, E: StorageEngine + Drop, C: Clock, G, R: Wait + time::
 {
     let _ = set_thread_name(b"storage");
     let told = wait_for_start(rt, context.start);
-    let ran = if *context.start.value(&told) {
-        Some(run_new_storage(rt, store, clock, end, context.signals))
-    } else {
-        None
-    };
+    if !*context.start.value(&told) {
+        return Finished { told, ran: None };
+    }
+    let ran = Some(run_storage(rt, store, clock, end, context.signals));
     Finished { told, ran }
 }
 
@@ -152,17 +121,10 @@ fn run_storage_thread<'a, E: StorageEngine + Drop, C: Clock, G, R: Wait + time::
 /// # Errors
 ///
 /// NoThread if the system starts no thread.
-pub fn start_storage<
-    's,
-    'e,
-    E: StorageEngine + Drop + Send + 's,
-    C: Clock + Send + 's,
-    G: Sync,
-    R: Threads + Wait + time::Clock + Sync,
->(
-    rt: &'s R,
-    scope: &'s Scope<'s, &'e ()>,
-    context: &'s GroupContext<'s, G>,
+pub fn start_storage<'s, E: StorageEngine + Drop + Send + 's, C: Clock + Send + 's>(
+    rt: &'s impl Runtime,
+    scope: &'s Scope<'s, &()>,
+    context: &'s GroupContext<'s, impl Sync>,
     store: E,
     clock: C,
     end: StorageEnd,
@@ -189,16 +151,10 @@ pub fn start_storage<
 }
 
 /// Starts the thread of one worker.
-fn start_worker<
-    's,
-    'e,
-    P: Port + Send + 's,
-    G: Gate + Sync,
-    R: Threads + Wait + time::Clock + Sync,
->(
-    rt: &'s R,
-    scope: &'s Scope<'s, &'e ()>,
-    context: &'s GroupContext<'s, G>,
+fn start_worker<'s, P: Port + Send + 's>(
+    rt: &'s impl Runtime,
+    scope: &'s Scope<'s, &()>,
+    context: &'s GroupContext<'s, impl Gate + Sync>,
     port: P,
     end: WorkerEnd,
 ) -> Result<WorkerHandle<'s, P>, GroupFault>
@@ -261,35 +217,6 @@ pub fn start_workers<'s, P: Port + Send + 's>(
     Ok(handles)
 }
 
-/// What the storage thread leaves, which was told to begin.
-pub fn join_storage<'s, E: StorageEngine, C: Clock, R: Threads>(
-    rt: &R,
-    told: &OnceToken<'s, bool>,
-    handle: StorageHandle<'s, E, C>,
-) -> StorageReport<C>
-    requires began { (told.now.of ≡ handle.promise.start.now.id) × (told.now.value ≡ true) }
-    ensures { KeepsStorage C.told C.leads_to (E.keeps handle.entry.promise.store.value []) E.may_refuse
-        handle.entry.promise.clock.value handle.entry.promise.end.value result }
-{
-    let finished = handle.join(rt);
-    finished.told.agrees(told);
-    finished.ran.unwrap()
-}
-
-/// What a worker's thread leaves, which was told to begin.
-fn join_worker<'s, P: Port, R: Threads>(
-    rt: &R,
-    told: &OnceToken<'s, bool>,
-    handle: WorkerHandle<'s, P>,
-) -> WorkerReport<P>
-    requires began { (told.now.of ≡ handle.promise.start.now.id) × (told.now.value ≡ true) }
-    ensures { KeepsWorker P.told P.leads_to handle.entry.promise.port.value handle.entry.promise.end.value result }
-{
-    let finished = handle.join(rt);
-    finished.told.agrees(told);
-    finished.ran.unwrap()
-}
-
 /// What the workers' threads leave, in order, which were told to begin. The list of reports has room for them.
 pub fn join_workers<'s, P: Port, R: Threads>(
     rt: &R,
@@ -303,8 +230,9 @@ pub fn join_workers<'s, P: Port, R: Threads>(
         handles.entry.items result.items }
 {
     for handle in handles {
-        let report = join_worker(rt, told, handle);
-        reports.push_reserved(report);
+        let finished = handle.join(rt);
+        finished.told.agrees(told);
+        reports.push_reserved(finished.ran.unwrap());
     }
     reports
 }

@@ -115,8 +115,7 @@ fn execute<S: StorageEngine, C: Clock, R: time::Clock>(
         mut request,
     } = posted;
     let stored = store.handle(moment, &mut request);
-    source.note_evictions(clock.at(), store.evictions());
-    let reply = source.reply(counts, store, worker, &request, stored);
+    let reply = source.reply(clock.at(), counts, store, worker, &request, stored);
     counts.count(&request, &reply);
     let answered = Answered {
         worker,

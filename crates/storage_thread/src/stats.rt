@@ -31,24 +31,9 @@ impl<'a, R: Clock> StatsSource<'a, R> {
 
     /// How long ago that was; no time if the clock can't be read.
     fn passed(&self, since: Option<Instant>) -> Duration {
-        let Some(since) = since else {
-            return Duration::ZERO;
-        };
-        match since.elapsed(self.rt) {
-            Ok(passed) => passed,
-            Err(_) => Duration::ZERO,
-        }
-    }
-
-    /// Notes how often the store has made room by now. If that is more than before, it was for a request for which the clock was
-    /// read then.
-    pub fn note_evictions(&mut self, since: Option<Instant>, evictions: u64) {
-        if evictions != self.evictions {
-            self.evictions = evictions;
-            self.signals
-                .storage_gauges()
-                .raise_micros(Gauge::MergeLongest, self.passed(since));
-        }
+        since
+            .and_then(|since| since.elapsed(self.rt).ok())
+            .unwrap_or(Duration::ZERO)
     }
 
     /// Sets the gauges, this long after the thread began.
@@ -66,7 +51,7 @@ impl<'a, R: Clock> StatsSource<'a, R> {
         store.set_gauges(gauges);
     }
 
-    /// These counts, and the gauges, for a worker that asks.
+    /// These counts, the gauges, and the lines of each worker, for a worker that asks.
     #[inline(never)]
     #[tactic(auto, unfolding(proto::specs::StatTexts::names_gauge, proto::specs::StatTexts::count_lines, proto::specs::StatTexts::total_lines, proto::specs::StatTexts::tally_lines))]
     fn text<S: StorageEngine>(
@@ -79,30 +64,24 @@ impl<'a, R: Clock> StatsSource<'a, R> {
     {
         let passed = self.passed(self.began);
         self.set_gauges(store, worker, passed);
-        let text = StatsText::of(self.signals.allocator(), counts)?
+        let mut text = StatsText::of(self.signals.allocator(), counts)?
             .with_word(b"version", VERSION.as_bytes())?
             .with_gauges(self.signals.storage_gauges())?;
-        self.with_workers(text, passed)
-    }
-
-    /// The same with the lines of each worker.
-    fn with_workers(&self, text: StatsText, passed: Duration) -> Result<StatsText, NoMemory>
-        ensures { IfOk result (λ told. told ≡ text) }
-    {
-        let mut text = text;
-        for worker in 0..self.signals.workers() {
-            if let Some(gauges) = self.signals.gauges(worker) {
+        for each in 0..self.signals.workers() {
+            if let Some(gauges) = self.signals.gauges(each) {
                 let connections = gauges.get(Gauge::CurrConnections);
-                text = text.with_worker(worker, connections, gauges.busy_micros(passed))?;
+                text = text.with_worker(each, connections, gauges.busy_micros(passed))?;
             }
         }
         Ok(text)
     }
 
-    /// The reply to a request of the worker, to which the store replied so, if these are the counts before it.
+    /// The reply to a request of the worker, to which the store replied so, if these are the counts before it. If the store made
+    /// room for the request, the time since the clock was read for it is noted.
     #[inline(always)]
     pub fn reply<S: StorageEngine>(
-        &self,
+        &mut self,
+        since: Option<Instant>,
         counts: &Counts,
         store: &S,
         worker: usize,
@@ -117,7 +96,17 @@ impl<'a, R: Clock> StatsSource<'a, R> {
                 Ok(text) => Reply::Stats(text.into_lines()),
                 Err(_) => Reply::NoMemory,
             },
-            _ => reply,
+            // A `get` makes no room.
+            Request::Get { .. } => reply,
+            _ => {
+                let evictions = store.evictions();
+                if evictions != self.evictions {
+                    self.evictions = evictions;
+                    let gauges = self.signals.storage_gauges();
+                    gauges.raise_micros(Gauge::MergeLongest, self.passed(since));
+                }
+                reply
+            }
         }
     }
 }

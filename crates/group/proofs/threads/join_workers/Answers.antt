@@ -1,5 +1,6 @@
 use Rattle.std.proofs.Common.{arith, ◌≡◌, [], ◌∷◌, ◌++◌, sym, ap, subst, ◌∙◌, append_assoc, append-nil}
 use Rattle.std.proofs.lemmas.List.{nil_from_length}
+use Rattle.std.specs.Prelude.{IfSome}
 use Rattle.group.specs.Threads.{AreEach, KeepsWorker}
 use Rattle.group.proofs.Places.{each_more}
 use Rattle.group.proofs.threads.join_workers.Goals as goal
@@ -13,8 +14,9 @@ loop-handle-preserved g c = let i = c.loop-handle.invariant in let h = c.in-Some
           (AreEach (λ h r. KeepsWorker g.P.Port.told g.P.Port.leads_to h.promise.port.value h.promise.end.value r)
           (c.loop-handle.yielded ++ h ∷ [])) (sym pushed)
           (each_more (λ h r. KeepsWorker g.P.Port.told g.P.Port.leads_to h.promise.port.value h.promise.end.value r)
-          c.loop-handle.yielded c.loop-handle.reports.items h c.join_worker-report.result i.joined
-          c.join_worker-report.ensures);
+          c.loop-handle.yielded c.loop-handle.reports.items h c.unwrap.result i.joined
+          (subst (λ o. IfSome o (KeepsWorker g.P.Port.told g.P.Port.leads_to h.promise.port.value h.promise.end.value))
+          c.unwrap.ensures c.join-finished.ensures.kept));
       room = omega (
         arith,
         c.in-Some.ensures.steps.1,

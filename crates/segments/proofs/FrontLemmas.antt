@@ -3,7 +3,7 @@ use Rattle.std.proofs.Common.{◌≡◌, ℕ, zero, suc, ◌+◌, ◌-◌, ◌�
 use Rattle.std.proofs.Common.{get_or, take, drop, Option, refl, sym, ap, subst, ◌∙◌, arith, inl, inr, add-one}
 use Rattle.std.specs.Prelude.{All, take_while, if◌then◌else◌}
 use Rattle.std.specs.List.{prefix_len}
-use Rattle.std.proofs.lemmas.List.{take_all, take-take, length-take, length-take-le}
+use Rattle.std.proofs.lemmas.List.{take_all, take-take, length-take, length-take-le, length-drop}
 use Rattle.std.proofs.lemmas.List.Sums.{take_while-cons}
 use Rattle.std.proofs.lemmas.List.Elements.{All-take, All-filter}
 use Rattle.std.proofs.lemmas.Bool.{cases_lt}
@@ -12,6 +12,10 @@ use Rattle.segments.specs.Pools.{Used, lasting, in_bucket, chain_in}
 use Rattle.proto.specs.declared.eviction.Eviction.{Eviction}
 use Rattle.proto.specs.declared.eviction.Eviction.TheVariants.{Oldest, LeastRead}
 use Rattle.segments.specs.Merges.{opened_in, front_of, merged_in, most_merged}
+
+-- a slice up to the end is all that follows its start
+pub rest_from : (n : ℕ) (xs : List ℕ) → take (length xs - n) (drop n xs) ≡ drop n xs
+rest_from n xs = let l = length-drop n xs in take_all (length xs - n) (drop n xs) (omega (arith, l))
 
 -- ---- the first segments of a front
 

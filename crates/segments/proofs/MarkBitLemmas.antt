@@ -1,15 +1,15 @@
 -- Marks as bits in words.
 use Rattle.std.proofs.Common.{◌≡◌, ℕ, ◌+◌, ◌-◌, ◌/◌, ◌%◌, ◌<◌, ◌≤◌, Bool, true, false, List, length, get_or, sym}
-use Rattle.std.proofs.Common.{ap, subst, ◌∙◌, arith, inl, inr}
-use Rattle.std.specs.Prelude.{◌≢◌, ◌==◌, if◌then◌else◌, replicate}
-use Rattle.std.specs.Int.{bit_at}
+use Rattle.std.proofs.Common.{ap, subst, ◌∙◌, arith, inl, inr, ◌*◌, ◌^◌, w64}
+use Rattle.std.specs.Prelude.{◌≢◌, ◌==◌, if◌then◌else◌, replicate, bit_and, bit_or}
+use Rattle.std.specs.Int.{bit_at, bit_not}
 use Rattle.std.specs.List.{range_with_len}
 use Rattle.std.proofs.Math.ListN.{set}
 use Rattle.std.proofs.lemmas.Bool.{cases_lt, cases_eq, eq-eqb, ne_eqb}
 use Rattle.std.proofs.lemmas.List.{length-map, length-set, length-replicate, ext_get_or, set-get_or, get_or-set_same}
-use Rattle.std.proofs.lemmas.List.{get_or-set_other, get_or-replicate, get_or_past}
+use Rattle.std.proofs.lemmas.List.{get_or-set_other, get_or-replicate, get_or_past, get_or_default}
 use Rattle.std.proofs.lemmas.List.FromFn.{length-range_with_len, get_or-map-range_with_len}
-use Rattle.std.proofs.lemmas.Nat.Bits.{bit_at-zero}
+use Rattle.std.proofs.lemmas.Nat.Bits.{bit_at-zero, bit_at_set_same, bit_at_set_other, bit_at_clear_same, bit_at_clear_other}
 use Rattle.segments.specs.Marks.{AreMarksCounted}
 use Rattle.segments.specs.MarkBits.{bit_of, bits_of, AreMarkBits}
 use Rattle.segments.proofs.MarkCounts.{counted_none, counted_more, counted_less}
@@ -44,6 +44,27 @@ bit_written words n w v k lt same others =
             | inr d ↦ (ap (λ (x : ℕ). bit_at x (k % 64) == 1) (get_or-set_other words (n / 64) (k / 64) w 0 d))
           ]))
     ]
+
+-- a bit is set in its word
+pub bit_set : (words : List ℕ) (n x : ℕ) → n < 64 * length words → x ≡ get_or words (n / 64) x
+    → (k : ℕ) → bit_of (set words (n / 64) (bit_or x (1 * 2 ^ (n % 64) % 2 ^ 64))) k ≡ (if k == n then true else bit_of words k)
+bit_set words n x lt is =
+    let within : n / 64 < length words = omega (arith, lt) in
+    let in_word : n % 64 < 64 = omega arith in
+    let word : x ≡ get_or words (n / 64) 0 = is ∙ get_or_default words (n / 64) x 0 within in
+    λ k. bit_written words n _ 1 k within (bit_at_set_same w64 x (n % 64) in_word)
+    (λ i low apart. bit_at_set_other w64 x (n % 64) in_word i apart ∙ ap (λ (w : ℕ). bit_at w i) word)
+
+-- a bit is taken away from its word
+pub bit_cleared : (words : List ℕ) (n x : ℕ) → n < 64 * length words → x ≡ get_or words (n / 64) x
+    → (k : ℕ) → bit_of (set words (n / 64) (bit_and x (bit_not w64 (1 * 2 ^ (n % 64) % 2 ^ 64)))) k
+    ≡ (if k == n then false else bit_of words k)
+bit_cleared words n x lt is =
+    let within : n / 64 < length words = omega (arith, lt) in
+    let in_word : n % 64 < 64 = omega arith in
+    let word : x ≡ get_or words (n / 64) 0 = is ∙ get_or_default words (n / 64) x 0 within in
+    λ k. bit_written words n _ 0 k within (bit_at_clear_same w64 x (n % 64) in_word)
+    (λ i low apart. bit_at_clear_other w64 x (n % 64) in_word i low apart ∙ ap (λ (w : ℕ). bit_at w i) word)
 
 -- one bit is written
 pub bits_written : (n : ℕ) (old new : List ℕ) (j : ℕ) (b : Bool)

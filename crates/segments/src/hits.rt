@@ -1,6 +1,6 @@
 //! Counts how often the items of each segment are read.
 
-ghost use Rattle.std.specs.Prelude.{◌≡◌, ◌<◌, ◌/◌, IfOk, MatchOption, [], All, length, map};
+ghost use Rattle.std.specs.Prelude.{◌≡◌, ◌<◌, IfOk, MatchOption, [], All, length};
 ghost use Rattle.segments.specs.Hits.{no_hits, with_hit, with_hits, with_opened, IsFewest};
 
 use proto::NoMemory;
@@ -24,15 +24,6 @@ impl Model for SegmentHits {
     ghost view = { λ a. record { counts = a.counts.items; opens = a.opens } };
 
     ghost invariant = { λ a. AreHitsKept (record { counts = a.counts.items; opens = a.opens }) };
-}
-
-/// Halves all hits.
-fn halve(counts: &mut Vec<u32>)
-    ensures { counts.new.items ≡ map (λ hits. hits / 2) counts.old.items }
-{
-    for count in counts.iter_mut() {
-        *count /= 2;
-    }
 }
 
 impl SegmentHits {
@@ -71,7 +62,9 @@ impl SegmentHits {
         self.counts[segment as usize] = 0;
         self.opens += 1;
         if self.counts.len() <= 2 * self.opens {
-            halve(&mut self.counts);
+            for count in self.counts.iter_mut() {
+                *count /= 2;
+            }
             self.opens = 0;
         }
     }

@@ -1,6 +1,6 @@
 //! Which items are live: the test that a merge asks, and marks at the places of items, in all segments of a pool.
 
-ghost use Rattle.std.specs.Prelude.{◌≡◌, ℕ, ◌<◌, ◌≤◌, Bool, true, false, replicate, All, Option, IfOk, IfSome};
+ghost use Rattle.std.specs.Prelude.{◌≡◌, ℕ, ◌<◌, Bool, true, false, All, Option, IfOk, IfSome};
 ghost use Rattle.segments.specs.declared.place.Place.{Place as Spot};
 ghost use Rattle.segments.specs.Items.{Item};
 ghost use Rattle.segments.specs.Pools.{PoolState, has_live};
@@ -47,31 +47,17 @@ impl Model for LiveMarks {
     ghost invariant = { AreMarksKept };
 }
 
-/// Segments with this many marks each, none set. NoMemory if out of memory.
-fn unmarked_segments(alloc: Global, count: u32, marks: u32) -> Result<Vec<SegmentMarks>, NoMemory>
-    requires { marks ≤ 32768 }
-    ensures { IfOk result (λ v. v.items ≡ replicate count (replicate marks false)) }
-{
-    let mut segments = Vec::with_capacity(alloc, count as usize)?;
-    for _number in 0..count {
-        segments.push(SegmentMarks::new(alloc, marks)?)?;
-    }
-    Ok(segments)
-}
-
 impl LiveMarks {
     /// Takes the memory for all marks, none of which is set. NoMemory if out of memory.
     pub fn new(alloc: Global, geometry: Geometry) -> Result<LiveMarks, NoMemory>
         ensures { IfOk result (λ t. t ≡ no_marks geometry) }
     {
-        Ok(LiveMarks {
-            geometry,
-            rows: unmarked_segments(
-                alloc,
-                geometry.segments(),
-                geometry.segment_size() / MIN_ITEM_SIZE,
-            )?,
-        })
+        let marks = geometry.segment_size() / MIN_ITEM_SIZE;
+        let mut rows = Vec::with_capacity(alloc, geometry.segments() as usize)?;
+        for _number in 0..geometry.segments() {
+            rows.push(SegmentMarks::new(alloc, marks)?)?;
+        }
+        Ok(LiveMarks { geometry, rows })
     }
 
     /// Whether the place is marked.

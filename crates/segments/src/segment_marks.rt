@@ -1,9 +1,9 @@
 //! The marks of one segment.
 
-ghost use Rattle.std.specs.Prelude.{◌≡◌, ◌==◌, ℕ, ◌*◌, ◌<◌, ◌≤◌, false, true, length, replicate, slice_index_or};
-ghost use Rattle.std.specs.Prelude.{slice_set, IfOk, if◌then◌else◌};
+ghost use Rattle.std.specs.Prelude.{◌≡◌, ◌<◌, ◌≤◌, false, true, length, replicate, slice_index_or};
+ghost use Rattle.std.specs.Prelude.{slice_set, IfOk};
 ghost use Rattle.segments.specs.Marks.{mark_count};
-ghost use Rattle.segments.specs.MarkBits.{bit_of, bits_of};
+ghost use Rattle.segments.specs.MarkBits.{bit_of};
 
 use proto::NoMemory;
 use std::alloc::Global;
@@ -28,14 +28,6 @@ impl Model for SegmentMarks {
     ghost invariant = { λ a. AreMarkBits a.words.items a.len a.count };
 }
 
-/// Words for `count` bits, none set. NoMemory if out of memory.
-fn no_bits(alloc: Global, count: u32) -> Result<Vec<u64>, NoMemory>
-    ensures none { IfOk result (λ v. bits_of count v.items ≡ replicate count false) }
-    ensures enough { IfOk result (λ v. count ≤ 64 * length v.items) }
-{
-    Ok(vec![in alloc; 0; count.div_ceil(64) as usize]?)
-}
-
 /// Whether the bit is set; false beyond the last one.
 fn has_bit(words: &[u64], n: u32) -> bool
     ensures { result ≡ bit_of words.now n }
@@ -46,24 +38,6 @@ fn has_bit(words: &[u64], n: u32) -> bool
     }
 }
 
-/// Sets a bit.
-fn set_bit(words: &mut Vec<u64>, n: u32)
-    requires { n < 64 * length words.old.items }
-    ensures set { (k : ℕ) → bit_of words.new.items k ≡ (if k == n then true else bit_of words.old.items k) }
-    ensures len { length words.new.items ≡ length words.old.items }
-{
-    words[(n / 64) as usize] |= 1 << (n % 64);
-}
-
-/// Takes a bit away.
-fn clear_bit(words: &mut Vec<u64>, n: u32)
-    requires { n < 64 * length words.old.items }
-    ensures cleared { (k : ℕ) → bit_of words.new.items k ≡ (if k == n then false else bit_of words.old.items k) }
-    ensures len { length words.new.items ≡ length words.old.items }
-{
-    words[(n / 64) as usize] &= !(1 << (n % 64));
-}
-
 impl SegmentMarks {
     /// `count` marks, none set. NoMemory if out of memory.
     pub fn new(alloc: Global, count: u32) -> Result<SegmentMarks, NoMemory>
@@ -71,7 +45,7 @@ impl SegmentMarks {
         ensures { IfOk result (λ r. r ≡ replicate count false) }
     {
         Ok(SegmentMarks {
-            words: no_bits(alloc, count)?,
+            words: vec![in alloc; 0; count.div_ceil(64) as usize]?,
             len: count,
             count: 0,
         })
@@ -99,7 +73,7 @@ impl SegmentMarks {
         if has_bit(self.words.as_slice(), n) {
             return;
         }
-        set_bit(&mut self.words, n);
+        self.words[(n / 64) as usize] |= 1 << (n % 64);
         self.count += 1;
     }
 
@@ -111,7 +85,7 @@ impl SegmentMarks {
         if !has_bit(self.words.as_slice(), n) {
             return;
         }
-        clear_bit(&mut self.words, n);
+        self.words[(n / 64) as usize] &= !(1 << (n % 64));
         self.count -= 1;
     }
 

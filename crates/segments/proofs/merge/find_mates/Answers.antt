@@ -1,7 +1,8 @@
-use Rattle.std.proofs.Common.{◌≡◌, ◌-◌, ◌<◌, suc, get_or, drop, length, sym, ap, subst, ◌∙◌, arith, add-one}
+use Rattle.std.proofs.Common.{◌≡◌, ◌-◌, ◌<◌, suc, get_or, drop, length, sym, ap, subst, ◌∙◌, arith, rules, add-one}
+use Rattle.std.specs.Prelude.{vec_len}
 use Rattle.std.proofs.Math.ListN.{set}
 use Rattle.std.proofs.Math.Seq.{drop-length}
-use Rattle.std.proofs.lemmas.List.{get_or_default}
+use Rattle.std.proofs.lemmas.List.{get_or_default, get_or-replicate}
 use Rattle.segments.specs.declared.merge.Rest.TheVariants.{Nothing}
 use Rattle.segments.specs.Inside.{shown_segments}
 use Rattle.segments.specs.Starts.{AreRests, with_front}
@@ -14,10 +15,13 @@ loop-place-init c =
     let us = shown_segments c.args.segments.now in
     let order = c.args.order.now in
     let most = c.requires.looked in
+    let count = c.requires.count in
+    let filled = c.fill.ensures.items (λ y h. search rules) in
     record {
-      count = c.clear_rests.ensures.count;
-      rests = subst (λ xs. AreRests us xs c.clear_rests.new.rests.items) (sym (drop-length order))
-          (c.clear_rests.ensures.rests us);
+      count = c.fill.ensures.len ∙ count;
+      rests = subst (λ xs. AreRests us xs c.fill.new.self.items) (sym (drop-length order))
+          (λ b lt. ap (λ xs. get_or xs b Nothing) filled
+          ∙ get_or-replicate (vec_len c.args.rests.now) b Nothing Nothing (omega (arith, lt, count)));
       found = λ k le lt. absurd (omega (arith, le, lt, most));
     }
 

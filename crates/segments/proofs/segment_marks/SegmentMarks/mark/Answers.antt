@@ -1,8 +1,9 @@
-use Rattle.std.proofs.Common.{◌∙◌, ℕ, List, Bool, false, true, get_or, sym, ap, arith}
+use Rattle.std.proofs.Common.{◌∙◌, ◌/◌, ℕ, List, Bool, false, true, get_or, sym, ap, arith}
 use Rattle.std.proofs.Math.ListN.{set}
+use Rattle.std.proofs.lemmas.List.{length-set}
 use Rattle.segments.specs.MarkBits.{bit_of, bits_of}
 use Rattle.segments.proofs.MarkCounts.{marked_few}
-use Rattle.segments.proofs.MarkBitLemmas.{in_row, bit_there, set_there, bits_written, marks_marked}
+use Rattle.segments.proofs.MarkBitLemmas.{in_row, bit_there, set_there, bit_set, bits_written, marks_marked}
 use Rattle.segments.proofs.segment_marks.SegmentMarks.mark.Goals as goal
 
 pub overflow_add-self : goal.overflow_add-self
@@ -16,15 +17,19 @@ overflow_add-self c =
 pub invariant_of-self : goal.invariant_of-self
 invariant_of-self c =
     let lt = in_row c.self.inside.len c.self.inside.words.items c.args.self.now c.args.n c.self.view_is c.requires in
-    marks_marked c.self.inside.words.items c.set_bit.new.words.items c.self.inside.len c.self.inside.count c.args.n
+    let enough = c.self.invariant.enough in
+    marks_marked c.self.inside.words.items _ c.self.inside.len c.self.inside.count c.args.n
     c.self.invariant lt
     (ap (λ (ws : List ℕ). bit_of ws c.args.n) (sym c.as_slice.ensures.value) ∙ sym c.has_bit.ensures ∙ c.if-has_bit.false)
-    c.set_bit.ensures.set c.set_bit.ensures.len
+    (bit_set c.self.inside.words.items c.args.n c.index_mut.result.now (omega (arith, lt, enough)) c.index_mut.ensures.value)
+    (length-set c.self.inside.words.items (c.args.n / 64) _)
 
 pub returns : goal.returns
 returns c =
     let lt = in_row c.self.inside.len c.self.inside.words.items c.args.self.now c.args.n c.self.view_is c.requires in
-    bits_written c.self.inside.len c.self.inside.words.items c.set_bit.new.words.items c.args.n true c.set_bit.ensures.set lt
+    let enough = c.self.invariant.enough in
+    bits_written c.self.inside.len c.self.inside.words.items _ c.args.n true
+    (bit_set c.self.inside.words.items c.args.n c.index_mut.result.now (omega (arith, lt, enough)) c.index_mut.ensures.value) lt
     ∙ ap (λ (bs : List Bool). set bs c.args.n true) c.self.view_is
 
 pub returns-then-has_bit : goal.returns-then-has_bit
@@ -35,8 +40,8 @@ returns-then-has_bit c =
     ∙ bit_there c.self.inside.len c.self.inside.words.items c.args.n lt
     ∙ ap (λ (ws : List ℕ). bit_of ws c.args.n) (sym c.as_slice.ensures.value) ∙ sym c.has_bit.ensures ∙ c.if-has_bit.true)
 
-pub set_bit-requires : goal.set_bit-requires
-set_bit-requires c =
+pub index_mut-requires : goal.index_mut-requires
+index_mut-requires c =
     let lt = in_row c.self.inside.len c.self.inside.words.items c.args.self.now c.args.n c.self.view_is c.requires in
     let enough = c.self.invariant.enough in
     omega (arith, lt, enough)

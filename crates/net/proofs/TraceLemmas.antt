@@ -174,16 +174,19 @@ module _ (w : Whose) (streams next : ℕ → Option Seen) (l : List PortRecord) 
       → trace w next l ≡ with_pause s b (trace w streams l)
   tells_pause b is_open_now set = λ i. record (trace w streams l) { paused = λ o. paused_at b o is_open_now (set o) (nat_eq s o) refl i }
 
+  same_case : (now : Option Seen) → now ≡ streams s → (o : ℕ) → next o ≡ cond (nat_eq s o) now (streams o)
+      → (c : Bool) → nat_eq s o ≡ c → next o ≡ streams o
+  same_case now same o set true is = set ∙ ap (λ c. cond c now (streams o)) is ∙ same ∙ ap streams (eqb-true s o is)
+  same_case now same o set false is = set ∙ ap (λ c. cond c now (streams o)) is
+
+  -- a stream that is set to what it was
+  pub set_same : (now : Option Seen) → now ≡ streams s → IsSet s now streams next → (o : ℕ) → next o ≡ streams o
+  set_same now same set o = same_case now same o (set o) (nat_eq s o) refl
+
   -- a stream that took no bytes is as it was
   sent_none : (n : Option Seen) → option_map (then_sent []) n ≡ n
   sent_none None = refl
   sent_none (Some x) = λ i. Some (record x { sent = append-nil x.sent i })
 
-  same_case : (o : ℕ) → next o ≡ cond (nat_eq s o) (option_map (then_sent []) (streams s)) (streams o)
-      → (c : Bool) → nat_eq s o ≡ c → next o ≡ streams o
-  same_case o set true is = set ∙ ap (λ c. cond c (option_map (then_sent []) (streams s)) (streams o)) is ∙ sent_none (streams s)
-      ∙ ap streams (eqb-true s o is)
-  same_case o set false is = set ∙ ap (λ c. cond c (option_map (then_sent []) (streams s)) (streams o)) is
-
   pub sent_no_bytes : IsSet s (option_map (then_sent []) (streams s)) streams next → (o : ℕ) → next o ≡ streams o
-  sent_no_bytes set o = same_case o (set o) (nat_eq s o) refl
+  sent_no_bytes set = set_same (option_map (then_sent []) (streams s)) (sent_none (streams s)) set

@@ -1,22 +1,22 @@
 //! One open session's stream: what its input and its output are doing.
 
-ghost use Rattle.std.specs.Prelude.{◌≡◌, ◌≤◌, ◌<◌, ◌++◌, ℕ, ℤ, List, true, false, length, take, IfOk, IsSome};
+ghost use Rattle.std.specs.Prelude.{◌≡◌, ◌≤◌, ◌<◌, ◌++◌, ℕ, ℤ, List, true, false, length, take, IfOk};
 ghost use Rattle.proto.specs.declared.message.Message.{Message};
 ghost use Rattle.proto.specs.Reading.{Reads, asks};
 ghost use Rattle.exchange.specs.Beginnings.{StartsWith};
 ghost use Rattle.net.specs.Seen.{Seen, fresh, then_received, then_sent, then_paused};
 ghost use Rattle.net.specs.Sockets.{IsNewLog};
-ghost use Rattle.net.specs.Shown.{seen_of, Arrives, listing, Lists, is_listed, is_paused_input};
+ghost use Rattle.net.specs.Shown.{seen_of, Arrives, listing, Lists};
 ghost use Rattle.worker_port.specs.Giving.{MayBeSent, by_system_clock, sent_for};
 
-use crate::owner::Owner;
 use crate::sockets::ServedStream;
+use crate::streams::Owner;
 use bytes::Bytes;
 use exchange::{ExchangeName, WorkerBatch};
 use mio::event::Event;
 use std::alloc::Global;
 use std::collections::VecDeque;
-use std::io::{self, ErrorKind};
+use std::io::ErrorKind;
 use worker_port::{Gone, ToldHistory};
 
 /// A session that was idle at this many looks in a row, and at one more, is ended.
@@ -159,9 +159,16 @@ impl OpenStream {
         ensures arrives { Arrives (seen_of self.old) result (seen_of self.new) }
         ensures behind { ready.new.items ≡ ready.old.items ++ listing session self.new }
     {
-        let Some(drains) = self.take_turn() else {
+        let input = self.input;
+        if let Input::Paused { .. } = input {
+            self.input = Input::Paused { is_listed: false };
             return Reading::Nothing;
-        };
+        }
+        self.input = Input::Waiting;
+        if matches!(input, Input::Waiting) || self.stream.has_ended {
+            return Reading::Nothing;
+        }
+        let drains = matches!(input, Input::Draining);
         match self.stream.read(owner, exchange, session, sender, scratch) {
             Ok(0) => Reading::Ended,
             Ok(count) => {
@@ -173,27 +180,9 @@ impl OpenStream {
                 }
                 piece_of(alloc, &scratch[..count])
             }
-            Err(error) => failed(&error),
+            Err(error) if error.kind() == ErrorKind::WouldBlock => Reading::Nothing,
+            Err(_) => Reading::Gone,
         }
-    }
-
-    /// Takes note that the stream was taken off the list. It says whether the stream drains, or None if it isn't to be read.
-    fn take_turn(&mut self) -> Option<bool>
-        ensures seen { seen_of self.new ≡ seen_of self.old }
-        ensures off_list { is_listed self.new.input ≡ false }
-        ensures goes_on { IsSome result → self.old.stream.has_ended ≡ false }
-        ensures reads { IsSome result → is_paused_input self.old.input ≡ false }
-    {
-        let input = self.input;
-        if let Input::Paused { .. } = input {
-            self.input = Input::Paused { is_listed: false };
-            return None;
-        }
-        self.input = Input::Waiting;
-        if matches!(input, Input::Waiting) || self.stream.has_ended {
-            return None;
-        }
-        Some(matches!(input, Input::Draining))
     }
 
     /// Writes once, after this many looks for idle sessions, unless the stream is known to have no room: a short write is tried
@@ -284,14 +273,4 @@ fn piece_of(alloc: Global, bytes: &[u8]) -> Reading
         Ok(piece) => Reading::Bytes(piece),
         Err(_) => Reading::Gone,
     }
-}
-
-/// What a read that failed brought: nothing, or the peer has gone.
-fn failed(error: &io::Error) -> Reading
-    ensures { (seen : Seen) → Arrives seen result seen }
-{
-    if error.kind() == ErrorKind::WouldBlock {
-        return Reading::Nothing;
-    }
-    Reading::Gone
 }

@@ -62,36 +62,22 @@ impl Polls {
         may_wait: bool,
         is_draining: bool,
     ) -> Option<Duration> {
-        let unpolled = self.unpolled.saturating_add(1);
-        self.unpolled = unpolled;
-        let limit = match knows_event {
-            true => None,
-            false => self.idle_wait(rt, may_wait, is_draining),
-        };
-        let limit = match limit {
-            None if unpolled >= MOST_UNPOLLED => Some(Duration::from_millis(0)),
-            limit => limit,
-        };
-        if limit.is_some() {
-            self.unpolled = 0;
-        }
-        limit
-    }
-
-    /// How long the poll of a call waits that knows of no event; none if it needn't poll.
-    fn idle_wait<R: Clock>(
-        &mut self,
-        rt: &R,
-        may_wait: bool,
-        is_draining: bool,
-    ) -> Option<Duration> {
+        self.unpolled = self.unpolled.saturating_add(1);
         let calls = self.idle_calls;
-        self.idle_calls = calls.saturating_add(1);
+        if !knows_event {
+            self.idle_calls = calls.saturating_add(1);
+        }
+        let is_early = !may_wait && calls % CALLS_EACH_POLL < CALLS_EACH_POLL - 1;
+        let needs_none = knows_event || is_early;
+        if needs_none && self.unpolled < MOST_UNPOLLED {
+            return None;
+        }
+        self.unpolled = 0;
         let millis = match may_wait {
+            _ if needs_none => 0,
             true if self.spins(rt) => 0,
             true if is_draining => DRAINING_WAIT_MILLIS,
             true => WAIT_MILLIS,
-            false if calls % CALLS_EACH_POLL < CALLS_EACH_POLL - 1 => return None,
             false if calls < STALLED_CALLS => 0,
             false => STALLED_WAIT_MILLIS,
         };

@@ -13,9 +13,8 @@ ghost use Rattle.net.specs.Ties.{OpenAgrees, BytesAgree, SocketsAgree};
 use crate::fault::NetFault;
 use crate::hand::Hand;
 use crate::interval::Interval;
-use crate::owner::Owner;
 use crate::polls::Polls;
-use crate::streams::{OPEN_SESSIONS, Streams};
+use crate::streams::{OPEN_SESSIONS, Owner, Streams};
 use exchange::{ExchangeName, WorkerBatch};
 use mio::{Events, Poll};
 use proto::{Gauge, Gauges};
@@ -23,7 +22,7 @@ use std::alloc::Global;
 use std::mem;
 use std::net::Net;
 use std::sync::Wait;
-use std::time::{Clock, Duration};
+use std::time::Clock;
 use worker_port::{Gone, Port, PortEvent, ToldHistory};
 
 /// Events of one poll.
@@ -155,7 +154,7 @@ impl<R: Wait + Clock + Drop> MioPort<R> {
     }
 
     /// Polls the sockets if no event is known yet and the end isn't to be told, unless it is too early; and now and then even
-    /// so. Returns false if there is no event.
+    /// so. No poll waits beyond the next look for idle sessions. Returns false if there is no event.
     fn look(&mut self, may_wait: bool) -> bool
         ensures { TellsNothing self.old.served self.new.served }
     {
@@ -165,19 +164,12 @@ impl<R: Wait + Clock + Drop> MioPort<R> {
             || may_open
             || (self.served.is_empty() && self.hand.is_drained());
         let is_draining = self.served.lingering.is_ready;
-        let limit = self
+        let Some(limit) = self
             .polls
-            .next(&self.rt, knows_event, may_wait, is_draining);
-        if let Some(limit) = limit {
-            self.poll_for(limit);
-        }
-        knows_event || limit.is_some()
-    }
-
-    /// Polls the sockets, for no longer than this, nor beyond the next look for idle sessions.
-    fn poll_for(&mut self, limit: Duration)
-        ensures { TellsNothing self.old.served self.new.served }
-    {
+            .next(&self.rt, knows_event, may_wait, is_draining)
+        else {
+            return knows_event;
+        };
         self.served.drain(&self.rt);
         self.hand.report_closed(self.served.len());
         let limit = match self.idle_looks {
@@ -197,6 +189,7 @@ impl<R: Wait + Clock + Drop> MioPort<R> {
                 self.has_idle = true;
             }
         }
+        true
     }
 
     /// Opens a session for the next stream that waits in the hand and can be served.
@@ -253,11 +246,11 @@ impl<R: Wait + Clock + Drop> Port for MioPort<R> {
     }
 
     fn pause(&mut self, session: u64) {
-        self.served.pause(session);
+        self.served.set_paused(session, true);
     }
 
     fn resume(&mut self, session: u64) {
-        self.served.resume(session);
+        self.served.set_paused(session, false);
     }
 
     fn shut(&mut self, session: u64) {

@@ -1,6 +1,6 @@
 //! The open streams of a port, by their sessions' numbers, and what was told of them.
 
-ghost use Rattle.std.specs.Prelude.{◌≡◌, ◌≤◌, ℕ, true, false, [], ◌∷◌, ◌++◌, length, vec_len, IsTrue, IfOk};
+ghost use Rattle.std.specs.Prelude.{◌≡◌, ◌≤◌, ℕ, [], ◌∷◌, ◌++◌, length, vec_len, IsTrue, IfOk};
 ghost use Rattle.std.specs.Prelude.{MatchOption};
 ghost use Rattle.worker_port.specs.declared.events.PortEvent.TheVariants.{Opened, Gone as Left, Ended};
 ghost use Rattle.worker_port.specs.declared.events.PortRecord.TheVariants.{Shut};
@@ -12,11 +12,10 @@ ghost use Rattle.net.specs.Ties.{Ties, SocketTies};
 use crate::hand::WAKER;
 use crate::lingering::LingeringStreams;
 use crate::open_stream::{Heard, OpenStream, Reading};
-use crate::owner::Owner;
 use crate::sockets::{EndedStream, NewStream, SocketNote};
 use exchange::{ExchangeName, WorkerBatch};
 use mio::{Events, Poll};
-use proto::Trace;
+use proto::{Dialect, Geometry, Trace};
 use std::alloc::{AllocError, Global};
 use std::collections::{HashMap, VecDeque};
 use std::snapshot::Snapshot;
@@ -25,6 +24,14 @@ use worker_port::{Gone, MAX_PIECE, PortEvent, PortNote, PortRecord, ToldHistory}
 
 /// The most sessions of a port that are open at a time, with those that were shut and are read still.
 pub(crate) const OPEN_SESSIONS: usize = 1024;
+
+/// The worker whose port it is, the sizes by which its histories are judged, and the dialect by which it reads.
+#[derive(Clone, Copy)]
+pub struct Owner {
+    pub geometry: Geometry,
+    pub dialect: Dialect,
+    pub worker: usize,
+}
 
 /// The open streams, which of them are to be read, in turn, and what was told.
 #[derive(Drop)]
@@ -118,7 +125,8 @@ impl Streams {
         Some(session)
     }
 
-    /// Takes note of what a poll brought, and says whether the hand woke it.
+    /// Takes note of what a poll brought, and says whether the hand woke it. An event that isn't of an open stream is of those
+    /// that were shut.
     pub(crate) fn hear_all(&mut self, events: &Events) -> bool
         ensures { TellsNothing self.old self.new }
     {
@@ -126,23 +134,17 @@ impl Streams {
         for event in events {
             if event.token() == WAKER {
                 was_woken = true;
-            } else {
-                self.hear(Heard::of(event));
+                continue;
             }
+            let heard = Heard::of(event);
+            let Some(open) = self.open.get_mut(&heard.session) else {
+                self.lingering.is_ready = true;
+                continue;
+            };
+            let has_room = open.hear(heard, self.looks, &mut self.ready);
+            self.has_room = self.has_room || has_room;
         }
         was_woken
-    }
-
-    /// Takes note of an event. One that isn't of an open stream is of those that were shut.
-    fn hear(&mut self, heard: Heard)
-        ensures { TellsNothing self.old self.new }
-    {
-        let Some(open) = self.open.get_mut(&heard.session) else {
-            self.lingering.is_ready = true;
-            return;
-        };
-        let has_room = open.hear(heard, self.looks, &mut self.ready);
-        self.has_room = self.has_room || has_room;
     }
 
     /// Reads those that were shut, and closes those that were read for long enough.
@@ -270,23 +272,15 @@ impl Streams {
         answer
     }
 
-    pub(crate) fn pause(&mut self, session: u64)
+    pub(crate) fn set_paused(&mut self, session: u64, is_paused: bool)
         requires { HasOpen session (trace_of self.old) }
-        ensures told { trace_of self.new ≡ with_pause session true (trace_of self.old) }
+        ensures told { trace_of self.new ≡ with_pause session is_paused (trace_of self.old) }
         ensures sockets { KeepsSockets self.old self.new }
     {
-        if let Some(open) = self.open.get_mut(&session) {
-            open.pause();
-        }
-    }
-
-    pub(crate) fn resume(&mut self, session: u64)
-        requires { HasOpen session (trace_of self.old) }
-        ensures told { trace_of self.new ≡ with_pause session false (trace_of self.old) }
-        ensures sockets { KeepsSockets self.old self.new }
-    {
-        if let Some(open) = self.open.get_mut(&session) {
-            open.resume(session, &mut self.ready);
+        match self.open.get_mut(&session) {
+            Some(open) if is_paused => open.pause(),
+            Some(open) => open.resume(session, &mut self.ready),
+            None => {}
         }
     }
 

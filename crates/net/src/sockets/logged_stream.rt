@@ -9,7 +9,7 @@ ghost use Rattle.exchange.specs.Beginnings.{StartsWith};
 ghost use Rattle.worker_port.specs.Giving.{MayBeSent, by_system_clock, sent_for};
 ghost use Rattle.std.specs.Io.KnownBytes.{ReadConsumes, WriteAppends};
 
-use crate::owner::Owner;
+use crate::streams::Owner;
 use exchange::{ExchangeName, WorkerBatch};
 use mio::net::TcpStream;
 use proto::{Noted, Trace};

@@ -22,8 +22,7 @@ use Rattle.proto.specs.Lines.{IsSearched, line_text}
 use Rattle.proto.specs.Needs.{NeedsMore}
 use Rattle.proto.specs.PlainReader.{message_by}
 use Rattle.proto.proofs.Options.{some_is, none_is_some}
-use Rattle.session_book.specs.Input.{InputState, MayDrop, Begins, BeginsBy, Takes, put_by}
-use Rattle.session_book.specs.declared.input.OwnedLine.{OwnedLine}
+use Rattle.session_book.specs.Input.{InputState, MayDrop, Takes}
 use Rattle.session_book.proofs.Inputs.{none_gone}
 use Rattle.session_book.proofs.Needing.{needs_one}
 use Rattle.std.proofs.Common.{subst}
@@ -119,54 +118,15 @@ taken_out i d gone kept left need n m same none within spells left_is =
       taken = ap (λ (x : List ℕ). record { dialect = d; unread = x; need = 1 }) left_is;
     }))
 
--- What the kept bytes begin with, where none were dropped.
-pub record BeginsKept (d : Dialect) (kept : List ℕ) (m : Message) (n : ℕ) : Type 0 where
-  pub within : n ≤ length kept
-  pub spells : Spells d (take n kept) m
-
-pub begins_kept : (i : InputState) (d : Dialect) (gone kept : List ℕ) (need n : ℕ) (m : Message)
-    → record { dialect = d; unread = gone ++ kept; need = need } ≡ i → gone ≡ [] → Begins i m n → BeginsKept d kept m n
-begins_kept i d gone kept need n m same none h =
-    let found : Begins (record { dialect = d; unread = gone ++ kept; need = need }) m n =
-    subst (λ (j : InputState). Begins j m n) (sym same) h in
-    let unread : gone ++ kept ≡ kept = ap (λ (x : List ℕ). x ++ kept) none in
-    record {
-      within = subst (λ (b : List ℕ). n ≤ length b) unread found.within;
-      spells = subst (λ (b : List ℕ). Spells d (take n b) m) unread found.spells;
-    }
-
--- The request of a line whose block has this size: its value stands before the last two of the first n bytes, and none were dropped.
-pub record Cut (d : Dialect) (gone kept : List ℕ) (line : OwnedLine) (value : List ℕ) (size n : ℕ) : Type 0 where
-  pub none : gone ≡ []
-  pub begins : BeginsKept d kept (message_by line.mode (put_by line value) line.noreply) n
-  pub fits : size + 2 ≤ n
-  pub cut : drop (n - 2 - size) (take (n - 2) kept) ≡ value
-
-pub cut_by : (i : InputState) (d : Dialect) (gone kept : List ℕ) (need size n : ℕ) (quiet : Bool) (line : OwnedLine)
-    → record { dialect = d; unread = gone ++ kept; need = need } ≡ i → MayDrop d gone kept need quiet → i.need ≤ MAX_KEPT
-    → (h : BeginsBy i line size n) → Cut d gone kept line h.value size n
-cut_by i d gone kept need size n quiet line same may few h =
-    let none = none_gone d gone kept need quiet may (subst (λ (j : InputState). j.need ≤ MAX_KEPT) (sym same) few) in
-    let begins = begins_kept i d gone kept need n (message_by line.mode (put_by line h.value) line.noreply) same none h.begins in
-    let found = data_within d kept line.mode (put_by line h.value) line.noreply n begins.within begins.spells in
-    record {
-      none = none;
-      begins = begins;
-      fits = subst (λ (k : ℕ). k + 2 ≤ n) h.size_is found.0;
-      cut = subst (λ (k : ℕ). drop (n - 2 - k) (take (n - 2) kept) ≡ h.value) h.size_is found.1;
-    }
-
--- the same, where the request was made of a line with the data that were cut out
-pub taken_put : (i : InputState) (d : Dialect) (gone kept left : List ℕ) (need n : ℕ) (line : OwnedLine) (value cut : List ℕ)
-    (q : Request) → record { dialect = d; unread = gone ++ kept; need = need } ≡ i → gone ≡ []
-    → BeginsKept d kept (message_by line.mode (put_by line value) line.noreply) n
-    → Ask q line.noreply ≡ message_by line.mode (put_by line cut) line.noreply → cut ≡ value → left ≡ drop n kept
-    → Takes i (Ask q line.noreply) n (record { dialect = d; unread = gone ++ left; need = 1 })
-taken_put i d gone kept left need n line value cut q same none h made cut_is left_is =
-    let message : Ask q line.noreply ≡ message_by line.mode (put_by line value) line.noreply =
-    made ∙ ap (λ (v : List ℕ). message_by line.mode (put_by line v) line.noreply) cut_is in
-    taken_out i d gone kept left need n (Ask q line.noreply) same none h.within
-    (subst (λ (m : Message). Spells d (take n kept) m) (sym message) h.spells) left_is
+-- the same, where the request stores what the parser found
+pub taken_put : (i : InputState) (d : Dialect) (gone kept left : List ℕ) (need n : ℕ) (how : StoreMode) (found made : Put) (quiet : Bool)
+    (q : Request) → record { dialect = d; unread = gone ++ kept; need = need } ≡ i → gone ≡ [] → n ≤ length kept
+    → Spells d (take n kept) (message_by how found quiet) → Ask q quiet ≡ message_by how made quiet → made ≡ found
+    → left ≡ drop n kept → Takes i (Ask q quiet) n (record { dialect = d; unread = gone ++ left; need = 1 })
+taken_put i d gone kept left need n how found made quiet q same none within spells q_is made_is left_is =
+    let message : Ask q quiet ≡ message_by how found quiet = q_is ∙ ap (λ (p : Put). message_by how p quiet) made_is in
+    taken_out i d gone kept left need n (Ask q quiet) same none within
+    (subst (λ (m : Message). Spells d (take n kept) m) (sym message) spells) left_is
 
 -- what is left is read anew
 pub taken_anew : (d : Dialect) (gone kept left : List ℕ) (old count : ℕ) (quiet_then quiet : Bool)

@@ -9,9 +9,6 @@ use Rattle.proto.specs.declared.message.LocalKind.TheVariants as local
 use Rattle.proto.specs.declared.no_memory.NoMemory.{NoMemory}
 use Rattle.proto.specs.Grammar.{Spells}
 use Rattle.proto.specs.Needs.{IsUnfinished}
-use Rattle.proto.specs.PlainReader.{message_by}
-use Rattle.proto.specs.declared.message.Put.{Put}
-use Rattle.session_book.specs.declared.input.OwnedLine.{OwnedLine}
 use Rattle.session_book.specs.declared.input.Found.{Found}
 use Rattle.session_book.specs.declared.input.Found.TheVariants as found
 
@@ -37,20 +34,10 @@ pub record IsDropping (d : Dialect) (gone kept : List ℕ) (need : ℕ) (quiet :
 abbrev pub MayDrop : Dialect → List ℕ → List ℕ → ℕ → Bool → Type 0
 MayDrop d gone kept need quiet = IsDropping d gone kept need quiet ⊎ ((need ≤ MAX_KEPT) × (gone ≡ []))
 
--- what the line says, with this value
-abbrev pub put_by : OwnedLine → List ℕ → Put
-put_by line value = record { key = line.key; flags = line.flags; exptime = line.exptime; value = value }
-
 -- the first n bytes spell the message
 pub record Begins (i : InputState) (m : Message) (n : ℕ) : Type 0 where
   pub within : n ≤ length i.unread
   pub spells : Spells i.dialect (take n i.unread) m
-
--- the first n bytes spell the request of this line, whose block has this size
-pub record BeginsBy (i : InputState) (line : OwnedLine) (size n : ℕ) : Type 0 where
-  pub value : List ℕ
-  pub size_is : length value ≡ size
-  pub begins : Begins i (message_by line.mode (put_by line value) line.noreply) n
 
 -- the first n bytes, which spell the message, are taken away
 pub record Takes (before : InputState) (m : Message) (n : ℕ) (after : InputState) : Type 0 where

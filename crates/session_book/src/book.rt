@@ -1,6 +1,6 @@
 //! The sessions of one worker: reading what they were fed, and answering in the order of their messages.
 
-ghost use Rattle.std.specs.Prelude.{ℕ, ◌≡◌, ◌⊎◌, ◌+◌, ◌≤◌, ◌<◌, ◌↔◌, ◌++◌, ◌∷◌, [], length, is_some, option_map};
+ghost use Rattle.std.specs.Prelude.{ℕ, ◌≡◌, ◌⊎◌, ◌+◌, ◌≤◌, ◌<◌, ◌↔◌, [], length, is_some, option_map};
 ghost use Rattle.std.specs.Prelude.{slice_get};
 ghost use Rattle.std.specs.Prelude.{IfSome, IsSome, OnOk, OnErr};
 ghost use Rattle.session_book.specs.Session.{SessionState, IsEmptied, new_session, gave, finished_by, once_input_ended};
@@ -11,8 +11,6 @@ ghost use Rattle.std.specs.Option.{option_and_then};
 ghost use Rattle.proto.specs.declared.limits.TheConstants.{WINDOW};
 ghost use Rattle.indexmap.specs.IndexMap.{index_map_len};
 ghost use Rattle.std.specs.Map.{lookup};
-ghost use Rattle.std.specs.VecDeque.{deque_len, deque_capacity};
-ghost use Rattle.proto.specs.declared.limits.TheConstants.{MAX_SESSIONS, MAX_POSTS};
 ghost use Rattle.session_book.specs.BookInside.{ChangesAt};
 
 use crate::causes::{EndCause, OpenFault, Received, Settled, Unsettled};
@@ -107,28 +105,19 @@ impl Book {
             ≡ record self.old { sessions = self.new.sessions; greatest = session; opened = self.old.opened + 1 }) }
         ensures err { OnErr result (self.new ≡ self.old) }
     {
-        if self.is_known(session) {
+        if session <= self.greatest || self.opened >= MAX_SESSIONS {
             return Err(OpenFault::Known);
         }
         if self.upkeep.ready.reserve(self.sessions.len() + 1).is_err() {
             return Err(OpenFault::NoMemory);
         }
         let new = Session::new(self.alloc, self.dialect);
-        let Ok(()) = insert(&mut self.sessions, session, new) else {
+        let Ok(_) = self.sessions.insert(session, new) else {
             return Err(OpenFault::NoMemory);
         };
         self.greatest = session;
         self.opened += 1;
         Ok(())
-    }
-
-    /// Whether no session can be opened with this number.
-    fn is_known(&self, session: u64) -> bool
-        ensures known { OnTrue result (IsKnown self.now session) }
-        ensures above { OnFalse result (self.now.greatest < session) }
-        ensures room { OnFalse result (self.now.opened < MAX_SESSIONS) }
-    {
-        session <= self.greatest || self.opened >= MAX_SESSIONS
     }
 
     /// Puts a piece of input after the unread bytes, or holds it until it fits. A session that has read Quit or a fatal
@@ -183,7 +172,10 @@ impl Book {
             return Ok(None);
         };
         self.upkeep.asked(&mut request);
-        let number = give_number(&mut self.unsettled, &mut self.numbered, session);
+        self.numbered += 1;
+        let number = self.numbered;
+        self.unsettled
+            .push_back_reserved(Unsettled { number, session });
         Ok(Some((request, number)))
     }
 
@@ -197,7 +189,7 @@ impl Book {
             number: answered.number,
             session,
         };
-        if !is_oldest(&self.unsettled, asked) {
+        if self.unsettled.front() != Some(&asked) {
             return Settled::Stranger;
         }
         self.unsettled.pop_front();
@@ -343,7 +335,7 @@ impl Book {
                 fullest = Some(*session);
             }
         }
-        if !is_too_much(most, others) {
+        if others == 0 || most.saturating_add(others) <= MAX_OUTPUT {
             return None;
         }
         fullest
@@ -451,42 +443,6 @@ fn find(sessions: &IndexMap<u64, Session>, session: u64, place: &mut usize) -> O
     Some(found)
 }
 
-/// Whether this is the oldest unsettled request.
-fn is_oldest(unsettled: &VecDeque<Unsettled>, asked: Unsettled) -> bool
-    ensures oldest { OnTrue result (slice_get unsettled.now.items 0 ≡ Some asked) }
-    ensures stranger { OnFalse result (¬ (slice_get unsettled.now.items 0 ≡ Some asked)) }
-{
-    unsettled.front() == Some(&asked)
-}
-
-/// Gives a request of the session the next number, and notes it as unsettled.
-fn give_number(unsettled: &mut VecDeque<Unsettled>, numbered: &mut u64, session: u64) -> u64
-    requires room { deque_len unsettled.old < deque_capacity unsettled.old }
-    requires below { numbered.old < MAX_POSTS }
-    ensures next { result ≡ numbered.old + 1 }
-    ensures numbered { numbered.new ≡ numbered.old + 1 }
-    ensures noted { unsettled.new.items
-        ≡ unsettled.old.items ++ record { number = numbered.old + 1; session = session } ∷ [] }
-{
-    *numbered += 1;
-    unsettled.push_back_reserved(Unsettled {
-        number: *numbered,
-        session,
-    });
-    *numbered
-}
-
-/// Puts a session into the table. NoMemory if out of memory: then it stays as it is.
-fn insert(sessions: &mut IndexMap<u64, Session>, session: u64, new: Session) -> Result<(), NoMemory>
-    ensures ok { OnOk result (ChangesAt sessions.old.entries session (Some new) sessions.new.entries) }
-    ensures err { OnErr result (sessions.new.entries ≡ sessions.old.entries) }
-{
-    match sessions.insert(session, new) {
-        Ok(_) => Ok(()),
-        Err(_) => Err(NoMemory),
-    }
-}
-
 /// Closes a session, if it is open. What is left of its input and its output counts no more.
 fn remove(sessions: &mut IndexMap<u64, Session>, session: u64, load: &mut Load)
     ensures { ChangesAt sessions.old.entries session None sessions.new.entries }
@@ -494,13 +450,4 @@ fn remove(sessions: &mut IndexMap<u64, Session>, session: u64, load: &mut Load)
     if let Some(open) = sessions.swap_remove(&session) {
         open.forget(load);
     }
-}
-
-/// Whether more output waits than may, and not in one session alone: the most of a session, and what the others have.
-fn is_too_much(most: usize, others: usize) -> bool
-    ensures some { OnTrue result (0 < others) }
-    ensures much { OnTrue result (MAX_OUTPUT < most + others) }
-    ensures few { OnFalse result ((others ≡ 0) ⊎ (most + others ≤ MAX_OUTPUT)) }
-{
-    others > 0 && most.saturating_add(others) > MAX_OUTPUT
 }

@@ -5,12 +5,12 @@ ghost use Rattle.std.specs.Bool.{OnTrue, OnFalse};
 ghost use Rattle.proto.specs.declared.message.Message.{Message};
 ghost use Rattle.proto.specs.declared.limits.TheConstants.{MAX_KEPT};
 ghost use Rattle.proto.specs.Grammar.{SpellsNone};
-ghost use Rattle.proto.specs.Needs.{IsUnfinished, IsDropped};
+ghost use Rattle.proto.specs.Needs.{IsDropped};
 
 use crate::buffer::{Buffer, SpareBuffers, Use};
 use proto::{
     ByteString, Dialect, LocalKind, MAX_KEPT, Message, MessageView, NextView, NoMemory, Put,
-    Request, StoreMode, Trace, next_view_behind, request_to_store, to_message,
+    Request, Trace, next_view_behind, request_to_store, to_message,
 };
 use std::alloc::Global;
 use std::marker::Model;
@@ -25,17 +25,6 @@ pub(crate) enum Found {
     /// A request whose block is large, whether `noreply` was given, and how many bytes spelled it. They were taken out of the
     /// input: the value has their memory.
     Taken(Request, bool, usize),
-}
-
-/// What the line of a request says whose block is large.
-#[derive(Drop)]
-struct OwnedLine {
-    mode: StoreMode,
-    key: ByteString,
-    flags: u32,
-    exptime: i64,
-    /// Whether `noreply` was given.
-    noreply: bool,
 }
 
 /// Unread bytes. Contracts see those that were dropped too.
@@ -72,7 +61,7 @@ impl Model for Input {
 }
 
 impl Input {
-    ghost use Rattle.session_book.specs.Input.{InputState, kept_length, Begins, BeginsBy, Finds};
+    ghost use Rattle.session_book.specs.Input.{InputState, kept_length, Begins, Finds};
 
     pub fn new(alloc: Global, dialect: Dialect) -> Self
         ensures { result ≡ record { dialect = dialect; unread = []; need = 1 } }
@@ -135,46 +124,37 @@ impl Input {
         ensures { Finds self.old result self.new }
     {
         if self.need > MAX_KEPT {
-            return Ok(self.dropped());
+            // All bytes of a message that is dropped have come.
+            let message = Message::Local(LocalKind::TooLarge(self.noreply));
+            return Ok(Found::Copied(message, self.need));
         }
         match next_view_behind(self.dialect, self.kept.as_slice(), &mut self.searched) {
             NextView::Found(MessageView::Put(head, data), length)
                 if self.kept.is_worth_taking(length) => {
-                let size = data.len();
-                let line = OwnedLine {
-                    mode: head.mode,
-                    key: ByteString::from_slice(alloc, head.key)?,
-                    flags: head.flags,
-                    exptime: head.exptime,
-                    noreply: head.noreply,
+                // The request is taken out of the bytes: its value has their memory.
+                let (mode, flags, exptime) = (head.mode, head.flags, head.exptime);
+                let noreply = head.noreply;
+                let key = ByteString::from_slice(alloc, head.key)?;
+                let end = length - 2;
+                let start = end - data.len();
+                let value = self.kept.take_part(start, end, length, spares)?;
+                self.searched = 0;
+                self.need = 1;
+                let put = Put {
+                    key,
+                    flags,
+                    exptime,
+                    value,
                 };
-                self.take_request(line, size, length, spares)
+                Ok(Found::Taken(request_to_store(mode, put), noreply, length))
             }
             NextView::Found(view, length) => Ok(Found::Copied(to_message(alloc, view)?, length)),
-            NextView::More(need) => Ok(self.wait_for(need)),
+            NextView::More(count) => {
+                self.need = count;
+                Ok(Found::Nothing)
+            }
             NextView::Drop(need, noreply) => Ok(self.start_dropping(need, noreply, spares)),
         }
-    }
-
-    /// The message whose bytes were dropped, all of which have come.
-    fn dropped(&self) -> Found
-        requires large { MAX_KEPT < self.now.need }
-        requires whole { self.now.need ≤ length self.now.unread }
-        ensures { Finds self.now (Ok result) self.now }
-    {
-        let message = Message::Local(LocalKind::TooLarge(self.noreply));
-        Found::Copied(message, self.need)
-    }
-
-    /// The message isn't whole: the parser is asked again once so many bytes are there.
-    fn wait_for(&mut self, count: usize) -> Found
-        requires none_dropped { self.old.need ≤ MAX_KEPT }
-        requires unfinished { IsUnfinished self.old.dialect self.old.unread count }
-        requires few { count ≤ MAX_KEPT }
-        ensures { Finds self.old (Ok result) self.new }
-    {
-        self.need = count;
-        Found::Nothing
     }
 
     /// The message is too large, and isn't kept: what there is of it is dropped, and so is what comes of it.
@@ -190,38 +170,6 @@ impl Input {
         self.need = need;
         self.noreply = noreply;
         Found::Nothing
-    }
-
-    /// Takes a request out of the bytes, of which the first `n` spell it: its value, of this size, has their memory.
-    fn take_request(
-        &mut self,
-        line: OwnedLine,
-        size: usize,
-        n: usize,
-        spares: &mut SpareBuffers,
-    ) -> Result<Found, NoMemory>
-        requires none_dropped { self.old.need ≤ MAX_KEPT }
-        requires begins { BeginsBy self.old line size n }
-        ensures { Finds self.old result self.new }
-    {
-        let OwnedLine {
-            mode,
-            key,
-            flags,
-            exptime,
-            noreply,
-        } = line;
-        let end = n - 2;
-        let value = self.kept.take_part(end - size, end, n, spares)?;
-        self.searched = 0;
-        self.need = 1;
-        let put = Put {
-            key,
-            flags,
-            exptime,
-            value,
-        };
-        Ok(Found::Taken(request_to_store(mode, put), noreply, n))
     }
 
     /// Takes away the bytes of the message that was found.

@@ -33,27 +33,6 @@ struct BookCounts {
     too_large: u64,
 }
 
-impl BookCounts {
-    /// Counts a message of this length that was read.
-    fn count(&mut self, message: &Message, length: usize) {
-        self.unread = self.unread.wrapping_sub(length as u64);
-        match message {
-            Message::Ask(..) | Message::Quit => {}
-            Message::Local(LocalKind::Unknown) => self.unknown = self.unknown.wrapping_add(1),
-            Message::Local(LocalKind::BadLine) => self.bad_lines = self.bad_lines.wrapping_add(1),
-            Message::Local(LocalKind::TooLarge(_)) => self.refused_item(),
-            Message::Local(_) => {}
-            Message::Fatal(FatalKind::Binary) => self.binary = self.binary.wrapping_add(1),
-            Message::Fatal(_) => self.malformed = self.malformed.wrapping_add(1),
-        }
-    }
-
-    /// Counts a storage command that was refused as too large.
-    fn refused_item(&mut self) {
-        self.too_large = self.too_large.wrapping_add(1);
-    }
-}
-
 /// How much is unfinished in all sessions of a book, and what it counts for `stats`. No clause speaks of it.
 #[derive(Clone, Copy, Default)]
 pub(crate) struct Load {
@@ -89,7 +68,19 @@ impl Load {
 
     /// A message of this length was read.
     pub(crate) fn read(&mut self, message: &Message, length: usize) {
-        self.counts.count(message, length);
+        let counts = &mut self.counts;
+        counts.unread = counts.unread.wrapping_sub(length as u64);
+        match message {
+            Message::Ask(..) | Message::Quit => {}
+            Message::Local(LocalKind::Unknown) => counts.unknown = counts.unknown.wrapping_add(1),
+            Message::Local(LocalKind::BadLine) => {
+                counts.bad_lines = counts.bad_lines.wrapping_add(1);
+            }
+            Message::Local(LocalKind::TooLarge(_)) => self.refused_item(),
+            Message::Local(_) => {}
+            Message::Fatal(FatalKind::Binary) => counts.binary = counts.binary.wrapping_add(1),
+            Message::Fatal(_) => counts.malformed = counts.malformed.wrapping_add(1),
+        }
     }
 
     /// Whether so much is on its way that one request at a time goes on.
@@ -122,7 +113,7 @@ impl Load {
 
     /// A storage command was refused as too large.
     pub(crate) fn refused_item(&mut self) {
-        self.counts.refused_item();
+        self.counts.too_large = self.counts.too_large.wrapping_add(1);
     }
 
     /// So many bytes of output are to be given.

@@ -82,7 +82,7 @@ impl Model for Session {
 
 impl Session {
     ghost use Rattle.session_book.specs.Session.{new_session, IsInputFull, once_fed, TakesPiece, FeedsHeld};
-    ghost use Rattle.session_book.specs.Session.{ReadsNext, TriesNext, ReadsAsk};
+    ghost use Rattle.session_book.specs.Session.{TriesNext, ReadsAsk};
     ghost use Rattle.session_book.specs.Session.{with_reply, gave, finished_by, once_input_ended, HasReadAll, IsReady};
     ghost use Rattle.session_book.specs.Session.{IsEmptied, Stops};
 
@@ -151,12 +151,25 @@ impl Session {
         Ok(true)
     }
 
-    /// Reads the next message, of which there may be none yet. The bytes are read in place, and a request is copied out of them
-    /// once; one with a large block takes their memory.
-    fn read_message(&mut self, upkeep: &mut Upkeep) -> Result<Option<Message>, NoMemory>
-        requires { IsReady self.old }
-        ensures { ReadsNext self.old result self.new }
+    /// Reads the next message if the parser is to be called, and counts that call. The bytes are read in place, and a request is
+    /// copied out of them once; one with a large block takes their memory. With a message, `unsettled` has room for a request.
+    /// NoMemory if out of memory: then the message stays unread.
+    fn next_message(
+        &mut self,
+        unsettled: &mut VecDeque<Unsettled>,
+        looks: &mut u64,
+        upkeep: &mut Upkeep,
+    ) -> Result<Option<Message>, NoMemory>
+        ensures tries { TriesNext self.old looks.old result self.new looks.new }
+        ensures kept { unsettled.new.items ≡ unsettled.old.items }
+        ensures room { (message : Message) → result ≡ Ok (Some message)
+            → deque_len unsettled.new < deque_capacity unsettled.new }
     {
+        if !self.is_ready() {
+            return Ok(None);
+        }
+        unsettled.reserve(1)?;
+        *looks = looks.saturating_add(1);
         self.queue.reserve(1)?;
         match self.input.next(self.alloc, &mut upkeep.spares)? {
             Found::Nothing => Ok(None),
@@ -174,27 +187,6 @@ impl Session {
                 Ok(Some(message))
             }
         }
-    }
-
-    /// Reads the next message if the parser is to be called, and counts that call. With a message, `unsettled` has room for a
-    /// request. NoMemory if out of memory: then the message stays unread.
-    fn next_message(
-        &mut self,
-        unsettled: &mut VecDeque<Unsettled>,
-        looks: &mut u64,
-        upkeep: &mut Upkeep,
-    ) -> Result<Option<Message>, NoMemory>
-        ensures tries { TriesNext self.old looks.old result self.new looks.new }
-        ensures kept { unsettled.new.items ≡ unsettled.old.items }
-        ensures room { (message : Message) → result ≡ Ok (Some message)
-            → deque_len unsettled.new < deque_capacity unsettled.new }
-    {
-        if !self.is_ready() {
-            return Ok(None);
-        }
-        unsettled.reserve(1)?;
-        *looks = looks.saturating_add(1);
-        self.read_message(upkeep)
     }
 
     /// Reads messages up to and including the next request, and counts the calls of the parser. On Ok, `unsettled` has room

@@ -46,20 +46,12 @@ impl Upkeep {
     pub(crate) fn settled(&mut self, answered: Answered, length: usize) {
         let Answered { request, reply, .. } = answered;
         self.load.settled(&request, length);
-        self.keep_hits(reply);
-        self.keep_value(request);
-    }
-
-    fn keep_hits(&mut self, reply: Reply) {
         if matches!(reply, Reply::TooLarge) {
             self.load.refused_item();
         }
         if let Some(spare) = reply.into_buffer() {
             self.spares.keep(Use::Hits, spare.into_bytes());
         }
-    }
-
-    fn keep_value(&mut self, request: Request) {
         if let Some(spare) = request.into_buffer() {
             let bytes = spare.into_bytes();
             if bytes.capacity() >= LARGE_MESSAGE {

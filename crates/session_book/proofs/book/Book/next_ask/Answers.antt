@@ -69,25 +69,25 @@ invariant_of-self-2 c =
     let p = placed c.self.inside.sessions c.in-Some.place c.args.session _ s e.unique e.value c.in-Some.ensures.at in
     asks_book _ _ c.args.session (c.self.inside.numbered + 1) s t c.in-Some-2.request c.next_ask-read.result
     c.self.inside.looks c.next_ask-read.new.looks c.self.invariant p.there (p.only t) refl
-    (c.give_number-number.ensures.noted ∙ ap (λ (us : List Unsettled). us ++ given ∷ []) c.next_ask-read.ensures.kept)
+    (c.push_back_reserved.ensures.items ∙ ap (λ (us : List Unsettled). us ++ given ∷ []) c.next_ask-read.ensures.kept)
     (c.in_ok-request.was ∙ ap (λ (o : Option Request). Ok o) c.in-Some-2.is) (reads_to _ _ _ _ _ _ c.join_queues.ensures c.next_ask-read.ensures.reads)
 
-pub give_number-number-requires-clause-room : goal.give_number-number-requires-clause-room
-give_number-number-requires-clause-room c =
+pub push_back_reserved-requires : goal.push_back_reserved-requires
+push_back_reserved-requires c =
     c.next_ask-read.ensures.room c.in-Some-2.request (c.in_ok-request.was ∙ ap (λ (o : Option Request). Ok o) c.in-Some-2.is)
 
 pub returns-clause-open : goal.returns-clause-open
 returns-clause-open c =
     let given : Unsettled = record { number = c.self.inside.numbered + 1; session = c.args.session } in
-    let unsettled : c.give_number-number.new.unsettled.items ≡ c.self.inside.unsettled.items ++ given ∷ [] =
-    c.give_number-number.ensures.noted ∙ ap (λ (us : List Unsettled). us ++ given ∷ []) c.next_ask-read.ensures.kept in
+    let unsettled : c.push_back_reserved.new.self.items ≡ c.self.inside.unsettled.items ++ given ∷ [] =
+    c.push_back_reserved.ensures.items ∙ ap (λ (us : List Unsettled). us ++ given ∷ []) c.next_ask-read.ensures.kept in
     let e = c.pair_mut-open.ensures in let s = c.pair_mut-open.result.1.now in let t = c.join_queues.new.self in
     let p = placed c.self.inside.sessions c.in-Some.place c.args.session _ s e.unique e.value c.in-Some.ensures.at in
     λ x at.
-    rw (c.asked.ensures, c.give_number-number.ensures.next)
+    rw c.asked.ensures
     (asks_given _ _ c.args.self.now c.args.session s t x c.in-Some-2.request c.next_ask-read.result c.self.view_is
     (record { was_open = p.there; only = p.only t; reads = reads_to _ _ _ _ _ _ c.join_queues.ensures c.next_ask-read.ensures.reads })
     (c.in_ok-request.was ∙ ap (λ (o : Option Request). Ok o) c.in-Some-2.is)
     (subst (λ (b : BookState). length b.unsettled < WINDOW) (sym c.self.view_is)
     (OnFalse_at c.if-is_full.false c.is_full.ensures.room)) (omega (arith, c.if-self-ge-MAX_POSTS.false))
-    (rw (unsettled, c.give_number-number.ensures.numbered) refl) at)
+    (rw unsettled refl) at)

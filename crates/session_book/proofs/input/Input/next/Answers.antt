@@ -1,18 +1,63 @@
-use Rattle.std.proofs.Common.{List, ℕ, subst}
-use Rattle.proto.specs.Needs.{IsUnfinished, IsDropped}
-use Rattle.session_book.proofs.Inputs.{all_kept}
+use mir.Val.{SFits}
+use Rattle.std.proofs.Common.{rules, w64, ◌≡◌, ◌≤◌, ◌+◌, ◌-◌, ℤ, ℕ, List, length, take, drop, refl, sym, ap, subst, ◌∙◌, arith}
+use Rattle.std.proofs.lemmas.Int.{to_z-of_z}
+use Rattle.proto.specs.declared.message.Put.{Put}
+use Rattle.proto.specs.Grammar.{Spells}
+use Rattle.proto.specs.PlainReader.{message_by}
+use Rattle.session_book.proofs.Blocks.{data_within, taken_put, taken_anew}
+use Rattle.session_book.proofs.Inputs.{none_gone, dropping, whole_dropped}
 use Rattle.session_book.proofs.input.Input.next.Goals as goal
 
-pub wait_for-requires-clause-unfinished : goal.wait_for-requires-clause-unfinished
-wait_for-requires-clause-unfinished c =
+pub returns-then-self-gt-MAX_KEPT : goal.returns-then-self-gt-MAX_KEPT
+returns-then-self-gt-MAX_KEPT c =
     let i = c.self.inside in
-    subst (λ (b : List ℕ). IsUnfinished i.dialect b c.in-More.need)
-    (all_kept i.dialect i.gone.items i.kept c.as_slice.result.now i.need i.noreply c.self.invariant.3 c.if-self-gt-MAX_KEPT.false
-    c.as_slice.ensures) c.in-More.ensures.view.0
+    let h = dropping i.dialect i.gone.items i.kept i.need i.noreply c.self.invariant.3 c.if-self-gt-MAX_KEPT.true in
+    (whole_dropped c.args.self.now i.dialect i.gone.items i.kept i.need i.noreply c.self.view_is h c.requires, refl)
 
-pub start_dropping-requires-clause-dropped : goal.start_dropping-requires-clause-dropped
-start_dropping-requires-clause-dropped c =
+pub overflow_sub-end : goal.overflow_sub-end
+overflow_sub-end c =
+    let f = c.in-Found-Put-default in let d = c.self.inside.dialect in let seen = c.as_slice.result.now in
+    let put : Put = record { key = f.head.key.now; flags = f.head.flags; exptime = f.head.exptime; value = f.data.now } in
+    let spells : Spells d (take f.length seen) (message_by f.head.mode put f.head.noreply) = search rules in
+    let found = data_within d seen f.head.mode put f.head.noreply f.length (search rules) spells in
+    let fits : length f.data.now + 2 ≤ f.length = found.0 in
+    omega (arith, fits)
+
+pub overflow_sub-start : goal.overflow_sub-start
+overflow_sub-start c =
+    let f = c.in-Found-Put-default in let d = c.self.inside.dialect in let seen = c.as_slice.result.now in
+    let put : Put = record { key = f.head.key.now; flags = f.head.flags; exptime = f.head.exptime; value = f.data.now } in
+    let spells : Spells d (take f.length seen) (message_by f.head.mode put f.head.noreply) = search rules in
+    let found = data_within d seen f.head.mode put f.head.noreply f.length (search rules) spells in
+    let fits : length f.data.now + 2 ≤ f.length = found.0 in
+    omega (arith, fits)
+
+pub invariant_of-self-then-is_worth_taking : goal.invariant_of-self-then-is_worth_taking
+invariant_of-self-then-is_worth_taking c =
     let i = c.self.inside in
-    subst (λ (b : List ℕ). IsDropped i.dialect b c.in-Drop.need c.in-Drop.noreply)
-    (all_kept i.dialect i.gone.items i.kept c.as_slice.result.now i.need i.noreply c.self.invariant.3 c.if-self-gt-MAX_KEPT.false
-    c.as_slice.ensures) c.in-Drop.ensures.view
+    taken_anew i.dialect i.gone.items i.kept c.take_part.new.self i.need i.dropped i.noreply i.noreply c.self.invariant.3
+    c.if-self-gt-MAX_KEPT.false c.self.invariant.0
+
+pub returns-in_ok-value-in-Found-Put-default : goal.returns-in_ok-value-in-Found-Put-default
+returns-in_ok-value-in-Found-Put-default c =
+    let i = c.self.inside in let f = c.in-Found-Put-default in let seen = c.as_slice.result.now in
+    let key = c.in_ok-key-in-Found-Put-default.key in let value = c.in_ok-value-in-Found-Put-default.value in
+    let none = none_gone i.dialect i.gone.items i.kept i.need i.noreply c.self.invariant.3 c.if-self-gt-MAX_KEPT.false in
+    let put : Put = record { key = f.head.key.now; flags = f.head.flags; exptime = f.head.exptime; value = f.data.now } in
+    let spells : Spells i.dialect (take f.length seen) (message_by f.head.mode put f.head.noreply) = search rules in
+    let within : f.length ≤ length seen = (search rules) in
+    let found = data_within i.dialect seen f.head.mode put f.head.noreply f.length within spells in
+    let value_is : value ≡ f.data.now = c.in_ok-value-in-Found-Put-default.ensures.part
+    ∙ ap (λ (b : List ℕ). drop (f.length - 2 - length f.data.now) (take (f.length - 2) b)) (sym c.as_slice.ensures) ∙ found.1 in
+    let fits : SFits w64 f.head.exptime = search rules in
+    let made = c.request_to_store.ensures f.head.noreply ∙ ap (λ (z : ℤ). message_by f.head.mode
+    (record { key = key; flags = f.head.flags; exptime = z; value = value }) f.head.noreply) (to_z-of_z w64 f.head.exptime fits) in
+    taken_put c.args.self.now i.dialect i.gone.items i.kept c.take_part.new.self i.need f.length f.head.mode put
+    (record { key = key; flags = f.head.flags; exptime = f.head.exptime; value = value }) f.head.noreply c.request_to_store.result
+    c.self.view_is none (subst (λ (b : List ℕ). f.length ≤ length b) c.as_slice.ensures within)
+    (subst (λ (b : List ℕ). Spells i.dialect (take f.length b) (message_by f.head.mode put f.head.noreply)) c.as_slice.ensures spells)
+    made
+    (ap (λ (k : List ℕ). record { key = k; flags = f.head.flags; exptime = f.head.exptime; value = value })
+    c.in_ok-key-in-Found-Put-default.ensures
+    ∙ ap (λ (x : List ℕ). record { key = f.head.key.now; flags = f.head.flags; exptime = f.head.exptime; value = x }) value_is)
+    c.in_ok-value-in-Found-Put-default.ensures.ok

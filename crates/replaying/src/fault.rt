@@ -7,7 +7,7 @@ use exchange::MakeFault;
 use group::GroupFault;
 use proto::NoMemory;
 use script::ScriptFault;
-use std::alloc::{AllocError, AllocFailed};
+use std::alloc::AllocError;
 use thiserror::Error;
 
 /// A fault; its text is the line that the program prints. They are tested in this order.
@@ -44,14 +44,6 @@ impl From<AllocError> for Fault {
     ghost from_gives = { λ error fault. fault ≡ NoMemory };
 
     fn from(_error: AllocError) -> Fault {
-        Fault::NoMemory
-    }
-}
-
-impl<T: Drop> From<AllocFailed<T>> for Fault {
-    ghost from_gives = { λ error fault. fault ≡ NoMemory };
-
-    fn from(_failed: AllocFailed<T>) -> Fault {
         Fault::NoMemory
     }
 }

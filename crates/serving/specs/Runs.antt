@@ -6,6 +6,8 @@ use Rattle.command_line.specs.declared.options.ServeOptions.{ServeOptions}
 use Rattle.proto.specs.declared.dialect.Dialect.{Dialect}
 use Rattle.proto.specs.Sizes.{Sizes}
 use Rattle.exchange.specs.Ends.{ExchangeId}
+use Rattle.exchange.specs.Made.{ExchangeView}
+use Rattle.worker_port.specs.Giving.{by_system_clock}
 use Rattle.worker_port.specs.Ports.{PortTrace}
 use Rattle.net.specs.declared.port.MioPort.{MioPort}
 use Rattle.net.specs.Traces.{trace_of, IsNew}
@@ -31,6 +33,15 @@ AreNewPorts {R} sizes d exchange ports =
 -- a new store as the options say, which hashes this seed before each key
 abbrev pub IsStoreFor : Sizes → ℕ → ServeOptions → Store → Type 0
 IsStoreFor sizes seed options store = IsNewStore sizes seed options.update_in_place options.dialect options.eviction store
+
+-- what is served over, as the options say: a new store, an exchange, and a new port of each of its workers
+pub record IsOpened {R : Type 0} (sizes : Sizes) (seed : ℕ) (options : ServeOptions) (exchange : ExchangeView)
+    (ports : List (MioPort R)) (store : Store) : Type 0 where
+  pub workers : exchange.workers ≡ options.workers
+  pub terms : exchange.terms ≡ by_system_clock sizes
+  pub new_ports : AreNewPorts sizes options.dialect exchange.id ports
+  pub count : length ports ≡ options.workers
+  pub new_store : IsStoreFor sizes seed options store
 
 -- A group ran as the options say over new ports and a new store, both of these sizes, and over the system's clock, which
 -- was not read yet, and left this report. The store hashes this seed before each key. Each answer of the clock is the seconds of a

@@ -1,27 +1,27 @@
 //! `segcached serve`.
 
-ghost use Rattle.std.specs.Prelude.{◌≡◌, ℕ, List, vec_len, IfOk, OnOk};
+ghost use Rattle.std.specs.Prelude.{◌≡◌, ℕ, List, length, IfOk, OnOk};
 ghost use Rattle.std.specs.String.{string_bytes};
 ghost use Rattle.std.specs.Io.KnownBytes.{Appends};
 ghost use Rattle.serving.specs.Listening.{IsListeningLine, IsAnnounced};
 ghost use Rattle.proto.specs.ClockAnswers.{ClockLog};
 ghost use Rattle.worker_port.specs.Giving.{by_system_clock};
 ghost use Rattle.net.specs.Traces.{trace_of, IsNew};
-ghost use Rattle.serving.specs.Runs.{AreNewPorts, IsStoreFor, IsServed};
+ghost use Rattle.serving.specs.Runs.{AreNewPorts, IsOpened, IsServed};
 
 use crate::fault::Fault;
 use crate::operator::{Operator, Watch};
 use command_line::{ServeOptions, on_one_line, options_in_force};
-use exchange::{Exchange, ExchangeName};
+use exchange::Exchange;
 use group::{Config, GroupReport, Runtime, run_group};
 use net::{Hand, ListenReport, Listener, MioPort, NetFault, Owner, StreamSender};
-use proto::{Geometry, MAX_SESSIONS, NoMemory, SystemClock, Terms};
+use proto::{Geometry, MAX_SESSIONS, SystemClock, Terms};
 use segcache::Store;
 use std::alloc::Global;
 use std::io::{Eprint, Write};
 use std::net::Net;
 use std::sync::Wait;
-use std::thread::{self, JoinHandle, Threads};
+use std::thread::{self, JoinHandle};
 use std::time;
 use worker::OpenGate;
 
@@ -46,29 +46,8 @@ fn cannot_listen(alloc: Global, options: &ServeOptions, fault: NetFault) -> Faul
     }
 }
 
-/// A port of this exchange, with the limits of the options.
-fn new_port<H: Wait + Net + time::Clock + Copy + Drop>(
-    rt: H,
-    alloc: Global,
-    hand: Hand,
-    owner: Owner,
-    exchange: ExchangeName,
-    options: &ServeOptions,
-) -> Result<MioPort<H>, NetFault>
-    ensures { IfOk result (λ port. IsNew owner.geometry owner.dialect owner.worker exchange (trace_of port.served)) }
-{
-    let mut port = MioPort::new(rt, alloc, hand, owner, exchange)?;
-    if let Some(seconds) = options.idle {
-        port.set_idle_limit(seconds);
-    }
-    if let Some(micros) = options.spin {
-        port.set_spin(micros);
-    }
-    Ok(port)
-}
-
 /// The listener's end of the hand of a worker of the exchange, which takes as many streams as it opens sessions in a run,
-/// and its port.
+/// and its port, with the limits of the options.
 fn make_port<H: Wait + Net + time::Clock + Copy + Drop>(
     rt: H,
     alloc: Global,
@@ -87,7 +66,13 @@ fn make_port<H: Wait + Net + time::Clock + Copy + Drop>(
         dialect,
         worker,
     };
-    let port = new_port(rt, alloc, of_port, owner, exchange.name(), options)?;
+    let mut port = MioPort::new(rt, alloc, of_port, owner, exchange.name())?;
+    if let Some(seconds) = options.idle {
+        port.set_idle_limit(seconds);
+    }
+    if let Some(micros) = options.spin {
+        port.set_spin(micros);
+    }
     Ok((of_listener, port))
 }
 
@@ -101,7 +86,7 @@ fn make_ports<H: Wait + Net + time::Clock + Copy + Drop>(
 ) -> Result<(Vec<StreamSender>, Vec<MioPort<H>>), NetFault>
     ensures new { IfOk result (λ made. AreNewPorts geometry options.entry.now.dialect exchange.entry.now.id
         made.1.items) }
-    ensures count { IfOk result (λ made. vec_len made.1 ≡ options.entry.now.workers) }
+    ensures count { IfOk result (λ made. length made.1.items ≡ options.entry.now.workers) }
 {
     let workers = options.workers as usize;
     let mut hands = Vec::with_capacity(alloc, workers)?;
@@ -160,38 +145,6 @@ fn terms_of(geometry: Geometry) -> Terms
     }
 }
 
-/// What a group of these sizes runs for, as the options say.
-fn config_of(options: &ServeOptions, geometry: Geometry) -> Config
-    ensures terms { result.terms ≡ by_system_clock geometry }
-    ensures dialect { result.dialect ≡ options.entry.now.dialect }
-{
-    Config {
-        terms: terms_of(geometry),
-        dialect: options.dialect,
-        spin: options.spin,
-    }
-}
-
-/// An empty store as the options say, which hashes the seed before each key.
-fn new_store(
-    alloc: Global,
-    options: &ServeOptions,
-    geometry: Geometry,
-    seed: u64,
-) -> Result<Store, NoMemory>
-    ensures { IfOk result (λ store. IsStoreFor geometry seed options.entry.now store) }
-{
-    Store::seeded(
-        alloc,
-        geometry,
-        0,
-        seed,
-        options.update_in_place,
-        options.dialect,
-        options.eviction,
-    )
-}
-
 /// What is made before the line is printed: the listener with its ends of the hands, the exchange, its workers' ports and
 /// the store.
 #[derive(Drop)]
@@ -211,12 +164,8 @@ fn open<H: Wait + Net + time::Clock + Copy + Drop>(
     geometry: Geometry,
     seed: u64,
 ) -> Result<Opened<H>, Fault>
-    ensures store { IfOk result (λ opened. IsStoreFor geometry seed options.entry.now opened.store) }
-    ensures exchange { IfOk result (λ opened. (opened.exchange.workers ≡ options.entry.now.workers)
-        × (opened.exchange.terms ≡ by_system_clock geometry)) }
-    ensures ports { IfOk result (λ opened. AreNewPorts geometry options.entry.now.dialect opened.exchange.id
-        opened.ports.items) }
-    ensures count { IfOk result (λ opened. vec_len opened.ports ≡ options.entry.now.workers) }
+    ensures { IfOk result (λ opened. IsOpened geometry seed options.entry.now opened.exchange opened.ports.items
+        opened.store) }
 {
     let listener = match Listener::bind(&rt, alloc, options.listen.as_str()) {
         Ok(listener) => listener,
@@ -227,7 +176,15 @@ fn open<H: Wait + Net + time::Clock + Copy + Drop>(
         Ok(made) => made,
         Err(fault) => return Err(cannot_listen(alloc, options, fault)),
     };
-    let store = new_store(alloc, options, geometry, seed)?;
+    let store = Store::seeded(
+        alloc,
+        geometry,
+        0,
+        seed,
+        options.update_in_place,
+        options.dialect,
+        options.eviction,
+    )?;
     Ok(Opened {
         listener,
         hands,
@@ -235,22 +192,6 @@ fn open<H: Wait + Net + time::Clock + Copy + Drop>(
         ports,
         store,
     })
-}
-
-/// Accepts streams in a thread of its own, up to the limit. The address is free again once it has ended.
-fn start_listening<H: Threads + Wait + time::Clock + Eprint + Copy + Drop + Send + 'static>(
-    rt: H,
-    watch: Option<Watch>,
-    mut listener: Listener,
-    mut hands: Vec<StreamSender>,
-    limit: Option<u64>,
-) -> Result<JoinHandle<ListenReport>, Fault> {
-    thread::spawn(&rt, move || {
-        os::set_thread_name(b"listener");
-        let mut operator = Operator { rt, watch };
-        listener.run_heard(&rt, hands.as_mut_slice(), limit, &mut operator)
-    })
-    .map_err(|_| Fault::NoThread)
 }
 
 /// Runs a worker of the exchange for each port over the store, as the options say, until all have ended.
@@ -264,24 +205,26 @@ fn run_workers<H: Runtime + Copy + Drop + Send + 'static>(
     _seed: u64,
     options: &ServeOptions,
 ) -> Result<Report<H>, Fault>
-    requires store { IsStoreFor geometry _seed options.now store }
-    requires count { vec_len ports ≡ options.now.workers }
-    requires exchange { (exchange.workers ≡ vec_len ports) × (exchange.terms ≡ by_system_clock geometry) }
-    requires ports { AreNewPorts geometry options.now.dialect exchange.id ports.items }
+    requires { IsOpened geometry _seed options.now exchange ports.items store }
     ensures { IfOk result (λ report. IsServed geometry _seed options.entry.now report) }
 {
-    let config = config_of(options, geometry);
+    let config = Config {
+        terms: terms_of(geometry),
+        dialect: options.dialect,
+        spin: options.spin,
+    };
     let clock = SystemClock::new(rt);
     let report = run_group(&rt, alloc, ports, exchange, config, store, clock, &OpenGate)?;
     Ok(report)
 }
 
-/// Announces that it listens, and accepts streams up to the options' limit.
+/// Announces that it listens, and accepts streams in a thread, up to the options' limit. The address is free again once that
+/// thread has ended.
 fn announce_and_listen<H: System, W: Write>(
     rt: H,
     alloc: Global,
-    listener: Listener,
-    hands: Vec<StreamSender>,
+    mut listener: Listener,
+    mut hands: Vec<StreamSender>,
     options: &ServeOptions,
     out: &mut W,
 ) -> Result<JoinHandle<ListenReport>, Fault>
@@ -289,46 +232,14 @@ fn announce_and_listen<H: System, W: Write>(
         (W.contents out.old) (W.contents out.new)) }
 {
     announce(rt, alloc, options, listener.port(), out)?;
-    start_listening(
-        rt,
-        Watch::new(&rt, alloc),
-        listener,
-        hands,
-        options.sessions,
-    )
-}
-
-/// Announces what was opened, accepts streams, and runs the workers until they have ended.
-fn run<H: System, W: Write>(
-    rt: H,
-    alloc: Global,
-    opened: Opened<H>,
-    geometry: Geometry,
-    seed: u64,
-    options: &ServeOptions,
-    out: &mut W,
-) -> Result<Report<H>, Fault>
-    requires store { IsStoreFor geometry seed options.now opened.store }
-    requires count { vec_len opened.ports ≡ options.now.workers }
-    requires exchange { (opened.exchange.workers ≡ vec_len opened.ports)
-        × (opened.exchange.terms ≡ by_system_clock geometry) }
-    requires ports { AreNewPorts geometry options.now.dialect opened.exchange.id opened.ports.items }
-    ensures announced { OnOk result (IsAnnounced (string_bytes options.entry.now.listen)
-        (W.contents out.old) (W.contents out.new)) }
-    ensures served { IfOk result (λ report. IsServed geometry seed options.entry.now report) }
-{
-    let Opened {
-        listener,
-        hands,
-        exchange,
-        ports,
-        store,
-    } = opened;
-    let listening = announce_and_listen(rt, alloc, listener, hands, options, out)?;
-    let report = run_workers(rt, alloc, ports, exchange, store, geometry, seed, options)?;
-    listening.join(&rt);
-    Operator::new(rt, alloc).has_ended();
-    Ok(report)
+    let watch = Watch::new(&rt, alloc);
+    let limit = options.sessions;
+    thread::spawn(&rt, move || {
+        os::set_thread_name(b"listener");
+        let mut operator = Operator { rt, watch };
+        listener.run_heard(&rt, hands.as_mut_slice(), limit, &mut operator)
+    })
+    .map_err(|_| Fault::NoThread)
 }
 
 /// Listens on the options' address, prints it, and serves: a thread accepts streams, a group of workers serves them,
@@ -354,8 +265,18 @@ pub fn serve<H: System, W: Write>(
         (W.contents out.old) (W.contents out.new)) }
     ensures served { IfOk result (λ report. IsServed geometry seed options.entry.now report) }
 {
-    let opened = open(rt, alloc, options, geometry, seed)?;
-    run(rt, alloc, opened, geometry, seed, options, out)
+    let Opened {
+        listener,
+        hands,
+        exchange,
+        ports,
+        store,
+    } = open(rt, alloc, options, geometry, seed)?;
+    let listening = announce_and_listen(rt, alloc, listener, hands, options, out)?;
+    let report = run_workers(rt, alloc, ports, exchange, store, geometry, seed, options)?;
+    listening.join(&rt);
+    Operator::new(rt, alloc).has_ended();
+    Ok(report)
 }
 
 /// Serves as `serve` does, and drops what the group left.

@@ -8,4 +8,4 @@ on_ok (Err error) holds = tt
 
 pub returns : goal.returns
 returns g c = let announced = c.in_ok-announce.ensures in
-    on_ok c.start_listening.result (c.port.result, announced.0, announced.1, announced.2)
+    on_ok c.map_err.result (c.port.result, announced.0, announced.1, announced.2)

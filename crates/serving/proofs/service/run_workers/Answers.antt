@@ -1,6 +1,5 @@
-use Rattle.std.proofs.Common.{false, [], refl, sym, subst, ◌∙◌}
+use Rattle.std.proofs.Common.{false, [], refl, sym, subst}
 use Rattle.std.specs.Prelude.{⊤}
-use Rattle.proto.specs.declared.dialect.Dialect.{Dialect}
 use Rattle.proto.specs.declared.terms.Terms.{Terms}
 use Rattle.segcache.specs.Keeping.{KeepsStored}
 use Rattle.segcache.specs.StoreState.{sizes_in}
@@ -15,10 +14,9 @@ use Rattle.serving.proofs.service.run_workers.Goals as goal
 
 pub run_group-requires-clause-ports : goal.run_group-requires-clause-ports
 run_group-requires-clause-ports g c κs within =
-    let config = c.config_of-config.ensures in
-    subst (λ (z : Terms × Dialect). ArePortsOf socket_told c.args.exchange.id z.0 z.1 c.args.ports.items)
-    (λ i. (sym config.terms i, sym config.dialect i))
-    (new_of c.args.geometry c.args.options.now.dialect c.args.exchange.id c.args.ports.items c.requires.ports)
+    subst (λ (z : Terms). ArePortsOf socket_told c.args.exchange.id z c.args.options.now.dialect c.args.ports.items)
+    (sym c.terms_of.ensures)
+    (new_of c.args.geometry c.args.options.now.dialect c.args.exchange.id c.args.ports.items c.requires.new_ports)
 
 pub run_group-requires-send-P : goal.run_group-requires-send-P
 run_group-requires-send-P g c κs within = param_send 0 _ (arg_send _ no _ (port_sends _ c.type_bounds.send-H))
@@ -31,13 +29,13 @@ pub returns : goal.returns
 returns g c = record {
   exchange = c.args.exchange.id;
   ports = c.args.ports.items;
-  new_ports = c.requires.ports;
-  count = sym c.args.ports.ok.0 ∙ c.requires.count;
+  new_ports = c.requires.new_ports;
+  count = c.requires.count;
   store = c.args.store;
-  new_store = c.requires.store;
+  new_store = c.requires.new_store;
   clock = c.new-clock.result;
   unread = c.new-clock.ensures;
   run = keeping_run socket_told (λ _ _. ⊤) clock_told (λ _ _. ⊤) (KeepsStored c.args.store.map []) false (sizes_in c.args.store)
       c.args.geometry c.args.ports.items c.new-clock.result c.in_ok-report.report c.in_ok-report.ensures.run
-      c.requires.store.sizes_are c.requires.store.keeps;
+      c.requires.new_store.sizes_are c.requires.new_store.keeps;
 }

@@ -366,7 +366,7 @@ proctype worker(byte me) {                         /* worker/run.rt: run_worker 
   od;
   atomic { bye[me] = sent + 1; posted[me] = bye[me] };   /* exchange/steps.rt: put_bye */
 #ifndef BYE_WITHOUT_WAKE
-  unpark(storage_word)                             /* worker/run.rt: say_bye */
+  unpark(storage_word)                             /* worker/run.rt: leave */
 #endif
 }
 

@@ -2,7 +2,7 @@
 """Makes docs/EDITS.md from the wrong bodies of crates/NAME/wrong: which the prover refuses, and by whose contract.
 
     tools/edits.py write    writes the page
-    tools/edits.py check    says where the page or an edit is amiss, with status 1
+    tools/edits.py check    says where the page or an edit is amiss, or where an edit can't be placed, with status 1
 
 The first line of an edit is '# CALL: WRONG BODY': the call whose contract it turns, as docs/PROOFS.md names it, and what
 the body does. tools/wrong_bodies.py doesn't read that line.
@@ -11,6 +11,9 @@ import glob
 import os
 import re
 import sys
+
+import edited_copies
+import prove
 
 TOP = os.path.dirname(os.path.dirname(os.path.abspath(__file__)))
 HEAD = """# Wrong bodies
@@ -79,6 +82,11 @@ def amiss(found, page, proofs):
     return wrong + ([] if page == page_of(found) else ["docs/EDITS.md isn't what the edits say: tools/edits.py write"])
 
 
+def unplaced(crates):
+    """The edits of these crates that can't be placed, and why."""
+    return [f"{crate.name}/{edit}: {why}" for crate in crates for edit, why in crate.bad.items()]
+
+
 def main():
     found, path = list(edits()), f"{TOP}/docs/EDITS.md"
     if sys.argv[1:] == ["write"]:
@@ -87,6 +95,7 @@ def main():
     elif sys.argv[1:] != ["check"]:
         sys.exit(__doc__)
     wrong = amiss(found, read(path), read(f"{TOP}/docs/PROOFS.md"))
+    wrong += unplaced(edited_copies.Crate(it) for it in prove.read_crates())
     print("\n".join(wrong) or f"{len(found)} edits")
     return bool(wrong)
 

@@ -15,6 +15,7 @@ TOP = os.path.dirname(os.path.dirname(os.path.dirname(os.path.abspath(__file__))
 sys.path.insert(0, f"{TOP}/tools")
 
 import edited_copies  # noqa: E402
+import edits  # noqa: E402
 import functions  # noqa: E402
 import kept_verdicts  # noqa: E402
 import prove  # noqa: E402
@@ -296,7 +297,7 @@ def test_the_sum_of_the_tools_has_each_that_decides():
 
 def test_each_edit_of_the_repository_can_be_placed():
     crates = [edited_copies.Crate(it) for it in prove.read_crates()]
-    assert {f"{it.name}: {it.bad}" for it in crates if it.bad} == set()
+    assert edits.unplaced(crates) == []
     assert sum(len(it.edits) for it in crates) > 200
     assert all(edited_copies.control_of(it, tried) for it in crates for tried in edited_copies.rounds_of(it, it.edits))
 

@@ -35,7 +35,7 @@ abbrev pub IsStoreFor : Sizes → ℕ → ServeOptions → Store → Type 0
 IsStoreFor sizes seed options store = IsNewStore sizes seed options.update_in_place options.dialect options.eviction store
 
 -- what is served over, as the options say: a new store, an exchange, and a new port of each of its workers
-pub record IsOpened {R : Type 0} (sizes : Sizes) (seed : ℕ) (options : ServeOptions) (exchange : ExchangeView)
+pub record IsSetUp {R : Type 0} (sizes : Sizes) (seed : ℕ) (options : ServeOptions) (exchange : ExchangeView)
     (ports : List (MioPort R)) (store : Store) : Type 0 where
   pub workers : exchange.workers ≡ options.workers
   pub terms : exchange.terms ≡ by_system_clock sizes

@@ -7,7 +7,7 @@ ghost use Rattle.serving.specs.Listening.{IsListeningLine, IsAnnounced};
 ghost use Rattle.proto.specs.ClockAnswers.{ClockLog};
 ghost use Rattle.worker_port.specs.Giving.{by_system_clock};
 ghost use Rattle.net.specs.Traces.{trace_of, IsNew};
-ghost use Rattle.serving.specs.Runs.{AreNewPorts, IsOpened, IsServed};
+ghost use Rattle.serving.specs.Runs.{AreNewPorts, IsSetUp, IsServed};
 
 use crate::fault::Fault;
 use crate::operator::{Operator, Watch};
@@ -164,7 +164,7 @@ fn open<H: Wait + Net + time::Clock + Copy + Drop>(
     geometry: Geometry,
     seed: u64,
 ) -> Result<Opened<H>, Fault>
-    ensures { IfOk result (λ opened. IsOpened geometry seed options.entry.now opened.exchange opened.ports.items
+    ensures { IfOk result (λ opened. IsSetUp geometry seed options.entry.now opened.exchange opened.ports.items
         opened.store) }
 {
     let listener = match Listener::bind(&rt, alloc, options.listen.as_str()) {
@@ -205,7 +205,7 @@ fn run_workers<H: Runtime + Copy + Drop + Send + 'static>(
     _seed: u64,
     options: &ServeOptions,
 ) -> Result<Report<H>, Fault>
-    requires { IsOpened geometry _seed options.now exchange ports.items store }
+    requires { IsSetUp geometry _seed options.now exchange ports.items store }
     ensures { IfOk result (λ report. IsServed geometry _seed options.entry.now report) }
 {
     let config = Config {

@@ -1,5 +1,6 @@
 use Rattle.std.proofs.Common.{◌≡◌, ◌≤◌, ◌*◌, ◌/◌, sym, ap, subst, ◌∙◌, arith}
 use Rattle.proto.specs.Sizes.{Sizes}
+use Rattle.proto.specs.declared.eviction.Eviction.{Eviction}
 use Rattle.segments.specs.Changes.{new_pool, with_eviction}
 use Rattle.segments.specs.Pools.{PoolState}
 use Rattle.segments.specs.Marks.{no_marks}
@@ -12,11 +13,17 @@ use Rattle.segcache.proofs.ShownItems.{shown_empty}
 use Rattle.segcache.proofs.NewMaps.{tied_start, past_start}
 use Rattle.segcache.proofs.segment_map.SegmentMapStoreMap.seeded.Goals as goal
 
+-- a new pool that was told how to evict
+new_evicting : (s : Sizes) (e : Eviction) {pool after : PoolState} → pool ≡ new_pool s → after ≡ with_eviction pool e
+    → after ≡ with_eviction (new_pool s) e
+new_evicting s e {pool} {after} new evicts = evicts ∙ ap (λ (q : PoolState). with_eviction q e) new
+
 pub invariant_of-result : goal.invariant_of-result
 unfolding new_pool
 invariant_of-result c =
     let p = c.evict_by.new.self in
-    let is : p ≡ with_eviction (new_pool c.args.geometry) c.args.eviction = c.evict_by.ensures.evicts ∙ ap (λ (q : PoolState). with_eviction q c.args.eviction) c.in_ok-pool.ensures.empty in
+    let is : p ≡ with_eviction (new_pool c.args.geometry) c.args.eviction =
+        new_evicting c.args.geometry c.args.eviction c.in_ok-pool.ensures.empty c.evict_by.ensures.evicts in
     let sizes : p.sizes ≡ c.args.geometry = ap (λ (q : PoolState). q.sizes) is in
     let room : c.in_ok-new.field-0.room ≡ c.slots_for.result = c.in_ok-new.ensures.room in
     let many = c.slots_for.ensures.1 in
@@ -32,7 +39,8 @@ invariant_of-result c =
 
 pub returns-clause-sizes : goal.returns-clause-sizes
 unfolding new_pool
-returns-clause-sizes c = ap (λ (q : PoolState). q.sizes) (c.evict_by.ensures.evicts ∙ ap (λ (q : PoolState). with_eviction q c.args.eviction) c.in_ok-pool.ensures.empty)
+returns-clause-sizes c = ap (λ (q : PoolState). q.sizes)
+    (new_evicting c.args.geometry c.args.eviction c.in_ok-pool.ensures.empty c.evict_by.ensures.evicts)
 
 pub returns-clause-entries : goal.returns-clause-entries
 returns-clause-entries c =
@@ -47,4 +55,5 @@ returns-clause-keeps c =
       marks = c.in_ok-new-2.field-0;
       moment = 0;
     } in
-    keeps_none m c.args.geometry c.args.eviction (c.evict_by.ensures.evicts ∙ ap (λ (q : PoolState). with_eviction q c.args.eviction) c.in_ok-pool.ensures.empty)
+    keeps_none m c.args.geometry c.args.eviction
+        (new_evicting c.args.geometry c.args.eviction c.in_ok-pool.ensures.empty c.evict_by.ensures.evicts)

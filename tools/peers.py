@@ -32,8 +32,9 @@ OF_PYMEMCACHE = "/usr/lib/python3/dist-packages/pymemcache/test/test_integration
 OF_FAST = """big-value commands flush-all magic malformed namespace noreply nowait serialize utf8""".split()
 # The most seconds that one file of tests may take, and the test of a limit, which asks for two minutes.
 SECONDS, LIMIT_SECONDS = 120, 150
-# The most of 400 requests in two minutes that a limit of 100 a minute may let through: a counter of a minute ends up to 11 seconds early.
-MOST_PASSED = 230
+# The most of 400 requests in two minutes that a limit of 100 a minute may let through: 100 for each of two counters of a minute, which may end 11
+# seconds early, and those of the 22 seconds that are left then.
+MOST_PASSED = 274
 
 
 class Trouble(Exception):

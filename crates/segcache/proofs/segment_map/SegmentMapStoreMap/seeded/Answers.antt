@@ -23,7 +23,7 @@ unfolding new_pool
 invariant_of-result c =
     let p = c.evict_by.new.self in
     let is : p ≡ with_eviction (new_pool c.args.geometry) c.args.eviction =
-        new_evicting c.args.geometry c.args.eviction c.in_ok-pool.ensures.empty c.evict_by.ensures.evicts in
+    new_evicting c.args.geometry c.args.eviction c.in_ok-pool.ensures.empty c.evict_by.ensures.evicts in
     let sizes : p.sizes ≡ c.args.geometry = ap (λ (q : PoolState). q.sizes) is in
     let room : c.in_ok-new.field-0.room ≡ c.slots_for.result = c.in_ok-new.ensures.room in
     let many = c.slots_for.ensures.1 in
@@ -56,4 +56,4 @@ returns-clause-keeps c =
       moment = 0;
     } in
     keeps_none m c.args.geometry c.args.eviction
-        (new_evicting c.args.geometry c.args.eviction c.in_ok-pool.ensures.empty c.evict_by.ensures.evicts)
+    (new_evicting c.args.geometry c.args.eviction c.in_ok-pool.ensures.empty c.evict_by.ensures.evicts)

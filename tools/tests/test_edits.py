@@ -4,6 +4,7 @@
 """
 import os
 import sys
+import types
 
 TOP = os.path.dirname(os.path.dirname(os.path.dirname(os.path.abspath(__file__))))
 sys.path.insert(0, f"{TOP}/tools")
@@ -43,6 +44,11 @@ def test_what_is_amiss_is_said():
         "top/third: docs/PROOFS.md has no run",
         "docs/EDITS.md isn't what the edits say: tools/edits.py write",
     ]
+
+
+def test_an_edit_that_cannot_be_placed_is_said():
+    crates = [types.SimpleNamespace(name="low", bad={"first": "it changes nothing"}), types.SimpleNamespace(name="top", bad={})]
+    assert edits.unplaced(crates) == ["low/first: it changes nothing"]
 
 
 def test_an_edits_first_line_is_read(tmp_path):

@@ -1,10 +1,13 @@
 //! Which lines count, and what is read of them.
 
-ghost use Rattle.std.specs.Prelude.{◌≡◌};
+ghost use Rattle.std.specs.Prelude.{◌≡◌, ◌≤◌};
 ghost use Rattle.proto.specs.Lines.{longest_line};
 ghost use Rattle.proto.specs.Grammar.{longest_block};
+ghost use Rattle.proto.specs.Sessions.{most_sessions};
 
-use crate::limits::{MAX_BLOCK, MAX_LENIENT_BLOCK, MAX_LENIENT_LINE, MAX_LINE};
+use crate::limits::{
+    MAX_BLOCK, MAX_LENIENT_BLOCK, MAX_LENIENT_LINE, MAX_LENIENT_SESSIONS, MAX_LINE, MAX_SESSIONS,
+};
 
 /// How lines may be written.
 #[derive(Clone, Copy, PartialEq, Eq)]
@@ -38,6 +41,17 @@ impl Dialect {
         match self {
             Dialect::Strict => MAX_BLOCK,
             Dialect::Lenient => MAX_LENIENT_BLOCK,
+        }
+    }
+
+    /// How many sessions a worker opens in a run.
+    pub fn most_sessions(self) -> u64
+        ensures value { result ≡ most_sessions self }
+        ensures within { result ≤ 4611686018427387904 }
+    {
+        match self {
+            Dialect::Strict => MAX_SESSIONS,
+            Dialect::Lenient => MAX_LENIENT_SESSIONS,
         }
     }
 }

@@ -30,8 +30,10 @@ pub enum Gauge {
     ListenDisabled,
     /// Connections that wait for a worker.
     ConnectionsWaiting,
-    /// How many more connections the workers take in this run.
-    ConnectionsLeft,
+    /// How many connections the workers serve at a time.
+    MaxConnections,
+    /// 1 while a worker has room for a connection, else 0.
+    AcceptingConnections,
     /// Connections that were ended as idle.
     IdleKicks,
     BytesRead,
@@ -50,6 +52,8 @@ pub enum Gauge {
     ClosedMalformed,
     /// Those that sent a message of the binary protocol.
     ClosedBinary,
+    /// Those that took none of their output while others waited for its memory.
+    ClosedUnread,
     /// Storage commands that were refused as too large.
     StoreTooLarge,
     LimitBytes,
@@ -75,7 +79,7 @@ pub enum Gauge {
 }
 
 /// What each worker tells of itself. A `stats` is told their sums.
-pub const WORKER_GAUGES: [Gauge; 13] = [
+pub const WORKER_GAUGES: [Gauge; 14] = [
     Gauge::CurrConnections,
     Gauge::TotalConnections,
     Gauge::IdleKicks,
@@ -88,20 +92,22 @@ pub const WORKER_GAUGES: [Gauge; 13] = [
     Gauge::BadLines,
     Gauge::ClosedMalformed,
     Gauge::ClosedBinary,
+    Gauge::ClosedUnread,
     Gauge::StoreTooLarge,
 ];
 
 /// What the listener tells.
-pub const LISTENER_GAUGES: [Gauge; 4] = [
+pub const LISTENER_GAUGES: [Gauge; 5] = [
     Gauge::RejectedConnections,
     Gauge::ListenDisabled,
     Gauge::ConnectionsWaiting,
-    Gauge::ConnectionsLeft,
+    Gauge::MaxConnections,
+    Gauge::AcceptingConnections,
 ];
 
 /// Each gauge with the name under which it is told, in the order in which they are told.
 #[tactic(auto, unfolding(crate::specs::StatTexts::names_gauge, crate::specs::StatTexts::count_lines, crate::specs::StatTexts::total_lines, crate::specs::StatTexts::tally_lines))]
-pub(crate) fn gauge_names() -> [(Gauge, &'static [u8]); 38]
+pub(crate) fn gauge_names() -> [(Gauge, &'static [u8]); 40]
     ensures { (c : Counts) → IsTrue (list_all (λ row. names_gauge c row.1.now) result) }
 {
     [
@@ -115,7 +121,8 @@ pub(crate) fn gauge_names() -> [(Gauge, &'static [u8]); 38]
         (Gauge::RejectedConnections, b"rejected_connections"),
         (Gauge::ListenDisabled, b"listen_disabled_num"),
         (Gauge::ConnectionsWaiting, b"connections_waiting"),
-        (Gauge::ConnectionsLeft, b"connections_left"),
+        (Gauge::MaxConnections, b"max_connections"),
+        (Gauge::AcceptingConnections, b"accepting_conns"),
         (Gauge::IdleKicks, b"idle_kicks"),
         (Gauge::BytesRead, b"bytes_read"),
         (Gauge::BytesWritten, b"bytes_written"),
@@ -127,6 +134,7 @@ pub(crate) fn gauge_names() -> [(Gauge, &'static [u8]); 38]
         (Gauge::BadLines, b"bad_lines"),
         (Gauge::ClosedMalformed, b"closed_malformed"),
         (Gauge::ClosedBinary, b"closed_binary"),
+        (Gauge::ClosedUnread, b"closed_unread"),
         (Gauge::StoreTooLarge, b"store_too_large"),
         (Gauge::LimitBytes, b"limit_maxbytes"),
         (Gauge::Bytes, b"bytes"),

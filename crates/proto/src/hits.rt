@@ -95,6 +95,11 @@ impl Hits {
         self.text.is_empty()
     }
 
+    /// How many bytes their text takes.
+    pub fn text_len(&self) -> usize {
+        self.text.len()
+    }
+
     /// Appends their text and the line that ends it, or changes nothing. If the output is empty and has no more capacity than the
     /// text, the two buffers are swapped instead of copied. A larger output buffer is kept, since more answers may follow.
     pub(crate) fn give(&mut self, out: &mut Vec<u8>) -> Result<(), NoMemory>

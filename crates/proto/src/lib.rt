@@ -21,6 +21,7 @@ mod next;
 mod no_memory;
 mod pending_answer;
 mod stats;
+mod storage;
 mod storage_line;
 mod system_clock;
 mod terms;
@@ -44,7 +45,7 @@ pub use hits::{Hit, HitRef, HitWriter, Hits, SpareBuffer};
 pub use keys::Keys;
 pub use limits::{
     MAX_ANSWER, MAX_BLOCK, MAX_KEPT, MAX_KEY, MAX_LENIENT_BLOCK, MAX_LENIENT_LINE, MAX_LINE,
-    MAX_POSTS, MAX_SESSIONS, MAX_WORKERS, MIN_ITEM_SIZE, WINDOW,
+    MAX_POSTS, MAX_WORKERS, MIN_ITEM_SIZE, WINDOW,
 };
 pub use line::RequestView;
 pub use message::{FatalKind, LocalKind, Message, Next, Put, Reply, Request, Touch};
@@ -52,6 +53,7 @@ pub use next::{next_message, next_message_in, request_to_store, to_message};
 pub use no_memory::NoMemory;
 pub use pending_answer::{PendingAnswer, show};
 pub use stats::StatsText;
+pub use storage::Storage;
 pub use storage_line::{StorageLineView, StoreMode};
 pub use system_clock::{ClockAnswer, SystemClock};
 pub use terms::Terms;

@@ -39,5 +39,8 @@ pub const WINDOW: u64 = 64;
 /// Requests of a worker in one run: 2^62.
 pub const MAX_POSTS: u64 = 4_611_686_018_427_387_904;
 
-/// Sessions that a worker opens in one run: 2^24.
+/// Sessions that a worker opens in one run in the strict dialect: 2^24.
 pub const MAX_SESSIONS: u64 = 16_777_216;
+
+/// Sessions that a worker opens in one run in the lenient dialect: 2^62, as many as it has requests.
+pub const MAX_LENIENT_SESSIONS: u64 = 4_611_686_018_427_387_904;

@@ -2,4 +2,4 @@
 
 /// The version's number, as `X.Y.Z`. The program, its package and its man page take it from here. The definition of the answer to
 /// `version` (`specs/Answers`) has it too, and a check fails if they differ.
-pub const VERSION: &str = "0.6.0";
+pub const VERSION: &str = "0.7.0";

@@ -69,7 +69,7 @@ pub leaves_there : {M P : Type 0} (m : MapOf M P) (old new : Engine M) (key : Li
     (asked : Option ℕ) (b : Bool)
     → map.get (m.entries old.map) key ≡ Some e → asked ≡ deadline_of exptime (m.moment old.map)
     → has_arrived asked (m.moment old.map) ≡ false
-    → b ≡ true → b ≡ m.stays (m.moment old.map) asked e.deadline → MayBeDated (m.moment old.map) asked e.deadline Touched
+    → b ≡ true → b ≡ m.stays old.map (m.moment old.map) asked e.deadline → MayBeDated (m.moment old.map) asked e.deadline Touched
     → KeepsEntry m.sizes m.entries m.moment m.keeps old.map key (asking e asked) old.map
     → new.in_place ≡ old.in_place → new.dialect ≡ old.dialect → new.last_cas ≡ old.last_cas → new.pending ≡ old.pending
     → m.sizes new.map ≡ m.sizes old.map → m.moment new.map ≡ m.moment old.map → m.entries new.map ≡ m.entries old.map
@@ -99,7 +99,7 @@ pub leaves_anew : {M P : Type 0} (m : MapOf M P) (old new : Engine M) (key : Lis
     (asked : Option ℕ) (b : Bool)
     → map.get (m.entries old.map) key ≡ Some e → asked ≡ deadline_of exptime (m.moment old.map)
     → has_arrived asked (m.moment old.map) ≡ false
-    → b ≡ false → b ≡ m.stays (m.moment old.map) asked e.deadline
+    → b ≡ false → b ≡ m.stays old.map (m.moment old.map) asked e.deadline
     → m.sizes new.map ≡ m.sizes old.map → m.moment new.map ≡ m.moment old.map → new.in_place ≡ old.in_place
     → new.dialect ≡ old.dialect
     → new.last_cas ≡ old.last_cas → new.pending ≡ old.pending

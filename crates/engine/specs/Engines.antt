@@ -56,7 +56,7 @@ pub record IsLeftAs {M P : Type 0} (m : MapOf M P) (old : M) (key : List ℕ) (e
     (new : M) : Type 0 where
   pub deadline : Option ℕ
   pub there : map.get (m.entries old) key ≡ Some (record entry { deadline = deadline })
-  pub stays : IsTrue (m.stays (m.moment old) entry.deadline deadline)
+  pub stays : IsTrue (m.stays old (m.moment old) entry.deadline deadline)
   pub may_stay : MayBeDated (m.moment old) entry.deadline deadline reply
   pub touched : m.touches old key new
   pub entries : m.entries new ≡ m.entries old
@@ -65,7 +65,7 @@ pub record IsLeftAs {M P : Type 0} (m : MapOf M P) (old : M) (key : List ℕ) (e
 pub record IsDatedAnew {M P : Type 0} (m : MapOf M P) (old : M) (key : List ℕ) (entry : Entry) (new : M) : Type 0 where
   pub deadline : Option ℕ
   pub there : map.get (m.entries old) key ≡ Some (record entry { deadline = deadline })
-  pub stays_not : m.stays (m.moment old) entry.deadline deadline ≡ false
+  pub stays_not : m.stays old (m.moment old) entry.deadline deadline ≡ false
   pub writes : m.writes old key entry new
 
 -- the map wrote an entry, changed the one of the key, or left it

@@ -5,6 +5,7 @@ pub mod Written
 pub mod Outcomes
 pub mod AnswerSizes
 pub mod Keeping
+pub mod Deadlines
 pub mod Counting
 pub mod Members
 pub mod Finding

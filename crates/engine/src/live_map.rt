@@ -59,9 +59,9 @@ pub trait LiveMap {
     /// What counting a touch that leaves the entry at the key does to this map.
     ghost touches: { Self → List ℕ → Self → Type 0 };
 
-    /// Whether an entry may keep its deadline at a moment when it is asked to have another one: the moment, the one asked
+    /// Whether an entry keeps its deadline at a moment when it is asked to have another one: the moment, the one asked
     /// for, and the one that it has.
-    ghost stays: { ℕ → Option ℕ → Option ℕ → Bool };
+    ghost stays: { Self → ℕ → Option ℕ → Option ℕ → Bool };
 
     /// The other map may differ from this one only by entries that expired or were removed: everything else is where it
     /// was.
@@ -164,7 +164,7 @@ pub trait LiveMap {
         requires there { IsSome (map.get (entries self.now) key.now) }
         requires waits { has_arrived deadline (moment self.now) ≡ false }
         ensures decides { (e : Entry) → map.get (entries self.now) key.now ≡ Some e
-            → result ≡ stays (moment self.now) deadline e.deadline }
+            → result ≡ stays self.now (moment self.now) deadline e.deadline }
         ensures may_stay { IsTrue result → (e : Entry) → map.get (entries self.now) key.now ≡ Some e
             → MayBeDated (moment self.now) deadline e.deadline Touched }
         ensures kept { IsTrue result → (e : Entry) → map.get (entries self.now) key.now ≡ Some e

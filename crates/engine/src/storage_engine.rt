@@ -8,6 +8,7 @@ ghost use Rattle.proto.specs.Stored.{StoredItem};
 ghost use Rattle.proto.specs.History.{max_moment};
 ghost use Rattle.engine.specs.Outcomes.{outcome_at, needs_memory};
 ghost use Rattle.engine.specs.Keeping.{KeepsAll};
+ghost use Rattle.engine.specs.Deadlines.{KeepsDeadlines};
 
 use proto::{Gauges, Reply, Request};
 use std::hash::FoldHasher;
@@ -32,6 +33,9 @@ pub trait StorageEngine {
 
     /// These items were stored so far, none with a deadline, and no item was forgotten to make room.
     ghost keeps: { Self → List StoredItem → Type 0 };
+
+    /// Whether it keeps deadlines to the second, those below 2^48.
+    ghost is_exact: { Self → Bool };
 
     /// The moment of the last request in seconds, 0 before the first one.
     fn last_moment(&self) -> u64
@@ -65,5 +69,8 @@ pub trait StorageEngine {
             ≡ false → result ≢ Reply.NoMemory }
 
         // nothing is forgotten while little is stored, and nothing with a deadline
-        ensures kept { KeepsAll sizes cache keeps self.old now request.old result self.new };
+        ensures kept { KeepsAll sizes cache keeps self.old now request.old result self.new }
+
+        // where deadlines are kept to the second, what is stored has the one asked for
+        ensures deadlines { KeepsDeadlines sizes cache is_exact self.old now request.old result self.new };
 }

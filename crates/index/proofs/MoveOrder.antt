@@ -15,6 +15,7 @@ use Rattle.segments.proofs.PlanLemmas.{standing_in}
 use Rattle.segments.proofs.MergingLemmas.{contains_is}
 use Rattle.segments.proofs.MovedPlaces.{merged_once, in_numbers}
 use Rattle.index.specs.Relocating.{AreInTurn}
+use Rattle.segments.specs.Items.{item_deadline}
 
 -- One item stands before another: at lower bytes where both are in one segment; and none stands in the first segment
 -- after one that doesn't.
@@ -94,7 +95,7 @@ once_from (n ∷ numbers) h =
 -- the live items of a segment stand in it
 in_one : (lives : Liveness) (p : PoolState) (n : ℕ) → All (λ s. s.place.segment ≡ n) (live_standing lives p n)
 in_one lives p n =
-    All-filter (λ s. lives s.place s.item (deadline_in (segment_at p n))) (λ s. s.place.segment ≡ n) (standing p n)
+    All-filter (λ s. lives s.place s.item (item_deadline s.item (deadline_in (segment_at p n)))) (λ s. s.place.segment ≡ n) (standing p n)
     (in_segment n 0 (items_of (segment_at p n)))
 
 -- the live items of a segment stand before those of later ones
@@ -103,7 +104,7 @@ cons_laid : (lives : Liveness) (p : PoolState) (first n : ℕ) (numbers : List �
     → AreLaid first (live_items lives p numbers) → AreLaid first (live_items lives p (n ∷ numbers))
 cons_laid lives p first n numbers none once later =
     append_laid first (live_standing lives p n) (live_items lives p numbers)
-    (filter_laid first (λ s. lives s.place s.item (deadline_in (segment_at p n))) (standing p n)
+    (filter_laid first (λ s. lives s.place s.item (item_deadline s.item (deadline_in (segment_at p n)))) (standing p n)
     (segment_laid first n 0 (items_of (segment_at p n))))
     later
     (λ k d lt i e below.

@@ -22,6 +22,8 @@ use Rattle.index.proofs.PoolKeys.{some_key}
 use Rattle.index.proofs.MoveOrder.{plan_in_turn}
 use Rattle.proto.proofs.Options.{value_there}
 use Rattle.segments.proofs.MovedPlaces.{if_some_map}
+use Rattle.segments.specs.Items.{deadline_if_there, item_deadline}
+use Rattle.segments.specs.Pools.{shared_at}
 
 -- an item that stands where it is said to, and is live
 pub record StandsLive (lives : Liveness) (p : PoolState) (q : Place) : Type 0 where
@@ -32,7 +34,7 @@ pub record StandsLive (lives : Liveness) (p : PoolState) (q : Place) : Type 0 wh
 -- each live item of a segment stands where it is said to, and is live there
 live_one : (lives : Liveness) (p : PoolState) (n : ℕ) → All (λ s. StandsLive lives p s.place) (live_standing lives p n)
 live_one lives p n k d lt =
-    let test : Standing → Bool = λ s. lives s.place s.item (deadline_in (segment_at p n)) in
+    let test : Standing → Bool = λ s. lives s.place s.item (item_deadline s.item (deadline_in (segment_at p n))) in
     let s = get_or (live_standing lives p n) k d in
     let found = All-filter test (λ x. item_in p x.place ≡ Some x.item) (standing p n)
     (found_from p n [] (items_of (segment_at p n)) refl) k d lt in
@@ -41,8 +43,9 @@ live_one lives p n k d lt =
     record {
       item = s.item;
       stands = found;
-      live = subst (λ m. lives s.place s.item (deadline_in (segment_at p m)) ≡ true) (sym here)
-          (filter_passes test (standing p n) k d lt);
+      live = subst (λ o. lives s.place s.item (deadline_if_there (shared_at p s.place) o) ≡ true) (sym found)
+          (subst (λ m. lives s.place s.item (item_deadline s.item (deadline_in (segment_at p m))) ≡ true) (sym here)
+          (filter_passes test (standing p n) k d lt));
     }
 
 -- each live item of several segments stands where it is said to, and is live there

@@ -36,6 +36,15 @@ use Rattle.segcache.specs.State.{MapState}
 use Rattle.segcache.proofs.ShownItems.{shown_insert, shown_remove, entry_is}
 use Rattle.segcache.proofs.TiedParts.{current_item}
 use Rattle.segcache.proofs.AppendNeeds.{appended_here, appended_other}
+use Rattle.std.proofs.Common.{Bool}
+use Rattle.segcache.specs.Invariants.{IsDatedIn}
+use Rattle.segments.specs.Items.{deadline_if_there, item_deadline, own_or_shared}
+use Rattle.segcache.proofs.OwnDeadlines.{exactly_given, may_before, own_dated, own_may}
+use Rattle.segcache.specs.OwnDeadlines.{own_deadline_by}
+use Rattle.engine.specs.Deadlines.{is_storable_deadline}
+use Rattle.segments.specs.Places.{same_place}
+use Rattle.segments.proofs.MovedPlaces.{same_place_is}
+use Rattle.segments.specs.Pools.{shared_at}
 
 -- the item went to a segment of its bucket that takes items at the moment t and could be opened by then; the others stay
 pub record IsIn (p : PoolState) (bucket t : ℕ) (after : PoolState) (place : Place) : Type 0 where
@@ -44,6 +53,7 @@ pub record IsIn (p : PoolState) (bucket t : ℕ) (after : PoolState) (place : Pl
   pub of_bucket : used.bucket ≡ bucket
   pub was : used.opened ≤ opening_moment p.eviction bucket t
   pub rule : after.eviction ≡ p.eviction
+  pub dates : after.exact ≡ p.exact
   pub takes : is_sealed bucket used.opened t ≡ false
   pub others : (n : ℕ) → (n == place.segment) ≡ false → segment_at after n ≡ segment_at p n
 
@@ -76,6 +86,7 @@ in_segment p bucket t i after place pool past (inl a) =
       was = subst (λ (b : ℕ). a.segment.opened ≤ opening_moment p.eviction b t) same
           (past.opened place.segment a.segment a.is_tail);
       rule = ap (λ (r : PoolState). r.eviction) a.after_is;
+      dates = ap (λ (r : PoolState). r.exact) a.after_is;
       takes = subst (λ b. is_sealed b a.segment.opened t ≡ false) same
           (takes_open p t (size_of_item i) (segment_at p place.segment) a.segment a.is_tail number.1);
       others = λ n e. at n ∙ rw e refl;
@@ -94,6 +105,7 @@ in_segment p bucket t i after place pool past (inr a) =
       of_bucket = refl;
       was = omega arith;
       rule = ap (λ (r : PoolState). r.eviction) a.after_is;
+      dates = ap (λ (r : PoolState). r.exact) a.after_is;
       takes = opening_open p.eviction bucket t;
       others = λ n e. at n ∙ rw e refl;
     }
@@ -101,8 +113,9 @@ in_segment p bucket t i after place pool past (inr a) =
 -- where an item is appended, segments still stand in order, and none was opened after the moment
 pub past_put : (p : PoolState) (bucket t : ℕ) (i : Item) (after : PoolState) (place : Place) → IsPool p → IsPast p t
     → IsAddedToTail p bucket t i after place ⊎ IsAddedToFree p bucket t i after place
-    → IsIn p bucket t after place → IsPast after t
-past_put p bucket t i after place pool past added x =
+    → IsIn p bucket t after place → IsDatedIn p.exact (shared_at after place) i → IsPast after t
+past_put p bucket t i after place pool past added x own =
+    let a = appended p bucket t i after place pool added in
     record {
       within = past.within;
       opened = λ n u e.
@@ -119,6 +132,21 @@ past_put p bucket t i after place pool past added x =
                 (past.opened n u (sym (x.others n f) ∙ e))
           ];
       in_order = (in_time_appended p bucket t i after place pool added (in_time_past p t pool past)).order;
+      dated = λ r j e.
+          elim (cases_Bool (same_place r place)) [
+            | inl y ↦
+                let there : r ≡ place = same_place_is r place y in
+                let one : Some j ≡ Some i = sym e ∙ a.items r ∙ rw y refl in
+                let is : j ≡ i = cc in
+                subst (λ (b : Bool). IsDatedIn b (shared_at after r) j) (sym x.dates)
+                (subst (λ (q : Place). IsDatedIn p.exact (shared_at after q) j) (sym there)
+                (subst (IsDatedIn p.exact (shared_at after place)) (sym is) own))
+            | inr n ↦
+                let was : item_in p r ≡ Some j = sym (a.items r ∙ rw n refl) ∙ e in
+                let some : IsSome (item_in p r) = subst IsSome (sym was) refl in
+                subst (λ (b : Bool). IsDatedIn b (shared_at after r) j) (sym x.dates)
+                (subst (λ (d : Option ℕ). IsDatedIn p.exact d j) (sym (a.shared r some)) (past.dated r j was))
+          ];
     }
 
 -- no time to live has the bucket of what has no deadline
@@ -179,49 +207,77 @@ put_shown p after index found marks bucket t i place tied added is waits =
     entry_is after r y.0 (appended_other p after bucket t i y.0 place r a y.1)
     ∙ ap (λ (d : Option ℕ). kept_entry d y.0) (a.deadlines r some) ∙ sym (entry_is p r y.0 y.1)))
 
--- the deadline that an appended item gets
-pub put_deadline : (p after : PoolState) (marks : Marks) (index : Table) (bucket t : ℕ) (i : Item) (asked : Option ℕ)
-    (place : Place) → IsPast p t → IsTied p index marks
+-- what `append` requires of a map, an item and the deadline that it asks for
+pub record AsksAppend (m : MapState) (i : Item) (asked : Option ℕ) (bucket : ℕ) : Type 0 where
+  pub own : i.own_deadline ≡ own_deadline_by m.pool.exact asked
+  pub waits : has_arrived asked m.moment ≡ false
+  pub of_bucket : bucket ≡ bucket_of (time_to_live asked m.moment)
+
+-- what an appended item gets
+pub record IsDated (p : PoolState) (t : ℕ) (i : Item) (asked : Option ℕ) (after : PoolState) (place : Place) : Type 0 where
+  pub deadline : Option ℕ
+  pub may_live : MayLive t asked deadline
+  pub exactly : p.exact ≡ true → is_storable_deadline asked ≡ true → deadline ≡ asked
+  pub entry_is : entry_at after place ≡ kept_entry deadline i
+  pub past : IsPast after t
+  pub exact_is : after.exact ≡ p.exact
+
+pub put_deadline : (p after : PoolState) (bucket t : ℕ) (i : Item) (asked : Option ℕ)
+    (place : Place) → IsPast p t → IsPool p
     → IsAddedToTail p bucket t i after place ⊎ IsAddedToFree p bucket t i after place
-    → has_arrived asked t ≡ false → bucket ≡ bucket_of (time_to_live asked t)
-    → (deadline : Option ℕ) × MayLive t asked deadline × (entry_at after place ≡ kept_entry deadline i) × IsPast after t
-put_deadline p after marks index bucket t i asked place past tied added waits of_bucket =
-    let a = appended p bucket t i after place tied.known.pool added in
-    let x = in_segment p bucket t i after place tied.known.pool past added in
+    → i.own_deadline ≡ own_deadline_by p.exact asked → has_arrived asked t ≡ false → bucket ≡ bucket_of (time_to_live asked t)
+    → IsDated p t i asked after place
+put_deadline p after bucket t i asked place past pool added own waits of_bucket =
+    let a = appended p bucket t i after place pool added in
+    let x = in_segment p bucket t i after place pool past added in
     let was = le_trans x.was (opening_le p.eviction bucket t) in
-    let may = deadline_may t bucket x.used.opened asked waits of_bucket was x.takes in
-    let deadline : place_deadline after place ≡ bucket_deadline bucket x.used.opened =
-    ap deadline_in x.is_at ∙ ap (λ b. bucket_deadline b x.used.opened) x.of_bucket in (
-      bucket_deadline bucket x.used.opened,
-      may,
-      entry_is after place i (appended_here p after bucket t i place a)
-          ∙ ap (λ (d : Option ℕ). kept_entry d i) deadline,
-      past_put p bucket t i after place tied.known.pool past added x,
-    )
+    let shared : Option ℕ = bucket_deadline bucket x.used.opened in
+    let may : MayLive t asked shared = deadline_may t bucket x.used.opened asked waits of_bucket was x.takes in
+    let there : shared_at after place ≡ shared =
+    ap deadline_in x.is_at ∙ ap (λ b. bucket_deadline b x.used.opened) x.of_bucket in
+    let here = appended_here p after bucket t i place a in
+    let deadline : place_deadline after place ≡ own_or_shared (own_deadline_by p.exact asked) shared =
+    ap (deadline_if_there (shared_at after place)) here ∙ ap (λ (d : Option ℕ). item_deadline i d) there
+    ∙ ap (λ (n : ℕ). own_or_shared n shared) own in
+    record {
+      deadline = own_or_shared (own_deadline_by p.exact asked) shared;
+      may_live = own_may p.exact t asked shared waits may;
+      exactly = exactly_given p.exact t asked shared waits may;
+      entry_is = entry_is after place i here ∙ ap (λ (d : Option ℕ). kept_entry d i) deadline;
+      past = past_put p bucket t i after place pool past added x
+          (subst (λ (d : Option ℕ). IsDatedIn p.exact d i) (sym there)
+          (own_dated p.exact asked shared i own (may_before t asked shared may)));
+      exact_is = x.dates;
+    }
 
 -- An item was appended to a pool that kept what it had to.
 pub put_made : (p : PoolState) (index : Table) (mid : PoolState) (between : Table) (marks : Marks) (bucket t : ℕ)
     (i : Item)
     (asked : Option ℕ) (after : PoolState) (found : Table) (place : Place)
-    → mid.sizes ≡ p.sizes → AreKept p.sizes (shown_entries p index t) (shown_entries mid between t) → IsPast mid t
+    → mid.sizes ≡ p.sizes → mid.exact ≡ p.exact
+    → AreKept p.sizes (shown_entries p index t) (shown_entries mid between t) → IsPast mid t
     → IsTied mid between marks
     → IsAddedToTail mid bucket t i after place ⊎ IsAddedToFree mid bucket t i after place
     → current after found ≡ finite.insert (current mid between) i.key place
+    → i.own_deadline ≡ own_deadline_by p.exact asked
     → has_arrived asked t ≡ false → bucket ≡ bucket_of (time_to_live asked t) → IsPut p index t i asked after found
-put_made p index mid between marks bucket t i asked after found place sizes kept past tied added is waits of_bucket =
+put_made p index mid between marks bucket t i asked after found place sizes exact kept past tied added is own waits of_bucket =
     let a = appended mid bucket t i after place tied.known.pool added in
-    let d = put_deadline mid after marks between bucket t i asked place past tied added waits of_bucket in
+    let d = put_deadline mid after bucket t i asked place past tied.known.pool added
+    (own ∙ ap (λ (b : Bool). own_deadline_by b asked) (sym exact)) waits of_bucket in
     let waiting : has_arrived (entry_at after place).deadline t ≡ false =
-    ap (λ (e : Entry). has_arrived e.deadline t) d.2 ∙ may_wait t asked d.0 d.1 in
+    ap (λ (e : Entry). has_arrived e.deadline t) d.entry_is ∙ may_wait t asked d.deadline d.may_live in
     record {
       sizes = a.sizes ∙ sizes;
-      past = d.3;
-      deadline = d.0;
-      may_live = d.1;
+      exact_is = d.exact_is ∙ exact;
+      past = d.past;
+      deadline = d.deadline;
+      may_live = d.may_live;
+      exactly = λ e near. d.exactly (exact ∙ e) near;
       kept = shown_entries mid between t;
       are_kept = kept;
       entries = put_shown mid after between found marks bucket t i place tied added is waiting
-          ∙ ap (finite.insert (shown_entries mid between t) i.key) d.2;
+          ∙ ap (finite.insert (shown_entries mid between t) i.key) d.entry_is;
     }
 
 -- Room was made for an item, and it was appended there.
@@ -231,12 +287,13 @@ pub put_placed : (lives : Liveness) (p : PoolState) (index : Table) (mid : PoolS
     → HasMadeRoom lives p index bucket t i mid between → IsPast mid t → IsTied mid between marks
     → IsAddedToTail mid bucket t i after place ⊎ IsAddedToFree mid bucket t i after place
     → current after found ≡ finite.insert (current mid between) i.key place
+    → i.own_deadline ≡ own_deadline_by mid.exact asked
     → has_arrived asked t ≡ false → bucket ≡ bucket_of (time_to_live asked t)
     → PlacesItem lives p index bucket t i after found
-put_placed lives p index mid between marks bucket t i asked after found place made past tied added is waits of_bucket =
-    let d = put_deadline mid after marks between bucket t i asked place past tied added waits of_bucket in
+put_placed lives p index mid between marks bucket t i asked after found place made past tied added is own waits of_bucket =
+    let d = put_deadline mid after bucket t i asked place past tied.known.pool added own waits of_bucket in
     let waiting : has_arrived (entry_at after place).deadline t ≡ false =
-    ap (λ (e : Entry). has_arrived e.deadline t) d.2 ∙ may_wait t asked d.0 d.1 in
+    ap (λ (e : Entry). has_arrived e.deadline t) d.entry_is ∙ may_wait t asked d.deadline d.may_live in
     record {
       place = place;
       stands = ap (λ (m : Places). finite.get m i.key) is ∙ get-insert (current mid between) i.key place i.key
@@ -252,23 +309,26 @@ pub put_over : (p : PoolState) (index : Table) (marks : Marks) (bucket t : ℕ) 
     → IsPast p t → IsTied p index marks
     → IsAddedToTail p bucket t i after place ⊎ IsAddedToFree p bucket t i after place
     → current after found ≡ finite.insert (current p index) i.key place
+    → i.own_deadline ≡ own_deadline_by p.exact asked
     → has_arrived asked t ≡ false → bucket ≡ bucket_of (time_to_live asked t) → IsPutOver p index t i asked after found
-put_over p index marks bucket t i asked after found place past tied added is waits of_bucket =
+put_over p index marks bucket t i asked after found place past tied added is own waits of_bucket =
     let a = appended p bucket t i after place tied.known.pool added in
-    let d = put_deadline p after marks index bucket t i asked place past tied added waits of_bucket in
+    let d = put_deadline p after bucket t i asked place past tied.known.pool added own waits of_bucket in
     let waiting : has_arrived (entry_at after place).deadline t ≡ false =
-    ap (λ (e : Entry). has_arrived e.deadline t) d.2 ∙ may_wait t asked d.0 d.1 in
+    ap (λ (e : Entry). has_arrived e.deadline t) d.entry_is ∙ may_wait t asked d.deadline d.may_live in
     let others : Entries = finite.remove (shown_entries p index t) i.key in
     record {
       sizes = a.sizes;
-      past = d.3;
-      deadline = d.0;
-      may_live = d.1;
+      exact_is = d.exact_is;
+      past = d.past;
+      deadline = d.deadline;
+      may_live = d.may_live;
+      exactly = d.exactly;
       kept = others;
       are_kept = record { forgotten = []; evicted = inl refl; entries = sym (without-nil others) };
       entries = put_shown p after index found marks bucket t i place tied added is waiting
-          ∙ ap (finite.insert (shown_entries p index t) i.key) d.2
-          ∙ sym (insert_removed (shown_entries p index t) i.key (kept_entry d.0 i));
+          ∙ ap (finite.insert (shown_entries p index t) i.key) d.entry_is
+          ∙ sym (insert_removed (shown_entries p index t) i.key (kept_entry d.deadline i));
     }
 
 -- what an append says of its result, where that is known to be one or the other
@@ -305,4 +365,4 @@ put_left old left i asked after found pool moment is put =
     (subst (λ (q : PoolState). IsPut q left.index left.moment i asked after found) pool put) in
     let shows : shown_entries p left.index t ≡ finite.remove (shown_entries p old.index t) i.key =
     ap (λ (m : Places). live_entries p m t) there ∙ shown_remove p (current p old.index) t i.key in
-    subst (λ (others : Entries). IsPutBeside others p.sizes t i asked after found) shows h
+    subst (λ (others : Entries). IsPutBeside others p.sizes p.exact t i asked after found) shows h

@@ -33,12 +33,17 @@ use Rattle.segcache.proofs.OpeningMoments.{past_changed}
 use Rattle.segcache.proofs.WriteParts.{may_store}
 use Rattle.segcache.proofs.KeptEntries.{adds_none, keeps_changed}
 use Rattle.segcache.proofs.WritesWithRoom.{written_more, all_last}
+use Rattle.segcache.specs.Invariants.{AreDated}
+use Rattle.segments.specs.Items.{deadline_if_there, item_deadline}
+use Rattle.segments.specs.Pools.{shared_at}
+use Rattle.segcache.specs.Writes.{unread_by}
+use Rattle.segcache.proofs.OwnDeadlines.{own_small}
 
 -- ---- what is shown
 
 -- an item that is put over another one is shown where it stands
 pub over_entry : (p : PoolState) (place : Place) (new : Item) → KeepsSize (λ _. new) (item_in p place)
-    → entry_at (with_item_at p place new) place ≡ kept_entry (place_deadline p place) new
+    → entry_at (with_item_at p place new) place ≡ kept_entry (item_deadline new (shared_at p place)) new
 over_entry p place new k =
     let itself = same_place_itself place in
     let is = k.is in
@@ -129,6 +134,7 @@ with_reads limit i j s r =
       short_key = s.short_key;
       reads = r.reads;
       small = s.small;
+      own_deadline = s.own_deadline;
     }
 
 -- an entry whose deadline hasn't come is live
@@ -157,9 +163,11 @@ changes_in_place old pool key e place o kept there waits h is whole =
     let i = with_value e o.item in
     let k = over_keeps p place i o.item o.is_at refl h in
     let t = tied_changed (λ _. i) p pool old.index old.marks place kept.tied k whole is in
+    let dated : item_deadline i (shared_at p place) ≡ e.deadline =
+    sym (ap (deadline_if_there (shared_at p place)) o.is_at) ∙ o.deadline in
     let here : entry_at pool place ≡ e =
     ap (λ (q : PoolState). entry_at q place) is ∙ over_entry p place i k.sized
-    ∙ (λ n. record { value = e.value; flags = o.flags n; deadline = o.deadline n; cas = e.cas }) in
+    ∙ (λ n. record { value = e.value; flags = o.flags n; deadline = dated n; cas = e.cas }) in
     record {
       place = place;
       stands = there;
@@ -183,16 +191,16 @@ sized_over old new key e w = keeps_over (with_value e w.item) (item_in old.pool 
     (subst (λ (o : Option Item). fits_over (with_value e w.item) o ≡ true) (sym w.is_at) w.fits)
 
 -- and keeps what was stored
-keeps_over_key : (old new : MapState) (key : List ℕ) (e : Entry) → ChangesInPlace old key e new
+keeps_over_key : (old new : MapState) (key : List ℕ) (e : Entry) → AreDated old.pool → ChangesInPlace old key e new
     → KeepsEntry (λ (m : MapState). m.pool.sizes) (λ (m : MapState). shown_entries m.pool m.index m.moment)
     (λ (m : MapState). m.moment) KeepsStored old key e new
-keeps_over_key old new key e w items keeps adds within =
+keeps_over_key old new key e dated w items keeps adds within =
     let p = old.pool in
     let t = old.moment in
     let k = keeps_changed (λ _. with_value e w.item) old new w.place (sized_over old new key e w)
     (ap (λ (m : MapState). m.pool) w.new_is) items keeps in
     let moment : new.moment ≡ t = ap (λ (m : MapState). m.moment) w.new_is in
-    let none : e.deadline ≡ None = adds_none p (current p old.index) t key e keeps.all_last adds in
+    let none : e.deadline ≡ None = adds_none p (current p old.index) t key e dated keeps.all_last adds in
     let bucket : bucket_of (time_to_live e.deadline t) ≡ lasting =
     ap (λ (d : Option ℕ). bucket_of (time_to_live d t)) none in
     let one : StoredItem = record { size = entry_size key e; bucket = bucket_of (time_to_live e.deadline t) } in
@@ -218,16 +226,25 @@ pub record AsksRewrite (m : MapState) (key : List ℕ) (e : Entry) (place : Plac
 
 -- the item that it puts over the one that was read at the place
 abbrev pub item_over : List ℕ → Entry → Item → Item
-item_over key e found = record (unread key e) { reads = found.reads }
+item_over key e found = record (unread_by false key e) { reads = found.reads; own_deadline = found.own_deadline }
 
 -- a segment can hold it
 pub storable_over : (m : MapState) (key : List ℕ) (e : Entry) (place : Place) (found : Item) → AsksRewrite m key e place
     → IsSegmentedMap m → Some found ≡ item_in m.pool place → e.cas < 2 ^ 64 → e.flags < 2 ^ 32
     → IsStorable (item_limit m.pool.sizes) (item_over key e found)
 storable_over m key e place found asks kept at cas flags =
-    with_reads (item_limit m.pool.sizes) (unread key e) found
-    (may_store m.pool m.index m.marks m.moment (unread key e) kept.tied asks.fits cas flags refl)
-    (item_storable m.pool place found kept.tied.known.pool (sym at))
+    let was = item_storable m.pool place found kept.tied.known.pool (sym at) in
+    let new = may_store m.pool m.index m.marks m.moment (unread_by false key e) kept.tied asks.fits cas flags refl
+    (own_small false e.deadline) in
+    record {
+      cas = new.cas;
+      flags = new.flags;
+      some_key = new.some_key;
+      short_key = new.short_key;
+      reads = was.reads;
+      small = new.small;
+      own_deadline = was.own_deadline;
+    }
 
 -- what it leaves where the item fits
 pub record IsRewritten (old new : MapState) (key : List ℕ) (e : Entry) : Type 0 where
@@ -249,7 +266,14 @@ rewritten m key e place found pool asks kept at fits is whole =
     let found_is : found ≡ o.item = cc in
     let same : item_over key e found ≡ with_value e o.item =
     ap (item_over key e) found_is
-    ∙ (λ n. record { cas = e.cas; flags = sym o.flags n; key = sym o.key_is n; value = e.value; reads = o.item.reads }) in
+    ∙ (λ n. record {
+      cas = e.cas;
+      flags = sym o.flags n;
+      key = sym o.key_is n;
+      value = e.value;
+      reads = o.item.reads;
+      own_deadline = o.item.own_deadline;
+    }) in
     let w = changes_in_place m pool key e place o kept asks.stands asks.waits
     (subst (λ (i : Item). fits_over i (item_in m.pool place) ≡ true) same fits)
     (is ∙ ap (with_item_at m.pool place) same) whole in
@@ -261,10 +285,11 @@ rewritten m key e place found pool asks kept at fits is whole =
       kept = record {
         tied = (tied_changed (λ _. i) m.pool pool m.index m.marks place kept.tied k whole pool_is).0;
         past = subst (λ (q : PoolState). IsPast q m.moment) (sym pool_is)
-            (past_changed (λ _. i) m.pool m.moment place kept.past (some_item m.pool place o.item o.is_at));
+            (past_changed (λ _. i) m.pool m.moment place kept.past k.sized
+            (λ j here. kept.past.dated place o.item o.is_at));
       };
       changed = w;
       written = written_exactly m.pool.sizes m.moment (shown_entries m.pool m.index m.moment) key e
           (shown_entries pool m.index m.moment) asks.waits w.entries;
-      keeps = keeps_over_key m new key e w;
+      keeps = keeps_over_key m new key e kept.past.dated w;
     }

@@ -42,7 +42,7 @@ use Rattle.segcache.proofs.LeftPlaces.{is_left, standing_all, standing_left}
 abbrev pub IsCurrent : PoolState → Table → Standing → Type 0
 IsCurrent p index s = (item_in p s.place ≡ Some s.item) × (finite.get (current p index) s.item.key ≡ Some s.place)
 
--- where no current deadline has come, a current item is shown as the entry that it keeps, with its segment's deadline
+-- where no current deadline has come, a current item is shown as the entry that it keeps, with its deadline
 pub shown_item : (p : PoolState) (index : Table) (t : ℕ) (s : Standing) → AllWait p (current p index) t
     → IsCurrent p index s
     → finite.get (shown_entries p index t) s.item.key ≡ Some (kept_entry (place_deadline p s.place) s.item)
@@ -428,6 +428,7 @@ cleared_made p after n index found marks others t tied left pool is some h crowd
     let ss = filter (λ (s : Standing). is_marked marks s.place) (standing p n) in
     record {
       sizes = ap (λ (a : PoolState). a.sizes) is;
+      exact = ap (λ (a : PoolState). a.exact) is;
       past = subst (λ (a : PoolState). IsPast a t) (sym is) (past_cleared p t n crowded.past some);
       free = subst HasFree (sym is) (cleared_free p n tied.known.pool some);
       absent = λ q none. ap (λ (m : Places). finite.get m q) same

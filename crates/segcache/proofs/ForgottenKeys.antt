@@ -185,6 +185,7 @@ none_given lives p after pool g none =
       plan = g.plan i;
       eviction = g.eviction i;
       hits = g.hits i;
+      exact = g.exact i;
     }
 
 -- ---- the items that are live at a moment

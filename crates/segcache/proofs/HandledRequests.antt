@@ -17,7 +17,7 @@ use Rattle.segcache.specs.declared.segment_map.SegmentMap.{SegmentMap}
 use Rattle.segcache.specs.Shown.{shown_entries}
 use Rattle.segcache.specs.State.{MapState, IsSegmentedMap}
 use Rattle.segcache.specs.StoreState.{sizes_in, segmented_cache}
-use Rattle.segcache.specs.Writes.{StandsAt, WritesToSegments, ChangesSegments, stays_as, IsReadAgain, IsTouched, HasSamePool}
+use Rattle.segcache.specs.Writes.{StandsAt, WritesToSegments, ChangesSegments, touch_leaves, IsReadAgain, IsTouched, HasSamePool}
 use Rattle.segcache.specs.Keeping.{KeepsStored}
 use Rattle.segcache.specs.Requests.{LeavesSegments, HandlesSegments}
 use Rattle.segcache.specs.Requests.LeavesSegments.{writes, changes, dates, reads, stays, refuses}
@@ -35,7 +35,7 @@ members =
       changes = ChangesSegments;
       reads = IsReadAgain;
       touches = IsTouched;
-      stays = stays_as;
+      stays = touch_leaves;
       alike = HasSamePool;
       keeps = KeepsStored;
     }

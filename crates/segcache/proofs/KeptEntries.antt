@@ -36,17 +36,32 @@ use Rattle.segcache.proofs.OpeningMoments.{was_opened}
 use Rattle.segcache.proofs.AppendNeeds.{appended_here}
 use Rattle.segcache.proofs.WritesWithRoom.{kept_with, holds_little, written_more, all_last, last_appended}
 use Rattle.segments.proofs.MarkedPlaces.{nothing_at}
+use Rattle.segcache.specs.Invariants.{AreDated, IsDatedIn}
+use Rattle.segments.specs.Pools.{bucket_deadline, shared_at}
+use Rattle.segments.specs.Items.{deadline_if_there, item_deadline, own_or_shared}
+use Rattle.segcache.proofs.OwnDeadlines.{dated_never, none_of_its_own}
+use Rattle.segcache.specs.OwnDeadlines.{own_deadline_by}
+use Rattle.engine.specs.Deadlines.{is_storable_deadline}
+use Rattle.segcache.specs.Writes.{unread_by}
 
 -- ---- no entry has a deadline where all segments are of the bucket of what has none
 
 -- a segment of the bucket of what has no deadline has none, nor has a free one
-undated_segment : (o : Option Used) → ((u : Used) → o ≡ Some u → u.bucket ≡ lasting) → deadline_in o ≡ None
+pub undated_segment : (o : Option Used) → ((u : Used) → o ≡ Some u → u.bucket ≡ lasting) → deadline_in o ≡ None
 undated_segment None all = refl
 undated_segment (Some u) all = let z = eq-eqb u.bucket lasting (all u refl) in rw z refl
 
+-- an item whose segment has no deadline has none
+undated_by : (exact : Bool) (shared : Option ℕ) (o : Option Item) → shared ≡ None
+    → ((i : Item) → o ≡ Some i → IsDatedIn exact shared i) → deadline_if_there shared o ≡ None
+undated_by exact shared None none each = refl
+undated_by exact shared (Some i) none each =
+    ap (item_deadline i) none ∙ dated_never exact i (subst (λ (d : Option ℕ). IsDatedIn exact d i) none (each i refl))
+
 -- where all segments are of that bucket, no place has a deadline
-pub undated_place : (p : PoolState) (r : Place) → AllLast p → place_deadline p r ≡ None
-undated_place p r all = undated_segment (segment_at p r.segment) (all r.segment)
+pub undated_place : (p : PoolState) (r : Place) → AreDated p → AllLast p → place_deadline p r ≡ None
+undated_place p r dated all =
+    undated_by p.exact (shared_at p r) (item_in p r) (undated_segment (segment_at p r.segment) (all r.segment)) (dated r)
 
 -- the deadline of an entry, none where there is no entry
 abbrev asked_at : Option Entry → Option ℕ
@@ -63,57 +78,63 @@ undated_item t d (Some i) none = by_test (is_live (kept_entry d i) t)
     by_test false = refl
 
 -- where all segments are of that bucket, what is shown of a place, if there is one, has no deadline
-undated_entry : (p : PoolState) (t : ℕ) (o : Option Place) → AllLast p
+undated_entry : (p : PoolState) (t : ℕ) (o : Option Place) → AreDated p → AllLast p
     → asked_at (if_live t (option_map (entry_at p) o)) ≡ None
 unfolding entry_at
-undated_entry p t None all = refl
-undated_entry p t (Some r) all = undated_item t (place_deadline p r) (item_in p r) (undated_place p r all)
+undated_entry p t None dated all = refl
+undated_entry p t (Some r) dated all =
+    undated_item t (place_deadline p r) (item_in p r) (undated_place p r dated all)
 
 -- where all segments are of that bucket, no key is shown with a deadline
-undated_shown : (p : PoolState) (m : Places) (t : ℕ) (key : List ℕ) → AllLast p
+undated_shown : (p : PoolState) (m : Places) (t : ℕ) (key : List ℕ) → AreDated p → AllLast p
     → steps.deadline_at (live_entries p m t) key ≡ None
-undated_shown p m t key all = ap asked_at (get-live_in p m t key) ∙ undated_entry p t (finite.get m key) all
+undated_shown p m t key dated all = ap asked_at (get-live_in p m t key) ∙ undated_entry p t (finite.get m key) dated all
 
 -- so an entry that is written has none either
-pub adds_none : (p : PoolState) (m : Places) (t : ℕ) (key : List ℕ) (e : Entry) → AllLast p
+pub adds_none : (p : PoolState) (m : Places) (t : ℕ) (key : List ℕ) (e : Entry) → AreDated p → AllLast p
     → AddsNoDeadline (live_entries p m t) key e → e.deadline ≡ None
-adds_none p m t key e all (inl none) = none
-adds_none p m t key e all (inr same) = same ∙ undated_shown p m t key all
+adds_none p m t key e dated all (inl none) = none
+adds_none p m t key e dated all (inr same) = same ∙ undated_shown p m t key dated all
 
 -- ---- one write
 
 -- the entry of an item that was appended, in a pool without deadlines
-entry_there : (after : PoolState) (place : Place) (key : List ℕ) (e : Entry)
-    → item_in after place ≡ Some (unread key e) → AllLast after → e.deadline ≡ None → entry_at after place ≡ e
-entry_there after place key e here all none =
-    entry_is after place (unread key e) here
-    ∙ ap (λ (d : Option ℕ). kept_entry d (unread key e)) (undated_place after place all ∙ sym none)
+entry_there : (after : PoolState) (place : Place) (b : Bool) (key : List ℕ) (e : Entry)
+    → item_in after place ≡ Some (unread_by b key e) → place_deadline after place ≡ None → e.deadline ≡ None
+    → entry_at after place ≡ e
+entry_there after place b key e here undated none =
+    entry_is after place (unread_by b key e) here
+    ∙ ap (λ (d : Option ℕ). kept_entry d (unread_by b key e)) (undated ∙ sym none)
 
 -- An entry that is written where little is stored, and nothing with a deadline, is kept with what was.
 pub keeps_entry : (lives : Liveness) (old new : MapState) (key : List ℕ) (e : Entry) → IsPool old.pool
     → IsPast old.pool old.moment
-    → IsStorable (item_limit old.pool.sizes) (unread key e)
+    → IsStorable (item_limit old.pool.sizes) (unread old key e)
     → new.moment ≡ old.moment
     → PlacesItem lives old.pool old.index (bucket_of (time_to_live e.deadline old.moment)) old.moment
-    (unread key e) new.pool new.index
+    (unread old key e) new.pool new.index
     → KeepsEntry (λ (m : MapState). m.pool.sizes) (λ (m : MapState). shown_entries m.pool m.index m.moment)
     (λ (m : MapState). m.moment) KeepsStored old key e new
 keeps_entry lives old new key e pool past storable moment placed items keeps adds within =
     let p = old.pool in
     let left = old.index in
     let t = old.moment in
-    let none : e.deadline ≡ None = adds_none p (current p old.index) t key e keeps.all_last adds in
+    let none : e.deadline ≡ None = adds_none p (current p old.index) t key e past.dated keeps.all_last adds in
     let bucket : bucket_of (time_to_live e.deadline t) ≡ lasting =
     ap (λ (d : Option ℕ). bucket_of (time_to_live d t)) none in
     let one : StoredItem = record { size = entry_size key e; bucket = bucket_of (time_to_live e.deadline t) } in
-    let i = unread key e in
+    let i = unread old key e in
     let little = holds_little p t items one pool keeps.all_last keeps.undated bucket keeps.held within in
     let x : PlacesItem lives p left lasting t i new.pool new.index =
     subst (λ (b : ℕ). PlacesItem lives p left b t i new.pool new.index) bucket placed in
     let kept = kept_with lives p left lasting t i new.pool new.index pool past storable keeps.filled little x in
     let all = last_appended p t i new.pool x.place pool past kept.added keeps.all_last in
-    let here = appended_here p new.pool lasting t i x.place (appended p lasting t i new.pool x.place pool kept.added) in
-    let is = entry_there new.pool x.place key e here all none in
+    let put = appended p lasting t i new.pool x.place pool kept.added in
+    let here = appended_here p new.pool lasting t i x.place put in
+    let plain : i.own_deadline ≡ 0 = ap (own_deadline_by old.pool.exact) none ∙ none_of_its_own old.pool.exact in
+    let undated : place_deadline new.pool x.place ≡ None =
+    put.deadline ∙ ap (λ (n : ℕ). own_or_shared n (bucket_deadline lasting put.opened)) plain in
+    let is = entry_there new.pool x.place old.pool.exact key e here undated none in
     let held = kept.held in
     let more = written_more items one in
     let was = keeps.held in (
@@ -138,28 +159,30 @@ same_put all m n key a b one other =
 
 -- An item that was placed is that of the entry, with the deadline that is shown.
 pub writes_anew : (old new : MapState) (key : List ℕ) (e : Entry)
-    → ((place : Place) → StandsAt old key place → goes_over old e.deadline (unread key e) place ≡ false)
-    → IsStorable (item_limit old.pool.sizes) (unread key e)
+    → ((place : Place) → StandsAt old key place → goes_over old e.deadline (unread old key e) place ≡ false)
+    → IsStorable (item_limit old.pool.sizes) (unread old key e)
     → PlacesItem (live_others key old.marks old.moment) old.pool old.index
-    (bucket_of (time_to_live e.deadline old.moment)) old.moment (unread key e) new.pool new.index
-    → (deadline : Option ℕ) → MayLive old.moment e.deadline deadline → (kept : Entries)
-    → shown_entries new.pool new.index old.moment ≡ finite.insert kept key (kept_entry deadline (unread key e))
+    (bucket_of (time_to_live e.deadline old.moment)) old.moment (unread old key e) new.pool new.index
+    → (deadline : Option ℕ) → MayLive old.moment e.deadline deadline
+    → (old.pool.exact ≡ true → is_storable_deadline e.deadline ≡ true → deadline ≡ e.deadline) → (kept : Entries)
+    → shown_entries new.pool new.index old.moment ≡ finite.insert kept key (kept_entry deadline (unread old key e))
     → WritesAnew old key e new
-writes_anew old new key e anew storable placed deadline may kept entries =
+writes_anew old new key e anew storable placed deadline may exact kept entries =
     let lives = live_others key old.marks old.moment in
     let bucket = bucket_of (time_to_live e.deadline old.moment) in
     let keys = keys_forgotten lives old.pool bucket old.moment
-    (unread key e) placed.written.roomy placed.written.room in
+    (unread old key e) placed.written.roomy placed.written.room in
     record {
       anew = anew;
       storable = storable;
       placed = placed;
       deadline = deadline;
       may_live = may;
+      exact = exact;
       stands = same_put (shown_entries new.pool new.index old.moment)
           (steps.without_keys (shown_entries old.pool old.index old.moment) keys) kept key
           (entry_at new.pool placed.place)
-          (kept_entry deadline (unread key e)) placed.entries entries;
+          (kept_entry deadline (unread old key e)) placed.entries entries;
     }
 
 -- ---- what else happens to a map
@@ -212,10 +235,10 @@ keeps_same old new is items keeps =
     }
 
 -- an empty pool keeps nothing
-pub keeps_none : (m : MapState) (sizes : Sizes) (eviction : Eviction)
-    → m.pool ≡ with_eviction (new_pool sizes) eviction → KeepsStored m []
+pub keeps_none : (m : MapState) (sizes : Sizes) (eviction : Eviction) (exact : Bool)
+    → m.pool ≡ with_eviction (new_pool sizes) eviction exact → KeepsStored m []
 unfolding new_pool
-keeps_none m sizes eviction is =
+keeps_none m sizes eviction exact is =
     subst (λ (q : PoolState). KeepsStored (record m { pool = q }) []) (sym is)
     (record {
       filled = tt;

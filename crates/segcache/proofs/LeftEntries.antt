@@ -23,6 +23,12 @@ use Rattle.segcache.proofs.KeptEntries.{adds_none}
 use Rattle.segcache.proofs.ShownItems.{shown_at, entry_is}
 use Rattle.segcache.proofs.TiedParts.{current_item}
 use Rattle.segcache.proofs.WritesWithRoom.{written_more, all_last}
+use Rattle.segcache.specs.Invariants.{AreDated}
+use Rattle.std.proofs.lemmas.Bool.{cases_Bool, eqb-true}
+use Rattle.proto.specs.Cache.{has_arrived}
+use Rattle.engine.specs.Deadlines.{is_storable_deadline}
+use Rattle.segcache.specs.Writes.{is_same, touch_leaves_by}
+use Rattle.proto.proofs.DeadlineLemmas.{may_be_exact}
 
 -- a deadline that is told to stay where another one is asked for may
 pub stays_may : (t : ℕ) (asked given : Option ℕ) → stays_as t asked given ≡ true → MayBeDated t asked given Touched
@@ -51,17 +57,40 @@ stays_may t (Some asked) (Some given) h = by_test live refl a.1
     )
     by_test false is h = inr (leb-true given asked b.1, leb-true (asked - given) ((asked - t) / 8) h)
 
+-- deadlines that are told to be the same are
+pub same_is : (one other : Option ℕ) → is_same one other ≡ true → one ≡ other
+same_is None None h = refl
+same_is None (Some other) h = absurd (false≢true h)
+same_is (Some one) None h = absurd (false≢true h)
+same_is (Some one) (Some other) h = ap Some (eqb-true one other h)
+
+-- a deadline that was asked for may stay
+same_may : (t : ℕ) (asked : Option ℕ) → has_arrived asked t ≡ false → MayBeDated t asked asked Touched
+same_may t None waits = tt
+same_may t (Some asked) waits = inl (may_be_exact t (Some asked) waits)
+
+-- a deadline that is told to be kept where another one is asked for may
+pub keeps_may : (exact : Bool) (t : ℕ) (asked given : Option ℕ) → has_arrived asked t ≡ false
+    → touch_leaves_by exact t asked given ≡ true → MayBeDated t asked given Touched
+keeps_may exact t asked given waits h =
+    elim (cases_Bool (exact && is_storable_deadline asked)) [
+      | inl y ↦
+          let same : is_same asked given ≡ true = rw y at h in
+          subst (λ (d : Option ℕ). MayBeDated t asked d Touched) (same_is asked given same) (same_may t asked waits)
+      | inr n ↦ (let stays : stays_as t asked given ≡ true = rw n at h in stays_may t asked given stays)
+    ]
+
 -- an entry that is left is kept with what was
-pub keeps_left : (old : MapState) (key : List ℕ) (e : Entry) (asked : Option ℕ)
+pub keeps_left : (old : MapState) (key : List ℕ) (e : Entry) (asked : Option ℕ) → AreDated old.pool
     → finite.get (shown_entries old.pool old.index old.moment) key ≡ Some e → MayBeDated old.moment asked e.deadline Touched
     → KeepsEntry (λ (m : MapState). m.pool.sizes) (λ (m : MapState). shown_entries m.pool m.index m.moment)
     (λ (m : MapState). m.moment) KeepsStored old key (record e { deadline = asked }) old
-keeps_left old key e asked there may items keeps adds within =
+keeps_left old key e asked dated there may items keeps adds within =
     let p = old.pool in
     let t = old.moment in
     let shown = shown_entries p old.index t in
     let new : Entry = record e { deadline = asked } in
-    let none : asked ≡ None = adds_none p (current p old.index) t key new keeps.all_last adds in
+    let none : asked ≡ None = adds_none p (current p old.index) t key new dated keeps.all_last adds in
     let given : e.deadline ≡ None = none_dated t asked e.deadline Touched none may in
     let same : e ≡ new = ap (λ (d : Option ℕ). record e { deadline = d }) (given ∙ sym none) in
     let bucket : bucket_of (time_to_live asked t) ≡ lasting =

@@ -1,7 +1,7 @@
 -- Items of a segment that leave one after the other, segments whose items leave, and all items at once.
 use Rattle.std.proofs.Common.{◌≡◌, ◌≢◌, ℕ, ◌+◌, ◌<◌, ◌≤◌, ◌*◌, ◌/◌, Bool, true, false, List, [], ◌∷◌}
 use Rattle.std.proofs.Common.{get_or, Some, refl, sym, ap, subst, ◌∙◌, inl, inr, arith}
-use Rattle.std.specs.Prelude.{All}
+use Rattle.std.specs.Prelude.{All, ◌⊎◌, Option}
 use Rattle.std.specs.List.{list_any}
 use Rattle.std.specs.FinMap as finite
 use Rattle.std.proofs.lemmas.Bool.{cases_Bool, cases_eq, false≢true}
@@ -11,8 +11,8 @@ use Rattle.std.specs.Cmp.Lexicographic.{slice_cmp}
 use Rattle.std.proofs.lemmas.List.Folds.{list_any_at}
 use Rattle.std.proofs.lemmas.List.Elements.{All-head, All-tail}
 use Rattle.segments.specs.declared.place.Place.{Place}
-use Rattle.segments.specs.Items.{Item}
-use Rattle.segments.specs.Pools.{PoolState, Standing, item_in, items_of, segment_at, standing, deadline_in, place_deadline}
+use Rattle.segments.specs.Items.{Item, item_deadline, deadline_if_there}
+use Rattle.segments.specs.Pools.{PoolState, Standing, item_in, items_of, segment_at, standing, deadline_in, shared_at, place_deadline}
 use Rattle.proto.specs.Cache.{has_arrived}
 use Rattle.segments.specs.Places.{same_place}
 use Rattle.segments.proofs.Places.{standing_by, mark_within}
@@ -24,8 +24,9 @@ use Rattle.index.specs.Layouts.{IsLayoutOf}
 use Rattle.segments.specs.Pools.{key_at}
 use Rattle.index.specs.Table.{Table, Places, IsMap, IsSameSize}
 use Rattle.segcache.specs.Shown.{current, live_entries, shown_entries}
-use Rattle.segcache.specs.Invariants.{IsTied}
-use Rattle.segcache.specs.Removals.{HasLeft, HaveExpiredLeft}
+use Rattle.segcache.specs.Invariants.{IsTied, AreDated}
+use Rattle.segcache.specs.Removals.{HasLeft, HaveArrivedLeft, HaveExpiredLeft}
+use Rattle.segcache.proofs.OwnDeadlines.{dated_waits}
 use Rattle.segcache.specs.State.{MapState, IsSegmentedMap}
 use Rattle.segcache.proofs.ShownItems.{shown_remove}
 use Rattle.segcache.proofs.TiedParts.{current_item, removed_at, removed_other}
@@ -144,6 +145,119 @@ has_left p n old index t left h none =
       others = h.others;
     }
 
+-- ---- items of a segment whose deadline has come
+
+-- Of the keys of a segment those after a point of a walk haven't left yet whose deadline is at or before the moment t.
+pub record IsArriving (p : PoolState) (t n : ℕ) (old : Places) (index : Table) (marks : Marks)
+    (left : List Standing) : Type 0 where
+  pub tied : IsTied p index marks
+  pub before : (q : List ℕ) (r : Place) → finite.get (current p index) q ≡ Some r → finite.get old q ≡ Some r
+  pub others : (q : List ℕ) (r : Place) → finite.get old q ≡ Some r
+      → (r.segment ≡ n → has_arrived (place_deadline p r) t ≡ false) → finite.get (current p index) q ≡ Some r
+  pub rest : (q : List ℕ) (r : Place) → finite.get (current p index) q ≡ Some r → r.segment ≡ n
+      → has_arrived (place_deadline p r) t ≡ true → is_left left r ≡ true
+  pub standing : All (λ (s : Standing). (s.place.segment ≡ n) × (item_in p s.place ≡ Some s.item)) left
+
+-- at the start of a walk through a segment none of its keys has left yet
+pub arriving_first : (p : PoolState) (t n : ℕ) (index : Table) (marks : Marks) (left : List Standing)
+    → IsTied p index marks → left ≡ standing p n
+    → IsArriving p t n (current p index) index marks left
+arriving_first p t n index marks left tied is =
+    let h = leaving_first p n index marks left tied is in
+    record {
+      tied = tied;
+      before = h.before;
+      others = λ q r e w. e;
+      rest = λ q r e same arrived. h.rest q r e same;
+      standing = h.standing;
+    }
+
+-- the next item isn't current, or its deadline hasn't come
+pub arriving_passed : (p : PoolState) (t n : ℕ) (old : Places) (index : Table) (marks : Marks) (s : Standing)
+    (left : List Standing) → IsArriving p t n old index marks (s ∷ left)
+    → ((is_marked marks s.place ≡ false) ⊎ (has_arrived (place_deadline p s.place) t ≡ false))
+    → IsArriving p t n old index marks left
+arriving_passed p t n old index marks s left h stays =
+    record {
+      tied = h.tied;
+      before = h.before;
+      others = h.others;
+      rest = λ q r e same arrived.
+          elim (cases_Bool (same_place s.place r)) [
+            | inl y ↦
+                let is : s.place ≡ r = same_place_is s.place r y in
+                elim stays [
+                  | inl free ↦ absurd (false≢true (sym free ∙ ap (is_marked marks) is ∙ h.tied.held q r e))
+                  | inr waits ↦
+                      absurd (false≢true (sym waits ∙ ap (λ x. has_arrived (place_deadline p x) t) is ∙ arrived))
+                ]
+            | inr f ↦ (let l : is_left (s ∷ left) r ≡ true = h.rest q r e same arrived in rw f at l)
+          ];
+      standing = All-tail (λ (x : Standing). (x.place.segment ≡ n) × (item_in p x.place ≡ Some x.item)) s left
+          h.standing;
+    }
+
+-- the next item has left
+pub arriving_more : (p : PoolState) (t n : ℕ) (old : Places) (index found : Table) (marks u : Marks) (s : Standing)
+    (left : List Standing)
+    → IsArriving p t n old index marks (s ∷ left)
+    → finite.get (current p index) s.item.key ≡ Some s.place → has_arrived (place_deadline p s.place) t ≡ true
+    → IsTied p found u → current p found ≡ finite.remove (current p index) s.item.key
+    → IsArriving p t n old found u left
+arriving_more p t n old index found marks u s left h there arrived tied is =
+    let here = All-head (λ (x : Standing). (x.place.segment ≡ n) × (item_in p x.place ≡ Some x.item)) s left
+    h.standing in
+    record {
+      tied = tied;
+      before = λ q r e. h.before q r (removed_at (current p index) s.item.key q r
+          (ap (λ (m : Places). finite.get m q) (sym is) ∙ e)).1;
+      others = λ q r e w.
+          (let was = h.others q r e w in
+          ap (λ (m : Places). finite.get m q) is ∙ removed_other (current p index) s.item.key q r
+          (λ same.
+          let one : Some r ≡ Some s.place = sym was ∙ ap (finite.get (current p index)) same ∙ there in
+          let e : r ≡ s.place = cc in
+          false≢true (sym (w (ap (λ (x : Place). x.segment) e ∙ here.0))
+          ∙ ap (λ x. has_arrived (place_deadline p x) t) e ∙ arrived)) was);
+      rest = λ q r e same come.
+          (let was = removed_at (current p index) s.item.key q r (ap (λ (m : Places). finite.get m q) (sym is) ∙ e) in
+          elim (cases_Bool (same_place s.place r)) [
+            | inl y ↦
+                let x = current_item p index q r was.1 in
+                let one : Some x.0 ≡ Some s.item =
+                sym x.1 ∙ ap (item_in p) (sym (same_place_is s.place r y)) ∙ here.1 in
+                let key : x.0.key ≡ s.item.key = cc in
+                absurd (was.0 (sym x.2 ∙ key))
+            | inr f ↦ (let l : is_left (s ∷ left) r ≡ true = h.rest q r was.1 same come in rw f at l)
+          ]);
+      standing = All-tail (λ (x : Standing). (x.place.segment ≡ n) × (item_in p x.place ≡ Some x.item)) s left
+          h.standing;
+    }
+
+-- at the end of the walk exactly the keys have left with a place in the segment whose deadline has come
+pub has_arrived_left : (p : PoolState) (t n : ℕ) (old : Places) (index : Table) (marks : Marks) (left : List Standing)
+    → IsArriving p t n old index marks left → left ≡ [] → HaveArrivedLeft p t n old (current p index)
+has_arrived_left p t n old index marks left h none =
+    record {
+      before = h.before;
+      waiting = λ q r e same.
+          elim (cases_Bool (has_arrived (place_deadline p r) t)) [
+            | inl y ↦
+                absurd (false≢true (ap (λ (ss : List Standing). is_left ss r) (sym none) ∙ h.rest q r e same y))
+            | inr w ↦ w
+          ];
+      others = h.others;
+    }
+
+-- the deadline of an item that a walk shows is that of its place
+pub deadline_shown : (p : PoolState) (n : ℕ) (s : Standing) (left : List Standing) (shared : Option ℕ)
+    → All (λ (x : Standing). (x.place.segment ≡ n) × (item_in p x.place ≡ Some x.item)) (s ∷ left)
+    → shared ≡ deadline_in (segment_at p n) → item_deadline s.item shared ≡ place_deadline p s.place
+deadline_shown p n s left shared all is =
+    let here = All-head (λ (x : Standing). (x.place.segment ≡ n) × (item_in p x.place ≡ Some x.item)) s left all in
+    ap (item_deadline s.item) (is ∙ ap (λ m. deadline_in (segment_at p m)) (sym here.0))
+    ∙ sym (ap (deadline_if_there (shared_at p s.place)) here.1)
+
 -- ---- segments whose deadline has come
 
 -- Of the segments before a number the keys have left whose deadline is at or before the moment t.
@@ -166,35 +280,41 @@ expiring_first p t index marks tied = record {
 }
 
 -- the deadline of the next segment hasn't come
-pub expiring_passed : (p : PoolState) (t : ℕ) (old : Places) (index : Table) (marks : Marks) (n : ℕ)
+pub expiring_passed : (p : PoolState) (t : ℕ) (old : Places) (index : Table) (marks : Marks) (n : ℕ) → AreDated p
     → IsExpiring p t old index marks n
     → has_arrived (deadline_in (segment_at p n)) t ≡ false → IsExpiring p t old index marks (n + 1)
-expiring_passed p t old index marks n h waits =
+expiring_passed p t old index marks n dated h waits =
     record {
       tied = h.tied;
       before = h.before;
       others = h.others;
       waiting = λ q r e lt.
           elim (cases_eq r.segment n) [
-            | inl same ↦ ap (λ m. has_arrived (deadline_in (segment_at p m)) t) same ∙ waits
+            | inl same ↦
+                let x = current_item p index q r e in
+                ap (λ o. has_arrived (deadline_if_there (shared_at p r) o) t) x.1
+                ∙ dated_waits p.exact (shared_at p r) x.0 t (dated r x.0 x.1)
+                (ap (λ m. has_arrived (deadline_in (segment_at p m)) t) same ∙ waits)
             | inr other ↦ h.waiting q r e (omega (arith, lt, other))
           ];
     }
 
--- the keys of the next segment have left
+-- the keys of the next segment have left whose deadline has come
 pub expiring_more : (p : PoolState) (t : ℕ) (old : Places) (index found : Table) (marks others : Marks) (n : ℕ)
     → IsExpiring p t old index marks n
-    → has_arrived (deadline_in (segment_at p n)) t ≡ true → IsTied p found others
-    → HasLeft n (current p index) (current p found)
+    → IsTied p found others
+    → HaveArrivedLeft p t n (current p index) (current p found)
     → IsExpiring p t old found others (n + 1)
-expiring_more p t old index found marks others n h arrived tied left =
+expiring_more p t old index found marks others n h tied left =
     record {
       tied = tied;
       before = λ q r e. h.before q r (left.before q r e);
-      others = λ q r e w. left.others q r (h.others q r e w)
-          (λ same. false≢true (sym w ∙ ap (λ m. has_arrived (deadline_in (segment_at p m)) t) same ∙ arrived));
-      waiting = λ q r e lt. (let ne = left.elsewhere q r e in
-          h.waiting q r (left.before q r e) (omega (arith, lt, ne)));
+      others = λ q r e w. left.others q r (h.others q r e w) (λ same. w);
+      waiting = λ q r e lt.
+          elim (cases_eq r.segment n) [
+            | inl same ↦ left.waiting q r e same
+            | inr other ↦ h.waiting q r (left.before q r e) (omega (arith, lt, other))
+          ];
     }
 
 -- after the last segment exactly the keys have left whose deadline has come

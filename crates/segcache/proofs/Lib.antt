@@ -6,6 +6,8 @@ pub mod TiedParts
 pub mod OpeningMoments
 -- the contracts of `unindex_segment`, `unindex_expired`, `remove_all` and `remove`
 pub mod LeftPlaces
+-- the contracts of `write` and `may_stay`: deadlines of items' own
+pub mod OwnDeadlines
 -- the contract of `seeded`
 pub mod NewMaps
 -- for `append`: that the index has room for one more key
@@ -46,3 +48,5 @@ pub mod LeftEntries
 pub mod HandledRequests
 -- the promise `StaysFilled` of `Store::handle`
 pub mod StayingFilled
+-- that deadlines are kept to the second
+pub mod KeptDeadlines

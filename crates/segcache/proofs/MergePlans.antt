@@ -64,11 +64,13 @@ swept_replanned p after o index marks t tied pool is crowded =
     let same = tied_replanned p after o index marks tied pool is in
     record {
       sizes = ap (λ (a : PoolState). a.sizes) is;
+      exact = ap (λ (a : PoolState). a.exact) is;
       past = subst (λ (a : PoolState). IsPast a t) (sym is)
           (record {
             within = crowded.past.within;
             opened = crowded.past.opened;
             in_order = order_same p (with_plan p o) refl refl refl crowded.past.in_order;
+            dated = crowded.past.dated;
           });
       tied = same.0;
       absent = λ q none. ap (λ (m : Places). finite.get m q) same.1 ∙ none;

@@ -34,6 +34,15 @@ use Rattle.segcache.proofs.TiedParts.{current_item}
 use Rattle.segcache.proofs.LeftPlaces.{is_left, standing_all}
 use Rattle.segcache.proofs.EvictedKeys.{IsCurrent, HaveStayed, size_in, segment_sizes, evicted_kept, current_among}
 use Rattle.segcache.proofs.MergedMarks.{IsMergeRelocated}
+use Rattle.std.proofs.lemmas.List.Elements.{All-cons, All-head, All-tail}
+use Rattle.segments.proofs.CarryLemmas.{All-item_at}
+use Rattle.segcache.specs.Invariants.{AreDated, IsDatedIn}
+use Rattle.segments.specs.declared.merge.Choice.{Choice}
+use Rattle.std.specs.List.{cons_option}
+use Rattle.segments.proofs.MovedPlaces.{contains_if, merged_deadline}
+use Rattle.segments.specs.Pools.{deadline_in, items_of, shared_at}
+use Rattle.std.proofs.Common.{get_or}
+use Rattle.segments.specs.Items.{item_at}
 
 -- ---- when segments were opened
 
@@ -58,11 +67,68 @@ opened_by rule false true items f o t u h a b = let r = filled_opened items f u 
     earlier rule t r.0 u r.2 r.3 (a r.0 r.1)
 opened_by rule false false items f o t u h a b = b u h
 
+-- what one move keeps in front of items that are dated as they may be is so too
+moved_dated : (exact : Bool) (d : Option ℕ) (b : Bool) (o : Option Item) (rest : List Item)
+    → ((i : Item) → o ≡ Some i → IsDatedIn exact d i) → All (IsDatedIn exact d) rest
+    → All (IsDatedIn exact d) (cons_option (if b then option_map with_reads_halved o else None) rest)
+moved_dated exact d true None rest each all = all
+moved_dated exact d true (Some i) rest each all = All-cons (IsDatedIn exact d) (with_reads_halved i) rest (each i refl) all
+moved_dated exact d false o rest each all = all
+
+-- what moves keep that start in segments with one deadline
+carried_dated : (p : PoolState) (d : Option ℕ) (moves : List Move) → AreDated p
+    → All (λ m. deadline_in (segment_at p m.source.segment) ≡ d) moves
+    → All (IsDatedIn p.exact d) (carried_items p moves)
+carried_dated p d [] dated all = All-nil (IsDatedIn p.exact d)
+carried_dated p d (m ∷ moves) dated all =
+    let P : Move → Type 0 = λ x. deadline_in (segment_at p x.source.segment) ≡ d in
+    moved_dated p.exact d (is_some m.target) (item_in p m.source) (carried_items p moves)
+    (λ i e. subst (λ (x : Option ℕ). IsDatedIn p.exact x i) (All-head P m moves all) (dated m.source i e))
+    (carried_dated p d moves dated (All-tail P m moves all))
+
+-- an item of a segment that stays, or got others that are dated as they may be there, is dated so
+dated_by_cases : (p after : PoolState) (first : ℕ) (items : List Item) (others : List ℕ) (r : Place) (j : Item)
+    (u : Used) → segment_at p first ≡ Some u
+    → segment_at after r.segment ≡ (if contains_number others r.segment then None
+    else (if r.segment == first then option_map (with_items items) (segment_at p first) else segment_at p r.segment))
+    → item_in after r ≡ Some j → All (IsDatedIn p.exact (deadline_in (segment_at p first))) items
+    → (item_in p r ≡ Some j → IsDatedIn p.exact (shared_at p r) j) → IsDatedIn p.exact (shared_at after r) j
+dated_by_cases p after first items others r j u is_first at e all was =
+    elim (cases_Bool (contains_number others r.segment)) [
+      | inl y ↦
+          let free : segment_at after r.segment ≡ None = at ∙ rw y refl in
+          absurd (none-some j (sym (ap (λ (o : Option Used). item_at (items_of o) r.offset) free) ∙ e))
+      | inr n ↦
+          elim (cases_Bool (r.segment == first)) [
+            | inl y ↦
+                let now : segment_at after r.segment ≡ Some (with_items items u) =
+                at ∙ rw (n, y) (ap (option_map (with_items items)) is_first) in
+                let there : item_at items r.offset ≡ Some j =
+                sym (ap (λ (o : Option Used). item_at (items_of o) r.offset) now) ∙ e in
+                let shared : shared_at after r ≡ deadline_in (segment_at p first) =
+                ap deadline_in now ∙ sym (ap deadline_in is_first) in
+                subst (λ (x : Option ℕ). IsDatedIn p.exact x j) (sym shared)
+                (All-item_at (IsDatedIn p.exact (deadline_in (segment_at p first))) items r.offset j all there)
+            | inr f ↦
+                let same : segment_at after r.segment ≡ segment_at p r.segment = at ∙ rw (n, f) refl in
+                let there : item_in p r ≡ Some j =
+                sym (ap (λ (o : Option Used). item_at (items_of o) r.offset) same) ∙ e in
+                subst (λ (x : Option ℕ). IsDatedIn p.exact x j) (sym (ap deadline_in same)) (was there)
+          ]
+    ]
+
+-- a merge leaves whether items have deadlines of their own
+into_exact : (p : PoolState) (c : Choice) (numbers : List ℕ) (items : List Item)
+    → (merged_into p c numbers items).exact ≡ p.exact
+into_exact p c [] items = refl
+into_exact p c (n ∷ numbers) items = refl
+
 -- no segment gets another moment
 past_merged : (p : PoolState) (plan : Plan) (after : PoolState) (t : ℕ) → IsPool p → IsTrue (qualifies p plan.choice)
+    → All (λ m. contains_number (merged_segments p plan.choice) m.source.segment ≡ true) plan.moves
     → after ≡ carried_out p plan → IsPast p t
     → IsPast after t
-past_merged p plan after t pool qualifying is past =
+past_merged p plan after t pool qualifying sources is past =
     let f = merged_front p plan.choice qualifying in
     let first = f.0 in
     let others : List ℕ = f.1.0 ∷ f.1.1.0 in
@@ -76,6 +142,15 @@ past_merged p plan after t pool qualifying is past =
     let now : after ≡ merged_into p plan.choice (first ∷ others) items =
     is ∙ ap (λ (xs : List ℕ). merged_into p plan.choice xs items) whole in
     let rule : after.eviction ≡ p.eviction = ap (λ (r : PoolState). r.eviction) now in
+    let dates : after.exact ≡ p.exact = ap (λ (r : PoolState). r.exact) now in
+    let at : (n : ℕ) → segment_at after n ≡ (if contains_number others n then None
+    else (if n == first then option_map (with_items items) (segment_at p first) else segment_at p n)) =
+    λ n. ap (λ (r : PoolState). segment_at r n) now ∙ merged_segment p plan.choice first others items n used.within in
+    let d : Option ℕ = deadline_in (segment_at p first) in
+    let all : All (IsDatedIn p.exact d) items =
+    carried_dated p d plan.moves past.dated
+    (λ k m lt. merged_deadline p plan.choice (get_or plan.moves k m).source.segment first
+    (contains_if (merged_segments p plan.choice) (get_or plan.moves k m).source.segment (sources k m lt)) some) in
     record {
       within = past.within;
       opened = λ n u e.
@@ -86,6 +161,9 @@ past_merged p plan after t pool qualifying is past =
           (past.opened n));
       in_order = subst IsInTimeOrder (sym is)
           (order_of_merged p plan.choice items pool qualifying past.in_order);
+      dated = λ r j e.
+          subst (λ (b : Bool). IsDatedIn b (shared_at after r) j) (sym dates)
+          (dated_by_cases p after first items others r j used.segment used.is_at (at r.segment) e all (past.dated r j));
     }
 
 -- ---- the items that are forgotten
@@ -251,7 +329,9 @@ merged_made p plan after index found marks t w crowded =
     let ss = lost plan.moves all in
     record {
       sizes = w.out.sizes;
-      past = past_merged p plan after t w.tied.known.pool w.is_plan.next.qualifying w.after_is crowded.past;
+      exact = ap (λ (r : PoolState). r.exact) w.after_is
+          ∙ into_exact p plan.choice (merged_segments p plan.choice) (carried_items p plan.moves);
+      past = past_merged p plan after t w.tied.known.pool w.is_plan.next.qualifying w.out.sources w.after_is crowded.past;
       free = w.out.has_free;
       absent = λ q none. w.relocated.places q ∙ ap (option_and_then (moved_by plan.moves)) none;
       kept = evicted_kept p index after found t ss crowded

@@ -17,6 +17,12 @@ use Rattle.segments.specs.Pools.{key_at}
 use Rattle.index.specs.Layouts.{IsLayoutOf}
 use Rattle.index.specs.Table.{Table, Places, IsMap}
 use Rattle.segcache.specs.Invariants.{IsTied, IsPast}
+use Rattle.segcache.specs.StoreState.{Store}
+use Rattle.segcache.specs.NewStores.{IsNewStore}
+use Rattle.proto.specs.declared.dialect.Dialect.{Dialect}
+use Rattle.std.proofs.Common.{Bool, Option}
+use Rattle.segments.specs.Pools.{Used, item_in, items_of}
+use Rattle.segments.specs.Items.{item_at}
 
 -- with no marks and no keys all is tied
 no_mark : (s : Sizes) (p : PoolState) (t : Marks) (n k : ℕ) → t ≡ no_marks s → mark_at t n k ≡ false
@@ -46,13 +52,23 @@ tied_start p index t pool is m roomy layout =
     }
 
 -- no segment is open
-pub past_start : (p : PoolState) (sizes : Sizes) (eviction : Eviction) → p ≡ with_eviction (new_pool sizes) eviction
+pub past_start : (p : PoolState) (sizes : Sizes) (eviction : Eviction) (exact : Bool)
+    → p ≡ with_eviction (new_pool sizes) eviction exact
     → IsPast p 0
 unfolding new_pool
-past_start p sizes eviction is =
+past_start p sizes eviction exact is =
     record {
       within = omega arith;
       opened = λ n u e. absurd (none-some u
           (sym (ap (λ (q : PoolState). segment_at q n) is ∙ nothing_at None sizes.segments n) ∙ e));
       in_order = subst IsInTimeOrder (sym is) tt;
+      dated = λ r j e.
+          (let none : item_in p r ≡ None = ap (λ (q : PoolState). item_in q r) is
+          ∙ ap (λ (o : Option Used). item_at (items_of o) r.offset) (nothing_at None sizes.segments r.segment) in
+          absurd (none-some j (sym none ∙ e)));
     }
+
+-- the items of a new store have deadlines of their own where that was asked for
+pub exact_of : (sizes : Sizes) (seed : ℕ) (in_place : Bool) (d : Dialect) (eviction : Eviction) (exact : Bool) (store : Store)
+    → IsNewStore sizes seed in_place d eviction exact store → store.map.pool.exact ≡ exact
+exact_of sizes seed in_place d eviction exact store new = ap (λ (p : PoolState). p.exact) new.made.pool_is

@@ -19,6 +19,12 @@ use Rattle.segments.proofs.SeriesLemmas.{AreUsed, order_used}
 use Rattle.segments.proofs.InTimeLemmas.{order_changed, order_same, order_part, part_given, part_cleared}
 use Rattle.segments.specs.Pools.{item_in}
 use Rattle.segcache.specs.Invariants.{IsPast}
+use Rattle.segcache.specs.Invariants.{IsDatedIn}
+use Rattle.segments.proofs.ItemChanges.{KeepsSize, some_kept}
+use Rattle.segments.proofs.Places.{changed_item, changed_shared, cleared_item, cleared_shared, given_item, given_shared}
+use Rattle.segments.specs.Places.{same_place}
+use Rattle.segments.proofs.MovedPlaces.{same_place_is}
+use Rattle.segments.specs.Pools.{shared_at}
 
 -- where segments stand in order and none was opened after a moment, it is so at each later moment within the limit
 pub past_later : (p : PoolState) (t u : ℕ) → IsPast p t → t ≤ u → u ≤ 4611686018427387904 → IsPast p u
@@ -26,6 +32,7 @@ past_later p t u past le within = record {
   within = within;
   opened = λ n s e. le_trans (past.opened n s e) (opening_later p.eviction s.bucket t u le);
   in_order = past.in_order;
+  dated = past.dated;
 }
 
 -- a segment that is there once one of its items was changed was there before, of the same bucket, opened at the same moment
@@ -45,9 +52,12 @@ earlier e t s u moment bucket le =
     (subst (λ (b : ℕ). s.opened ≤ opening_moment e b t) (sym bucket) le)
 
 -- where an item is changed, segments still stand in order, and none was opened after the moment
-pub past_changed : (change : Item → Item) (p : PoolState) (t : ℕ) (place : Place) → IsPast p t → IsSome (item_in p place)
+pub past_changed : (change : Item → Item) (p : PoolState) (t : ℕ) (place : Place) → IsPast p t
+    → KeepsSize change (item_in p place)
+    → ((i : Item) → item_in p place ≡ Some i → IsDatedIn p.exact (shared_at p place) (change i))
     → IsPast (with_change change p place) t
-past_changed change p t place past some =
+past_changed change p t place past k each =
+    let some = some_kept change (item_in p place) k in
     record {
       within = past.within;
       opened = λ n u e.
@@ -59,6 +69,22 @@ past_changed change p t place past some =
             | inr f ↦ past.opened n u (sym (at ∙ rw f refl) ∙ e)
           ]);
       in_order = order_changed change p place some past.in_order;
+      dated = λ r j e.
+          (let now = changed_item change p place r k in
+          let shared = changed_shared change p place r some in
+          elim (cases_Bool (same_place r place)) [
+            | inl y ↦
+                let there : r ≡ place = same_place_is r place y in
+                let was : item_in p r ≡ Some k.item = ap (item_in p) there ∙ k.is in
+                let changed : option_map change (item_in p r) ≡ Some (change k.item) = ap (option_map change) was in
+                let one : Some j ≡ Some (change k.item) = sym e ∙ now ∙ rw y changed in
+                let is : j ≡ change k.item = cc in
+                subst (λ (d : Option ℕ). IsDatedIn p.exact d j) (sym (shared ∙ ap (shared_at p) there))
+                (subst (IsDatedIn p.exact (shared_at p place)) (sym is) (each k.item k.is))
+            | inr n ↦
+                let was : item_in p r ≡ Some j = sym (now ∙ rw n refl) ∙ e in
+                subst (λ (d : Option ℕ). IsDatedIn p.exact d j) (sym shared) (past.dated r j was)
+          ]);
     }
 
 -- where only a hit of a segment is counted, nothing changes of that
@@ -69,6 +95,7 @@ past_hit p after t n is past =
       within = past.within;
       opened = past.opened;
       in_order = order_same p (with_segment_hit p n) refl refl refl past.in_order;
+      dated = past.dated;
     })
 
 -- a segment that is kept where a test holds, and is there, is the one that was there
@@ -85,6 +112,17 @@ past_given lives p after t past g =
       opened = λ n u e. subst (λ (k : Eviction). u.opened ≤ opening_moment k u.bucket t) (sym g.eviction)
           (past.opened n u (part_of (has_live lives p n) (segment_at p n) u (sym (g.segments n) ∙ e)));
       in_order = order_part p after (part_given lives p after g) past.in_order;
+      dated = λ r j e.
+          elim (cases_Bool (has_live lives p r.segment)) [
+            | inl y ↦
+                let was : item_in p r ≡ Some j = sym (given_item lives p after r g ∙ rw y refl) ∙ e in
+                let shared : shared_at after r ≡ shared_at p r = given_shared lives p after r g ∙ rw y refl in
+                subst (λ (b : Bool). IsDatedIn b (shared_at after r) j) (sym g.exact)
+                (subst (λ (d : Option ℕ). IsDatedIn p.exact d j) (sym shared) (past.dated r j was))
+            | inr n ↦
+                let none : item_in after r ≡ None = given_item lives p after r g ∙ rw n refl in
+                absurd (none-some j (sym none ∙ e))
+          ];
     }
 
 -- a segment that is taken away where a test holds, and is there, is the one that was there
@@ -99,6 +137,17 @@ past_cleared p t n past some =
       within = past.within;
       opened = λ m u e. past.opened m u (other_part (m == n) (segment_at p m) u (sym (cleared_segment p n m some) ∙ e));
       in_order = order_part p (without_segment p n) (part_cleared p n some) past.in_order;
+      dated = λ r j e.
+          elim (cases_Bool (r.segment == n)) [
+            | inl y ↦
+                let none : item_in (without_segment p n) r ≡ None = cleared_item p n r some ∙ rw y refl in
+                absurd (none-some j (sym none ∙ e))
+            | inr f ↦
+                let was : item_in p r ≡ Some j = sym (cleared_item p n r some ∙ rw f refl) ∙ e in
+                let shared : shared_at (without_segment p n) r ≡ shared_at p r =
+                cleared_shared p n r some ∙ rw f refl in
+                subst (λ (d : Option ℕ). IsDatedIn p.exact d j) (sym shared) (past.dated r j was)
+          ];
     }
 
 -- the segments of chains were opened in time

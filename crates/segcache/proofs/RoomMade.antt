@@ -25,11 +25,13 @@ use Rattle.segcache.proofs.TiedParts.{current_item, tied_given}
 use Rattle.segcache.proofs.OpeningMoments.{past_given}
 use Rattle.segcache.proofs.GivenBack.{all_alive}
 use Rattle.segcache.proofs.EvictedKeys.{many_shown, still_none}
+use Rattle.segments.specs.Items.{item_deadline}
 
 -- What was found where the expired keys left and segments were given back: the same is shown, and no key came.
 pub record IsSwept (p : PoolState) (index : Table) (t : ℕ) (after : PoolState) (found : Table)
     (marks : Marks) : Type 0 where
   pub sizes : after.sizes ≡ p.sizes
+  pub exact : after.exact ≡ p.exact
   pub past : IsPast after t
   pub tied : IsTied after found marks
   pub absent : (key : List ℕ) → finite.get (current p index) key ≡ None → finite.get (current after found) key ≡ None
@@ -49,6 +51,7 @@ swept p after index found marks t past tied pool g left =
     let l = live_given (lives_by marks) p after r x.0 g x.1 (tied.held q r e) in (x.0, x.1, l.0, l.1) in
     record {
       sizes = g.sizes;
+      exact = g.exact;
       past = past_given (lives_by marks) p after t past g;
       tied = same.0;
       absent = λ q none. ap (λ (m : Places). finite.get m q) same.1
@@ -68,6 +71,7 @@ pub swept_made : (p : PoolState) (index : Table) (t : ℕ) (after : PoolState) (
 swept_made p index t after found marks s free =
     record {
       sizes = s.sizes;
+      exact = s.exact;
       past = s.past;
       free = free;
       absent = s.absent;
@@ -99,6 +103,7 @@ pub swept_evicted : (p : PoolState) (index : Table) (t : ℕ) (mid : PoolState) 
 swept_evicted p index t mid between marks after found s r =
     record {
       sizes = r.sizes ∙ s.sizes;
+      exact = r.exact ∙ s.exact;
       past = r.past;
       free = r.free;
       absent = λ q none. r.absent q (s.absent q none);
@@ -120,7 +125,7 @@ alive_given marks p after pool other full g none n lt =
     has_live_by : (lives : Liveness) (p after : PoolState) (n : ℕ) → segment_at after n ≡ segment_at p n
         → has_live lives after n ≡ has_live lives p n
     has_live_by lives p after n e = ap
-        (λ (o : Option Used). list_any (λ (s : Standing). lives s.place s.item (deadline_in o))
+        (λ (o : Option Used). list_any (λ (s : Standing). lives s.place s.item (item_deadline s.item (deadline_in o)))
         (standing_from n 0 (items_of o))) e
 
 -- so where the pool that segments were given back in is that of the map before and after the expired keys left

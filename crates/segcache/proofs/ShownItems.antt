@@ -12,12 +12,12 @@ use Rattle.proto.specs.Cache.{Entry, no_entries, live, has_arrived}
 use Rattle.proto.specs.Steps.{without_keys}
 use Rattle.proto.proofs.CacheLemmas.{contains_bytes, is_live, same_entries, get-insert, get-remove, get-no_entries, get-without, if_live, get-live, live-live}
 use Rattle.segments.specs.declared.place.Place.{Place}
-use Rattle.segments.specs.Items.{Item, read_again}
-use Rattle.segments.specs.Pools.{PoolState, item_in, place_deadline}
+use Rattle.segments.specs.Items.{Item, read_again, deadline_if_there}
+use Rattle.segments.specs.Pools.{PoolState, item_in, shared_at, place_deadline}
 use Rattle.segments.specs.Changes.{with_change, with_read, with_segment_hit}
 use Rattle.segments.specs.Places.{same_place}
 use Rattle.segments.proofs.ItemChanges.{KeepsSize, keeps_read, some_kept}
-use Rattle.segments.proofs.Places.{changed_item, changed_deadline}
+use Rattle.segments.proofs.Places.{changed_item, changed_shared}
 use Rattle.index.specs.Table.{Table, Places}
 use Rattle.index.proofs.SlotsAsMap as mapping
 use Rattle.segcache.specs.Shown.{kept_entry, dead_entry, entry_at, entries_at, live_entries, current, shown_entries}
@@ -134,7 +134,11 @@ pub entry_is : (p : PoolState) (place : Place) (i : Item) → item_in p place �
 unfolding entry_at
 entry_is p place i e = rw e refl
 
--- a place of a segment whose deadline has come shows no live entry
+-- what is shown of an item, if there is one, in a segment with this deadline
+abbrev pub entry_in : Option ℕ → Option Item → Entry
+entry_in shared o = option_map_or (kept_entry (deadline_if_there shared o)) o dead_entry
+
+-- a place whose deadline has come shows no live entry
 gone_by : (d : Option ℕ) (o : Option Item) (t : ℕ) → has_arrived d t ≡ true
     → has_arrived (option_map_or (kept_entry d) o dead_entry).deadline t ≡ true
 gone_by d None t h = le-leb 0 t (omega arith)
@@ -188,18 +192,16 @@ entry_live p place t i e h =
 
 -- what is shown of a place whose item is changed, and of every other place
 pub changed_entry : (change : Item → Item) (p : PoolState) (place r : Place) → KeepsSize change (item_in p place)
-    → entry_at (with_change change p place) r ≡ option_map_or (kept_entry (place_deadline p r))
-    (if same_place r place then option_map change (item_in p r) else item_in p r) dead_entry
+    → entry_at (with_change change p place) r ≡ entry_in (shared_at p r)
+    (if same_place r place then option_map change (item_in p r) else item_in p r)
 unfolding entry_at
 changed_entry change p place r k =
-    ap (λ (d : Option ℕ). option_map_or (kept_entry d) (item_in (with_change change p place) r) dead_entry)
-    (changed_deadline change p place r (some_kept change (item_in p place) k))
-    ∙ ap (λ (o : Option Item). option_map_or (kept_entry (place_deadline p r)) o dead_entry)
-    (changed_item change p place r k)
+    ap (λ (d : Option ℕ). entry_in d (item_in (with_change change p place) r))
+    (changed_shared change p place r (some_kept change (item_in p place) k))
+    ∙ ap (entry_in (shared_at p r)) (changed_item change p place r k)
 
 -- an item that was read once more keeps the same entry
-read_entry : (d : Option ℕ) (o : Option Item)
-    → option_map_or (kept_entry d) (option_map read_again o) dead_entry ≡ option_map_or (kept_entry d) o dead_entry
+read_entry : (d : Option ℕ) (o : Option Item) → entry_in d (option_map read_again o) ≡ entry_in d o
 read_entry d None = refl
 read_entry d (Some i) = refl
 
@@ -222,6 +224,6 @@ unfolding entry_at
 touched_entry p place r h =
     changed_entry read_again p place r (keeps_read (item_in p place) h)
     ∙ elim (cases_Bool (same_place r place)) [
-      | inl y ↦ rw y (read_entry (place_deadline p r) (item_in p r))
+      | inl y ↦ rw y (read_entry (shared_at p r) (item_in p r))
       | inr n ↦ rw n refl
     ]

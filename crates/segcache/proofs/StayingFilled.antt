@@ -43,6 +43,8 @@ use Rattle.segcache.proofs.TiedParts.{current_some}
 use Rattle.segcache.proofs.ChangedItems.{sized_over}
 use Rattle.segcache.proofs.ItemsPutOver.{sized_below}
 use Rattle.segcache.proofs.WritesWithRoom.{kept_with}
+use Rattle.segments.specs.Items.{item_deadline}
+use Rattle.segments.specs.Pools.{shared_at}
 
 -- reads leave segments filled, and holding what they held
 counted_filled : (keys : List (List ℕ)) (old new : MapState) → CountsEach IsReadAgain old keys new → IsFilled old.pool
@@ -95,7 +97,7 @@ anew_filled found after done key e kept other stored asked w filled little =
     let few : HoldsLittle p one.bucket t = (subst
     (λ (xs : List StoredItem). AllByRecursion (λ (i : StoredItem). HoldsLittle p i.bucket t) xs) items little).0 in
     let k = kept_with (live_others key found.marks t) p found.index one.bucket t
-    (unread key e) after.pool after.index kept.tied.known.pool kept.past w.storable filled few w.placed in
+    (unread found key e) after.pool after.index kept.tied.known.pool kept.past w.storable filled few w.placed in
     let now : shown_entries after.pool after.index t
     ≡ finite.insert (shown_entries p found.index t) key (record e { deadline = w.deadline }) =
     k.entries ∙ ap (finite.insert (shown_entries p found.index t) key) w.stands in
@@ -119,17 +121,17 @@ anew_filled found after done key e kept other stored asked w filled little =
 over_filled : (found after : MapState) (done : Outcome) (key : List ℕ) (e : Entry)
     → done.stored ≡ Some key
     → done.entries ≡ finite.insert (shown_entries found.pool found.index found.moment) key e
-    → GoesOver found (unread key e) e.deadline after → (items : List StoredItem) → IsFilled found.pool
+    → GoesOver found (unread found key e) e.deadline after → (items : List StoredItem) → IsFilled found.pool
     → IsLeftFilled found.moment found done done.reply after items
 over_filled found after done key e stored asked w items filled =
     let p = found.pool in
     let t = found.moment in
     let shown = shown_entries p found.index t in
-    let d = place_deadline p w.place in
+    let d = item_deadline (unread found key e) (shared_at p w.place) in
     let left : Entry = record e { deadline = d } in
-    let i : Item = record (unread key e) { reads = w.found.reads } in
+    let i : Item = record (unread found key e) { reads = w.found.reads } in
     let same : after.pool ≡ with_item_at p w.place i = ap (λ (m : MapState). m.pool) w.new_is in
-    let f = filled_changed (λ _. i) p w.place (sized_below found after (unread key e) e.deadline w) filled in
+    let f = filled_changed (λ _. i) p w.place (sized_below found after (unread found key e) e.deadline w) filled in
     let exact : IsDated t done.reply (finite.insert shown key e) (Some key) (finite.insert shown key left) =
     dated-insert t done.reply shown key e d (live_dated t e.deadline d done.reply w.may_live) in
     let held : held_size after.pool ≡ held_size p = ap held_size same ∙ f.1 in

@@ -78,17 +78,18 @@ some_of (Some r) p t h = (r, refl)
 -- a segment can hold an item that may be written, whose cas number and flags are in range, and which nobody has read
 pub may_store : (p : PoolState) (index : Table) (marks : Marks) (t : ℕ) (i : Item) → IsTied p index marks
     → MayBeWritten p.sizes (shown_entries p index t) i.key i.value
-    → i.cas < 2 ^ 64 → i.flags < 2 ^ 32 → i.reads ≡ 0 → IsStorable (item_limit p.sizes) i
-may_store p index marks t i tied (inl f) cas flags reads =
+    → i.cas < 2 ^ 64 → i.flags < 2 ^ 32 → i.reads ≡ 0 → i.own_deadline < 2 ^ 48 → IsStorable (item_limit p.sizes) i
+may_store p index marks t i tied (inl f) cas flags reads own_deadline =
     record {
       cas = cas;
       flags = flags;
       some_key = f.some_key;
       short_key = f.short_key;
       reads = omega (arith, reads);
+      own_deadline = own_deadline;
       small = f.small;
     }
-may_store p index marks t i tied (inr (inr f)) cas flags reads =
+may_store p index marks t i tied (inr (inr f)) cas flags reads own_deadline =
     let r = some_of (finite.get (current p index) i.key) p t
     (ap is_some (sym (get-live_in p (current p index) t i.key) ∙ f.1)) in
     let x = current_item p index i.key r.0 r.1 in
@@ -104,10 +105,11 @@ may_store p index marks t i tied (inr (inr f)) cas flags reads =
       some_key = subst (λ (k : List ℕ). 1 ≤ length k) x.2 s.some_key;
       short_key = subst (λ (k : List ℕ). length k ≤ longest_key) x.2 s.short_key;
       reads = omega (arith, reads);
+      own_deadline = own_deadline;
       small = subst (λ (k : List ℕ). item_size (length k) (length i.value) ≤ item_limit p.sizes) x.2
           (subst (λ (v : List ℕ). item_size (length x.0.key) (length v) ≤ item_limit p.sizes) value s.small);
     }
-may_store p index marks t i tied (inr (inl f)) cas flags reads =
+may_store p index marks t i tied (inr (inl f)) cas flags reads own_deadline =
     let r = some_of (finite.get (current p index) i.key) p t
     (ap is_some (sym (get-live_in p (current p index) t i.key)) ∙ f.0) in
     let x = current_item p index i.key r.0 r.1 in
@@ -123,6 +125,7 @@ may_store p index marks t i tied (inr (inl f)) cas flags reads =
       some_key = omega (arith, some, key);
       short_key = omega (arith, short, key);
       reads = omega (arith, reads);
+      own_deadline = own_deadline;
       small = small_number (length i.key) (length i.value) p.sizes.segment_size (omega (arith, short, key)) few g;
     }
   where

@@ -1,10 +1,11 @@
 -- The invariants of a segmented map.
-use Rattle.std.specs.Prelude.{◌≡◌, ℕ, ◌*◌, ◌/◌, ◌≤◌, true, List, Some}
+use Rattle.std.specs.Prelude.{◌≡◌, ℕ, ◌*◌, ◌/◌, ◌≤◌, ◌⊎◌, Bool, true, List, Option, Some}
 use Rattle.std.specs.FinMap as finite
 use Rattle.proto.specs.History.{max_moment}
+use Rattle.proto.specs.Cache.{has_arrived}
 use Rattle.segments.specs.declared.place.Place.{Place}
 use Rattle.segments.specs.Items.{Item}
-use Rattle.segments.specs.Pools.{PoolState, Used, segment_at, item_in, opening_moment}
+use Rattle.segments.specs.Pools.{PoolState, Used, segment_at, item_in, shared_at, opening_moment}
 use Rattle.segments.specs.Filling.{IsInTimeOrder}
 use Rattle.segments.specs.Marks.{Marks, KnowsPool, is_marked}
 use Rattle.index.specs.Layouts.{IsLayoutOf}
@@ -24,9 +25,19 @@ pub record IsTied (p : PoolState) (index : Table) (marks : Marks) : Type 0 where
   pub roomy : 2 * (p.sizes.segments * (p.sizes.segment_size / 32)) ≤ index.room
   pub layout : IsLayoutOf p.sizes index.layout
 
+-- An item has the deadline of its segment; or one of its own that comes no earlier, where items have their own.
+abbrev pub IsDatedIn : Bool → Option ℕ → Item → Type 0
+IsDatedIn exact shared i = (i.own_deadline ≡ 0) ⊎ ((exact ≡ true) × (has_arrived shared i.own_deadline ≡ true))
+
+-- so has each item of a pool
+abbrev pub AreDated : PoolState → Type 0
+AreDated p = (place : Place) (i : Item) → item_in p place ≡ Some i → IsDatedIn p.exact (shared_at p place) i
+
 -- no segment has a later opening moment than one that is opened for a write at the moment t, which is within its limit,
--- and those of chains stand in the order of their opening moments, as far as the pool's rule keeps it
+-- and those of chains stand in the order of their opening moments, as far as the pool's rule keeps it; and items have deadlines
+-- of their own only where they may
 pub record IsPast (p : PoolState) (t : ℕ) : Type 0 where
   pub within : t ≤ max_moment
   pub opened : (n : ℕ) (u : Used) → segment_at p n ≡ Some u → u.opened ≤ opening_moment p.eviction u.bucket t
   pub in_order : IsInTimeOrder p
+  pub dated : AreDated p

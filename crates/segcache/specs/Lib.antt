@@ -1,3 +1,4 @@
+pub mod OwnDeadlines
 pub mod Shown
 pub mod Invariants
 pub mod State

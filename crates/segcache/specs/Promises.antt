@@ -1,5 +1,5 @@
 -- What a store over segments promises beyond what any store does.
-use Rattle.std.specs.Prelude.{◌≡◌, ℕ, ◌*◌}
+use Rattle.std.specs.Prelude.{◌≡◌, ℕ, ◌*◌, Bool}
 use Rattle.std.specs.Int.{IsNextPowerOfTwo}
 use Rattle.index.specs.Keys.{seeded_hasher}
 use Rattle.index.specs.Sizing.{most_items}
@@ -14,10 +14,10 @@ use Rattle.segcache.specs.State.{MapState}
 use Rattle.segcache.specs.Requests.{HandlesSegments}
 use Rattle.segcache.specs.StayingFilled.{StaysFilled}
 
--- The pool of a new map is new, and evicts by this rule; its index has memory for two slots for each item that segments of these sizes can hold,
--- and hashes the seed before each key.
-pub record IsMadeFor (sizes : Sizes) (seed : ℕ) (eviction : Eviction) (new : MapState) : Type 0 where
-  pub pool_is : new.pool ≡ with_eviction (new_pool sizes) eviction
+-- The pool of a new map is new, evicts by this rule, and its items have deadlines of their own or not; its index has memory
+-- for two slots for each item that segments of these sizes can hold, and hashes the seed before each key.
+pub record IsMadeFor (sizes : Sizes) (seed : ℕ) (eviction : Eviction) (exact : Bool) (new : MapState) : Type 0 where
+  pub pool_is : new.pool ≡ with_eviction (new_pool sizes) eviction exact
   pub slots : IsNextPowerOfTwo (2 * most_items sizes) new.index.room
   pub seed_is : new.index.hasher ≡ seeded_hasher seed
 

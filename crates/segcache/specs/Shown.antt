@@ -9,7 +9,7 @@ use Rattle.segments.specs.Pools.{PoolState, item_in, place_deadline}
 use Rattle.index.specs.Table.{Table, Places, places}
 use Rattle.segments.specs.Pools.{key_at}
 
--- the entry that an item keeps, with its segment's deadline
+-- the entry that an item keeps, with this deadline
 abbrev pub kept_entry : Option ℕ → Item → Entry
 kept_entry deadline i = record { value = i.value; flags = i.flags; deadline = deadline; cas = i.cas }
 

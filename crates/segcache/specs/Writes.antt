@@ -1,5 +1,5 @@
 -- Where the entries of a segmented map stand, how it writes, how it counts reads, and what stays.
-use Rattle.std.specs.Prelude.{◌≡◌, ℕ, ◌+◌, ◌-◌, ◌*◌, ◌/◌, ◌⊎◌, min, nat_le, nat_lt, Bool, ◌&&◌, ◌||◌, IsTrue, true, false, List, Option, Some, None}
+use Rattle.std.specs.Prelude.{◌≡◌, ℕ, ◌+◌, ◌-◌, ◌*◌, ◌/◌, ◌⊎◌, min, nat_le, nat_lt, ◌==◌, if◌then◌else◌, Bool, ◌&&◌, ◌||◌, IsTrue, true, false, List, Option, Some, None}
 use Rattle.std.specs.FinMap as finite
 use Rattle.proto.specs.declared.message.Reply.{Reply}
 use Rattle.proto.specs.Cache.{Entry, has_arrived}
@@ -7,21 +7,27 @@ use Rattle.proto.specs.Steps.{MayBeDated}
 use Rattle.proto.specs.Sizes.{item_limit}
 use Rattle.proto.specs.Buckets.{bucket_of, time_to_live, life_width, MayLive}
 use Rattle.segments.specs.declared.place.Place.{Place}
-use Rattle.segments.specs.Items.{Item, IsStorable, fits_over}
-use Rattle.segments.specs.Pools.{item_in, place_deadline}
+use Rattle.segments.specs.Items.{Item, IsStorable, fits_over, item_deadline}
+use Rattle.segments.specs.Pools.{item_in, place_deadline, shared_at}
 use Rattle.segments.specs.Changes.{with_read, with_item_at, with_segment_hit, goes_over_by}
 use Rattle.segcache.specs.State.{MapState, IsSegmentedMap}
 use Rattle.segcache.specs.Shown.{current, entry_at, kept_entry, shown_entries}
 use Rattle.segcache.specs.LiveItems.{live_others}
 use Rattle.segcache.specs.ForgottenKeys.{PlacesItem}
+use Rattle.segcache.specs.OwnDeadlines.{own_deadline_by}
+use Rattle.engine.specs.Deadlines.{is_storable_deadline}
 
 -- the place is the current one of the key
 abbrev pub StandsAt : MapState → List ℕ → Place → Type 0
 StandsAt m key place = finite.get (current m.pool m.index) key ≡ Some place
 
 -- the item of an entry, which nobody has read yet
-abbrev pub unread : List ℕ → Entry → Item
-unread key e = record { cas = e.cas; flags = e.flags; key = key; value = e.value; reads = 0 }
+abbrev pub unread_by : Bool → List ℕ → Entry → Item
+unread_by exact key e =
+    record { cas = e.cas; flags = e.flags; key = key; value = e.value; reads = 0; own_deadline = own_deadline_by exact e.deadline }
+
+abbrev pub unread : MapState → List ℕ → Entry → Item
+unread m key e = unread_by m.pool.exact key e
 
 -- an item with the value and the cas number of an entry
 abbrev pub with_value : Entry → Item → Item
@@ -37,40 +43,66 @@ may_give t None None = true
 may_give t (Some asked) (Some given) = nat_lt t given && nat_le given asked && loses_little t asked given
 may_give t _ _ = false
 
--- whether an item goes over the one of its key at a place: by the rule of the least read, where it takes as many bytes, and
--- the deadline there is one that a write may give
+-- whether a touch at the moment t that asks for the first deadline leaves an entry that has the second one, which it may
+abbrev pub stays_as : ℕ → Option ℕ → Option ℕ → Bool
+stays_as t None None = true
+stays_as t (Some asked) (Some given) =
+    nat_lt t given && nat_le given asked
+    && (loses_little t asked given || nat_le (asked - given) ((asked - t) / 8))
+stays_as t _ _ = false
+
+-- whether an item with the first deadline of its own, which hasn't come at the moment t, goes into a segment with the second one:
+-- that is the same or little earlier, and may have come
+abbrev pub suits_segment : ℕ → Option ℕ → Option ℕ → Bool
+suits_segment t None None = true
+suits_segment t (Some own) (Some shared) =
+    nat_lt t own && nat_le shared own && (loses_little t own shared || nat_le (own - shared) ((own - t) / 8))
+suits_segment t _ _ = false
+
+-- whether an item that asks for the one deadline may stand in a segment with the other one: a write may give that, or the item has
+-- its own, which goes in there
+abbrev pub may_share_segment : Bool → ℕ → Option ℕ → Option ℕ → Bool
+may_share_segment exact t asked shared =
+    may_give t asked shared || (exact && is_storable_deadline asked && suits_segment t asked shared)
+
+-- Whether an item goes over the one of its key at a place: by the rule of the least read, or where items have their own
+-- deadlines, if it takes as many bytes and may stand in that segment.
 abbrev pub goes_over : MapState → Option ℕ → Item → Place → Bool
 goes_over m asked i place =
-    goes_over_by m.pool.eviction && may_give m.moment asked (place_deadline m.pool place) && fits_over i (item_in m.pool place)
+    goes_over_by m.pool.eviction m.pool.exact && may_share_segment m.pool.exact m.moment asked (shared_at m.pool place)
+    && fits_over i (item_in m.pool place)
 
--- The item went over the one of its key, of which the read count and the deadline stay. Nothing else changed, and of
--- what was shown nothing was forgotten.
+-- The item went over the one of its key, of which the read count stays. It has its own deadline, the one asked for, or that
+-- of the segment. Nothing else changed, and of what was shown nothing was forgotten.
 pub record GoesOver (old : MapState) (i : Item) (asked : Option ℕ) (new : MapState) : Type 0 where
   pub place : Place
   pub stands : StandsAt old i.key place
   pub goes : IsTrue (goes_over old asked i place)
   pub found : Item
   pub is_at : item_in old.pool place ≡ Some found
-  pub may_live : MayLive old.moment asked (place_deadline old.pool place)
+  pub may_live : MayLive old.moment asked (item_deadline i (shared_at old.pool place))
+  pub exact : old.pool.exact ≡ true → is_storable_deadline asked ≡ true → item_deadline i (shared_at old.pool place) ≡ asked
   pub new_is : new ≡ record old { pool = with_item_at old.pool place (record i { reads = found.reads }) }
   pub entries : shown_entries new.pool new.index old.moment
-      ≡ finite.insert (shown_entries old.pool old.index old.moment) i.key (kept_entry (place_deadline old.pool place) i)
+      ≡ finite.insert (shown_entries old.pool old.index old.moment) i.key
+      (kept_entry (item_deadline i (shared_at old.pool place)) i)
 
 -- The entry's item, which a segment can hold and which doesn't go over another, was placed in the bucket of its time to live, at the map's moment,
 -- where the key's old item is no longer live; the entry stands there with a deadline that it may get.
 pub record WritesAnew (old : MapState) (key : List ℕ) (entry : Entry) (new : MapState) : Type 0 where
-  pub anew : (place : Place) → StandsAt old key place → goes_over old entry.deadline (unread key entry) place ≡ false
-  pub storable : IsStorable (item_limit old.pool.sizes) (unread key entry)
+  pub anew : (place : Place) → StandsAt old key place → goes_over old entry.deadline (unread old key entry) place ≡ false
+  pub storable : IsStorable (item_limit old.pool.sizes) (unread old key entry)
   pub placed : PlacesItem (live_others key old.marks old.moment) old.pool old.index
       (bucket_of (time_to_live entry.deadline old.moment)) old.moment
-      (unread key entry) new.pool new.index
+      (unread old key entry) new.pool new.index
   pub deadline : Option ℕ
   pub may_live : MayLive old.moment entry.deadline deadline
   pub stands : entry_at new.pool placed.place ≡ record entry { deadline = deadline }
+  pub exact : old.pool.exact ≡ true → is_storable_deadline entry.deadline ≡ true → deadline ≡ entry.deadline
 
 -- the entry's item went over the one of its key, or is written anew
 abbrev pub WritesToSegments : MapState → List ℕ → Entry → MapState → Type 0
-WritesToSegments old key entry new = GoesOver old (unread key entry) entry.deadline new ⊎ WritesAnew old key entry new
+WritesToSegments old key entry new = GoesOver old (unread old key entry) entry.deadline new ⊎ WritesAnew old key entry new
 
 -- The key's item stands where it stood, with its flags and its deadline, and has the entry's value and cas number: it
 -- takes as many bytes. Nothing else changed, and of what was shown nothing was forgotten.
@@ -91,20 +123,26 @@ pub record ChangesInPlace (old : MapState) (key : List ℕ) (entry : Entry) (new
 pub record FitsNot (old : MapState) (key : List ℕ) (entry : Entry) : Type 0 where
   pub place : Place
   pub stands : StandsAt old key place
-  pub fits_not : fits_over (unread key entry) (item_in old.pool place) ≡ false
+  pub fits_not : fits_over (unread old key entry) (item_in old.pool place) ≡ false
 
 -- the entry of the key is changed where it stands, and written anew where it doesn't fit there
 abbrev pub ChangesSegments : MapState → List ℕ → Entry → MapState → Type 0
 ChangesSegments old key entry new =
     ChangesInPlace old key entry new ⊎ (FitsNot old key entry × WritesToSegments old key entry new)
 
--- whether a touch at the moment t that asks for the first deadline leaves an entry that has the second one, which it may
-abbrev pub stays_as : ℕ → Option ℕ → Option ℕ → Bool
-stays_as t None None = true
-stays_as t (Some asked) (Some given) =
-    nat_lt t given && nat_le given asked
-    && (loses_little t asked given || nat_le (asked - given) ((asked - t) / 8))
-stays_as t _ _ = false
+-- whether two deadlines are the same
+abbrev pub is_same : Option ℕ → Option ℕ → Bool
+is_same None None = true
+is_same (Some one) (Some other) = one == other
+is_same _ _ = false
+
+-- whether a touch that asks for the first deadline leaves an entry that has the second one: if it may; and where items have their
+-- own deadlines, if it is that one, as far as an item can have it
+abbrev pub touch_leaves_by : Bool → ℕ → Option ℕ → Option ℕ → Bool
+touch_leaves_by exact t asked given = if exact && is_storable_deadline asked then is_same asked given else stays_as t asked given
+
+abbrev pub touch_leaves : MapState → ℕ → Option ℕ → Option ℕ → Bool
+touch_leaves m t asked given = touch_leaves_by m.pool.exact t asked given
 
 -- a hit of the segment of the key's item was counted, and nothing else changed
 pub record IsTouched (old : MapState) (key : List ℕ) (new : MapState) : Type 0 where
@@ -116,7 +154,7 @@ pub record IsTouched (old : MapState) (key : List ℕ) (new : MapState) : Type 0
 pub record StaysDated (old : MapState) (key : List ℕ) (entry : Entry) (reply : Reply) (new : MapState) : Type 0 where
   pub deadline : Option ℕ
   pub there : finite.get (shown_entries old.pool old.index old.moment) key ≡ Some (record entry { deadline = deadline })
-  pub stays : IsTrue (stays_as old.moment entry.deadline deadline)
+  pub stays : IsTrue (touch_leaves old old.moment entry.deadline deadline)
   pub may_stay : MayBeDated old.moment entry.deadline deadline reply
   pub touched : IsTouched old key new
   pub entries : shown_entries new.pool new.index old.moment ≡ shown_entries old.pool old.index old.moment
@@ -125,7 +163,7 @@ pub record StaysDated (old : MapState) (key : List ℕ) (entry : Entry) (reply :
 pub record IsWrittenAnew (old : MapState) (key : List ℕ) (entry : Entry) (new : MapState) : Type 0 where
   pub deadline : Option ℕ
   pub there : finite.get (shown_entries old.pool old.index old.moment) key ≡ Some (record entry { deadline = deadline })
-  pub stays_not : stays_as old.moment entry.deadline deadline ≡ false
+  pub stays_not : touch_leaves old old.moment entry.deadline deadline ≡ false
   pub writes : WritesToSegments old key entry new
 
 abbrev pub DatesSegments : MapState → List ℕ → Entry → Reply → MapState → Type 0

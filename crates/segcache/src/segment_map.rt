@@ -9,7 +9,10 @@ ghost use Rattle.segments.specs.Pools.{IsPool, item_in, place_deadline};
 ghost use Rattle.segments.specs.Changes.{new_pool, with_eviction};
 ghost use Rattle.engine.specs.Shown.{entry_of};
 ghost use Rattle.segcache.specs.Shown.{entry_at, shown_entries};
-ghost use Rattle.segcache.specs.Writes.{loses_little, may_give, stays_as, unread};
+ghost use Rattle.segcache.specs.Writes.{loses_little, may_give, suits_segment, may_share_segment, stays_as};
+ghost use Rattle.segcache.specs.Writes.{is_same, touch_leaves_by, unread_by};
+ghost use Rattle.segcache.specs.OwnDeadlines.{storable_or_zero, own_deadline_by};
+ghost use Rattle.engine.specs.Deadlines.{is_storable_deadline};
 
 use crate::counts::StoreCounts;
 use engine::{EntryRef, LiveMap, StoreMap, has_arrived};
@@ -91,6 +94,76 @@ pub(crate) fn may_give(now: u64, asked: Option<u64>, given: Option<u64>) -> bool
     }
 }
 
+/// From this second on a deadline needs more than six bytes, and no item has it as its own.
+const FAR: u64 = 281_474_976_710_656;
+
+/// Whether an item can have this deadline of its own.
+fn is_storable_deadline(deadline: Option<u64>) -> bool
+    ensures { result ≡ is_storable_deadline deadline }
+{
+    match deadline {
+        None => true,
+        Some(deadline) => deadline < FAR,
+    }
+}
+
+/// The deadline of its own that an item gets, which asks for one; 0 where it has none of its own.
+fn storable_or_zero(asked: Option<u64>) -> u64
+    ensures { result ≡ storable_or_zero asked }
+{
+    match asked {
+        Some(deadline) if deadline < FAR => deadline,
+        _ => 0,
+    }
+}
+
+/// That, where items have their own deadlines.
+fn own_deadline_by(exact: bool, asked: Option<u64>) -> u64
+    ensures { result ≡ own_deadline_by exact asked }
+{
+    if exact { storable_or_zero(asked) } else { 0 }
+}
+
+fn is_same(one: Option<u64>, other: Option<u64>) -> bool
+    ensures { result ≡ is_same one other }
+{
+    match (one, other) {
+        (None, None) => true,
+        (Some(one), Some(other)) => one == other,
+        _ => false,
+    }
+}
+
+/// Whether an item with the first deadline of its own, which hasn't come, goes into a segment with the second one: that is
+/// the same or little earlier, and may have come.
+fn suits_segment(now: u64, own: Option<u64>, shared: Option<u64>) -> bool
+    ensures { result ≡ suits_segment now own shared }
+{
+    match (own, shared) {
+        (None, None) => true,
+        (Some(own), Some(shared)) => {
+            now < own
+                && shared <= own
+                && (loses_little(now, own, shared) || own - shared <= (own - now) / 8)
+        }
+        _ => false,
+    }
+}
+
+/// Whether an item that asks for the one deadline may stand in a segment with the other one: a write may give that, or the
+/// item has its own, which goes in there.
+pub(crate) fn may_share_segment(
+    exact: bool,
+    now: u64,
+    asked: Option<u64>,
+    shared: Option<u64>,
+) -> bool
+    ensures { result ≡ may_share_segment exact now asked shared }
+{
+    may_give(now, asked, shared)
+        || (exact && is_storable_deadline(asked) && suits_segment(now, asked, shared))
+}
+
 /// Whether an entry with this deadline may stay if another one is asked for at the moment: it may be one that a write gives, or at
 /// most an eighth of the life asked for is missing.
 fn stays_as(now: u64, asked: Option<u64>, given: Option<u64>) -> bool
@@ -104,6 +177,18 @@ fn stays_as(now: u64, asked: Option<u64>, given: Option<u64>) -> bool
                 && (loses_little(now, asked, given) || asked - given <= (asked - now) / 8)
         }
         _ => false,
+    }
+}
+
+/// Whether an entry with this deadline is left if another one is asked for: if it may stay; and where items have their own
+/// deadlines, if it is that one, as far as an item can have it.
+fn touch_leaves_by(exact: bool, now: u64, asked: Option<u64>, given: Option<u64>) -> bool
+    ensures { result ≡ touch_leaves_by exact now asked given }
+{
+    if exact && is_storable_deadline(asked) {
+        is_same(asked, given)
+    } else {
+        stays_as(now, asked, given)
     }
 }
 
@@ -126,22 +211,27 @@ fn entry_at<'a>(pool: &'a Pool, place: Place) -> EntryRef<'a>
 fn item_over<'a>(pool: &Pool, place: Place, key: &'a [u8], entry: EntryRef<'a>) -> ItemRef<'a>
     requires { IsSome (item_in pool.now place) }
     ensures { (found : Item) × (Some found ≡ item_in pool.now place)
-        × (item_of result ≡ record (unread key.now (entry_of entry.entry)) { reads = found.reads }) }
+        × (item_of result ≡ record (unread_by false key.now (entry_of entry.entry)) {
+          reads = found.reads;
+          own_deadline = found.own_deadline;
+        }) }
 {
+    let found = pool.item(place);
     ItemRef {
         key,
         value: entry.value,
         flags: entry.flags,
         deadline: entry.deadline,
         cas: entry.cas,
-        reads: pool.item(place).reads,
+        reads: found.reads,
+        own_deadline: found.own_deadline,
     }
 }
 
 impl LiveMap for SegmentMap {
     ghost use Rattle.std.specs.Prelude.{false};
     ghost use Rattle.segcache.specs.Shown.{shown_entries};
-    ghost use Rattle.segcache.specs.Writes.{StandsAt, WritesToSegments, ChangesSegments, stays_as};
+    ghost use Rattle.segcache.specs.Writes.{StandsAt, WritesToSegments, ChangesSegments, touch_leaves};
     ghost use Rattle.segcache.specs.Writes.{IsReadAgain, IsTouched, HasSamePool};
     ghost use Rattle.segcache.specs.Keeping.{KeepsStored};
 
@@ -165,7 +255,7 @@ impl LiveMap for SegmentMap {
 
     ghost touches = { IsTouched };
 
-    ghost stays = { stays_as };
+    ghost stays = { touch_leaves };
 
     ghost alike = { HasSamePool };
 
@@ -250,6 +340,7 @@ impl LiveMap for SegmentMap {
             deadline: entry.deadline,
             cas: entry.cas,
             reads: 0,
+            own_deadline: own_deadline_by(self.pool.is_exact(), entry.deadline),
         };
         if let Some(place) = self.place_over(item) {
             self.put_over(place, item);
@@ -270,7 +361,8 @@ impl LiveMap for SegmentMap {
     }
 
     fn may_stay(&self, _key: &[u8], place: Place, deadline: Option<u64>) -> bool {
-        stays_as(self.moment, deadline, self.pool.item(place).deadline)
+        let given = self.pool.item(place).deadline;
+        touch_leaves_by(self.pool.is_exact(), self.moment, deadline, given)
     }
 
     fn remove(&mut self, key: &[u8]) {
@@ -289,14 +381,17 @@ impl StoreMap for SegmentMap {
 
     ghost promises = { PromisesSegments };
 
+    ghost is_exact = { λ m. m.pool.exact };
+
     fn seeded(
         alloc: Global,
         geometry: Geometry,
         seed: u64,
         eviction: Eviction,
+        exact: bool,
     ) -> Result<Self, NoMemory> {
         let mut pool = Pool::new(alloc, geometry)?;
-        pool.evict_by(eviction);
+        pool.set_rules(eviction, exact);
         Ok(SegmentMap {
             pool,
             index: Index::new(alloc, slots_for(geometry), layout_for(geometry), seed)?,

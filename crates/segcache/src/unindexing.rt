@@ -6,7 +6,7 @@ ghost use Rattle.segcache.specs.Invariants.{IsTied};
 ghost use Rattle.segcache.specs.Shown.{current};
 ghost use Rattle.segcache.specs.State.{IsSegmentedMap};
 ghost use Rattle.segcache.specs.Writes.{HasSamePool};
-ghost use Rattle.segcache.specs.Removals.{HasLeft, HaveExpiredLeft};
+ghost use Rattle.segcache.specs.Removals.{HasLeft, HaveArrivedLeft, HaveExpiredLeft};
 
 use crate::segment_map::SegmentMap;
 use engine::has_arrived;
@@ -60,7 +60,32 @@ impl SegmentMap {
         }
     }
 
-    /// Takes the current items out whose deadline has come.
+    /// Takes the current items of a segment out whose deadline has come.
+    pub fn unindex_arrived(&mut self, segment: u32)
+        requires in_range { segment < self.old.pool.sizes.segments }
+        ensures left { HaveArrivedLeft self.old.pool self.old.moment segment
+            (current self.old.pool self.old.index) (current self.new.pool self.new.index) }
+        ensures same { HasSamePool self.old self.new }
+        ensures moment { self.new.moment ≡ self.old.moment }
+    {
+        let mut walk = self.pool.walk(segment);
+        while let Some((place, item)) = walk.next() {
+            if self.marks.is_marked(place) {
+                if has_arrived(item.deadline, self.moment) {
+                    self.counts.take_out(&self.pool, place);
+                    unindex(
+                        &self.pool,
+                        &mut self.index,
+                        &mut self.marks,
+                        item.key,
+                        place,
+                    );
+                }
+            }
+        }
+    }
+
+    /// Takes the current items out whose deadline has come. A segment's comes no later than those of its items.
     pub fn unindex_expired(&mut self)
         ensures left { HaveExpiredLeft self.old.pool self.old.moment (current self.old.pool self.old.index)
             (current self.new.pool self.new.index) }
@@ -71,7 +96,7 @@ impl SegmentMap {
     {
         for segment in 0..self.pool.geometry().segments() {
             if has_arrived(self.pool.deadline(segment), self.moment) {
-                self.unindex_segment(segment);
+                self.unindex_arrived(segment);
             }
         }
     }

@@ -16,10 +16,11 @@ ghost use Rattle.segcache.specs.Room.{IsPut, IsPutOver};
 ghost use Rattle.segcache.specs.Removals.{marked_instead};
 ghost use Rattle.segcache.specs.LiveItems.{live_marks, live_others};
 ghost use Rattle.segcache.specs.ForgottenKeys.{PlacesItem};
+ghost use Rattle.segcache.specs.OwnDeadlines.{own_deadline_by};
 ghost use Rattle.segcache.specs.Writes.{GoesOver, StandsAt, goes_over};
 ghost use Rattle.segments.specs.declared.place.Place.{Place as Spot};
 
-use crate::segment_map::{SegmentMap, may_give};
+use crate::segment_map::{SegmentMap, may_share_segment};
 use segments::{ItemRef, LiveMarks, NoRoom, Place, size_of};
 
 /// Marks the place of an item in place of the one that its key had.
@@ -51,19 +52,22 @@ impl SegmentMap {
             return None;
         }
         let place = self.index.look_up(&self.pool, item.key)?;
-        let deadline = self.pool.item(place).deadline;
-        if may_give(self.moment, item.deadline, deadline) && self.pool.fits_over(place, item) {
+        let shared = self.pool.shared_deadline(place);
+        if may_share_segment(self.pool.is_exact(), self.moment, item.deadline, shared)
+            && self.pool.fits_over(place, item)
+        {
             Some(place)
         } else {
             None
         }
     }
 
-    /// Puts an item over the one of its key, which stands at the place. The read count and the deadline there stay.
+    /// Puts an item over the one of its key, which stands at the place. The read count stays.
     pub(crate) fn put_over(&mut self, place: Place, item: ItemRef)
         requires stands { StandsAt self.old item.key.now place }
         requires storable { IsStorable (item_limit self.old.pool.sizes) (item_of item) }
         requires goes { IsTrue (goes_over self.old item.deadline (item_of item) place) }
+        requires own { item.own_deadline ≡ own_deadline_by self.old.pool.exact item.deadline }
         ensures over { GoesOver self.old (item_of item.entry) item.entry.deadline self.new }
         // for callers that read no field
         ensures kept { IsSegmentedMap self.old }
@@ -77,6 +81,9 @@ impl SegmentMap {
     fn append(&mut self, bucket: usize, item: ItemRef) -> Result<Place, NoRoom>
         requires bucket { bucket < bucket_count }
         requires storable { IsStorable (item_limit self.old.pool.sizes) (item_of item) }
+        requires own { item.own_deadline ≡ own_deadline_by self.old.pool.exact item.deadline }
+        requires waits { has_arrived item.deadline self.old.moment ≡ false }
+        requires of_bucket { bucket ≡ bucket_of (time_to_live item.deadline self.old.moment) }
         ensures appended { MatchResult result
             (λ place. (IsAddedToTail self.old.pool bucket self.old.moment (item_of item.entry) self.new.pool place
             ⊎ IsAddedToFree self.old.pool bucket self.old.moment (item_of item.entry) self.new.pool place)
@@ -100,6 +107,7 @@ impl SegmentMap {
         requires storable { IsStorable (item_limit self.old.pool.sizes) (item_of item) }
         requires absent { map.get (current self.old.pool self.old.index) item.key.now ≡ None }
         requires no_room { HasNoRoom self.old.pool bucket self.old.moment (item_of item) }
+        requires own { item.own_deadline ≡ own_deadline_by self.old.pool.exact item.deadline }
         requires waits { has_arrived item.deadline self.old.moment ≡ false }
         requires of_bucket { bucket ≡ bucket_of (time_to_live item.deadline self.old.moment) }
         ensures put { IsPut self.old.pool self.old.index self.old.moment
@@ -118,6 +126,7 @@ impl SegmentMap {
     pub fn write_item(&mut self, bucket: usize, item: ItemRef)
         requires bucket { bucket < bucket_count }
         requires storable { IsStorable (item_limit self.old.pool.sizes) (item_of item) }
+        requires own { item.own_deadline ≡ own_deadline_by self.old.pool.exact item.deadline }
         requires waits { has_arrived item.deadline self.old.moment ≡ false }
         requires of_bucket { bucket ≡ bucket_of (time_to_live item.deadline self.old.moment) }
         ensures put { IsPutOver self.old.pool self.old.index self.old.moment

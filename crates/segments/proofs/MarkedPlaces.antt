@@ -27,6 +27,7 @@ use Rattle.segments.specs.Marks.{Marks, mark_count, row_of, mark_at, is_mark_of,
 use Rattle.segments.specs.Marks.{mark_target, marked_targets, carried_marks, no_marks, lives_by, IsWithin, AreMarksSized, has_mark, KnowsPool}
 use Rattle.segments.proofs.MarkCounts.{marked_at, marked_some}
 use Rattle.proto.proofs.Options.{value_there}
+use Rattle.segments.specs.Items.{item_deadline}
 
 -- ---- sizes stay
 
@@ -159,7 +160,7 @@ counts_live t p n known =
           ∙ sym (ap (has_live (lives_by t) p) (sym h.segment) ∙ live_stays (lives_by t) p h.place i.0 i.1 here)
       | inr ge ↦
           le-ltb 0 (mark_count (row_of t n)) ge
-          ∙ sym (list_any_none (λ s. lives_by t s.place s.item (deadline_in (segment_at p n))) (standing p n)
+          ∙ sym (list_any_none (λ s. lives_by t s.place s.item (item_deadline s.item (deadline_in (segment_at p n)))) (standing p n)
           (λ k d lt. let s = get_or (standing p n) k d in
           ap (λ m. mark_at t m (s.place.offset / 32)) (in_segment n 0 (items_of (segment_at p n)) k d lt)
           ∙ none_marked (row_of t n) (s.place.offset / 32) ge))

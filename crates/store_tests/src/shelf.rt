@@ -58,6 +58,7 @@ impl Shelf {
             deadline: None,
             cas,
             reads: 0,
+            own_deadline: 0,
         };
         if size_of(item) > self.geometry.item_limit() {
             return false;

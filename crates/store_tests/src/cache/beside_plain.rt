@@ -1,5 +1,5 @@
 //! Random requests, which the segmented store is to answer as the plain one does: what is live fits into one segment,
-//! so merges keep all of it.
+//! so merges keep all of it, or there is always a segment without a live item.
 
 use crate::cache::asking::answer;
 use crate::cache::random::Random;
@@ -26,18 +26,26 @@ fn random_value(alloc: Global, random: &mut Random) -> Result<String, AllocError
     Ok(value)
 }
 
-/// What a put has after its verb: it sets no deadline, or one that has come already. `unique` is a cas number with a
-/// space before it, or nothing.
+/// One that has come already, or a number below this one.
+fn random_exptime(alloc: Global, random: &mut Random, lives: u64) -> Result<String, AllocError> {
+    if random.below(10) == 0 {
+        return String::from_str(alloc, "-1");
+    }
+    format!(in alloc; "{}", random.below(lives))
+}
+
+/// A put with this verb. `unique` is a cas number with a space before it, or nothing.
 fn random_put(
     alloc: Global,
     random: &mut Random,
+    lives: u64,
     verb: &str,
     unique: &str,
 ) -> Result<String, AllocError> {
     let value = random_value(alloc, random)?;
     let key = random.below(KEYS);
     let flags = random.below(4_294_967_296);
-    let exptime = if random.below(10) == 0 { "-1" } else { "0" };
+    let exptime = random_exptime(alloc, random, lives)?;
     format!(in alloc;
         "{verb} k{key} {flags} {exptime} {}{unique}\r\n{value}\r\n",
         value.len()
@@ -55,30 +63,37 @@ fn with_number(
     format!(in alloc; "{verb} k{key}{between}{number}\r\n")
 }
 
-fn random_cas(alloc: Global, random: &mut Random) -> Result<String, AllocError> {
+fn random_cas(alloc: Global, random: &mut Random, lives: u64) -> Result<String, AllocError> {
     let unique = format!(in alloc; " {}", random.below(200))?;
-    random_put(alloc, random, "cas", unique.as_str())
+    random_put(alloc, random, lives, "cas", unique.as_str())
 }
 
-/// A request for one or two keys.
-fn random_request(alloc: Global, random: &mut Random) -> Result<String, AllocError> {
+fn random_touch(
+    alloc: Global,
+    random: &mut Random,
+    lives: u64,
+    key: u64,
+) -> Result<String, AllocError> {
+    let exptime = random_exptime(alloc, random, lives)?;
+    format!(in alloc; "touch k{key} {exptime}\r\n")
+}
+
+/// A request for one or two keys, with exptimes below this one.
+fn random_request(alloc: Global, random: &mut Random, lives: u64) -> Result<String, AllocError> {
     let key = random.below(KEYS);
     let other = random.below(KEYS);
     match random.below(16) {
         0..=1 => with_number(alloc, "get", key, " k", other),
         2..=3 => format!(in alloc; "gets k{key} k{other} k{key}\r\n"),
-        4..=6 => random_put(alloc, random, "set", ""),
-        7 => random_put(alloc, random, "add", ""),
-        8 => random_put(alloc, random, "replace", ""),
-        9 => random_cas(alloc, random),
+        4..=6 => random_put(alloc, random, lives, "set", ""),
+        7 => random_put(alloc, random, lives, "add", ""),
+        8 => random_put(alloc, random, lives, "replace", ""),
+        9 => random_cas(alloc, random, lives),
         10 => format!(in alloc; "delete k{key}\r\n"),
         11 => with_number(alloc, "incr", key, " ", other),
         12 => format!(in alloc; "append k{key} 7 9 0\r\n\r\n"),
         13 => format!(in alloc; "prepend k{key} 7 9 1\r\nv\r\n"),
-        14 => {
-            let exptime = if random.below(10) == 0 { "-1" } else { "0" };
-            format!(in alloc; "touch k{key} {exptime}\r\n")
-        }
+        14 => random_touch(alloc, random, lives, key),
         _ => match random.below(40) {
             0 => String::from_str(alloc, "flush_all\r\n"),
             1 => String::from_str(alloc, "flush_all 2\r\n"),
@@ -111,9 +126,10 @@ fn check_turn(
     segmented: &mut Store,
     plain: &mut PlainStore,
     random: &mut Random,
+    lives: u64,
     turn: u64,
 ) -> Result<bool, Fail> {
-    let request = random_request(alloc, random)?;
+    let request = random_request(alloc, random, lives)?;
     Ok(check_request(rt, alloc, segmented, plain, request.as_str(), turn)?)
 }
 
@@ -123,11 +139,12 @@ fn compare(
     alloc: Global,
     segmented: &mut Store,
     plain: &mut PlainStore,
+    lives: u64,
 ) -> Result<(), Fail> {
     let mut random = Random::new(88_172_645_463_325_252);
     let mut shown = 0u32;
     for turn in 0..20_000u64 {
-        if check_turn(rt, alloc, segmented, plain, &mut random, turn)? {
+        if check_turn(rt, alloc, segmented, plain, &mut random, lives, turn)? {
             shown = shown.saturating_add(1);
         }
     }
@@ -140,9 +157,10 @@ fn compare_with_plain(
     alloc: Global,
     segmented: &mut Store,
     geometry: Geometry,
+    lives: u64,
 ) -> Result<(), Fail> {
     let mut plain = PlainStore::new(alloc, geometry)?;
-    compare(rt, alloc, segmented, &mut plain)
+    compare(rt, alloc, segmented, &mut plain, lives)
 }
 
 /// The answers are the plain store's. The items that are written take some twenty times the segments' bytes.
@@ -150,7 +168,7 @@ fn compare_with_plain(
 fn nothing_is_forgotten(rt: HostRuntime) -> Result<(), Fail> {
     let geometry = Geometry::new(16_384, 8)?;
     let mut segmented = Store::new(rt.alloc(), geometry)?;
-    compare_with_plain(&rt, rt.alloc(), &mut segmented, geometry)
+    compare_with_plain(&rt, rt.alloc(), &mut segmented, geometry, 0)
 }
 
 /// So they are where the least read segment is evicted.
@@ -163,6 +181,23 @@ fn nothing_is_forgotten_of_what_is_read(rt: HostRuntime) -> Result<(), Fail> {
         false,
         Dialect::Strict,
         Eviction::LeastRead,
+        false,
     )?;
-    compare_with_plain(&rt, rt.alloc(), &mut segmented, geometry)
+    compare_with_plain(&rt, rt.alloc(), &mut segmented, geometry, 0)
+}
+
+/// So they are with TTLs of up to 29 seconds, where deadlines are kept to the second. There are more segments than keys, so there
+/// is always one without a live item.
+#[test]
+fn ttls_are_kept_to_the_second(rt: HostRuntime) -> Result<(), Fail> {
+    let geometry = Geometry::new(16_384, 32)?;
+    let mut segmented = Store::evicting(
+        rt.alloc(),
+        geometry,
+        false,
+        Dialect::Strict,
+        Eviction::Oldest,
+        true,
+    )?;
+    compare_with_plain(&rt, rt.alloc(), &mut segmented, geometry, 30)
 }

@@ -54,6 +54,7 @@ impl Stock {
             deadline: None,
             cas,
             reads: 0,
+            own_deadline: 0,
         };
         if size_of(item) > self.geometry.item_limit() {
             return None;

@@ -11,7 +11,7 @@ returns-clause-handled g c =
 
 pub returns-clause-promised : goal.returns-clause-promised
 returns-clause-promised g c =
-    c.keep_promises.ensures c.args.self.now c.args.now c.args.request.now c.execute.result c.execute.new.self
+    c.keep_promises.ensures.promised c.args.self.now c.args.now c.args.request.now c.execute.result c.execute.new.self
     (returns-clause-handled g c)
 
 pub returns-clause-step : goal.returns-clause-step
@@ -36,4 +36,9 @@ pub returns-clause-kept : goal.returns-clause-kept
 returns-clause-kept g c =
     let m = g.M.LiveMap in
     kept_from_handled m c.args.self.now c.args.now c.args.request.now c.execute.result c.execute.new.self
+    (returns-clause-handled g c)
+
+pub returns-clause-deadlines : goal.returns-clause-deadlines
+returns-clause-deadlines g c =
+    c.keep_promises.ensures.deadlines c.args.self.now c.args.now c.args.request.now c.execute.result c.execute.new.self
     (returns-clause-handled g c)

@@ -1,14 +1,15 @@
-use Rattle.std.proofs.Common.{sym, subst}
+use Rattle.std.proofs.Common.{sym, subst, rules}
 use Rattle.segments.specs.Shown.{item_of}
 use Rattle.segments.proofs.Places.{appended}
 use Rattle.segments.proofs.MarkedPlaces.{knows_longer, item_within}
 use Rattle.index.proofs.PlacesInLayout.{appended_in_layout}
 use Rattle.segcache.specs.Invariants.{IsTied}
 use Rattle.segcache.proofs.TiedParts.{some_item, tied_put, source_within}
-use Rattle.segcache.proofs.AppendedItems.{past_put, in_segment}
+use Rattle.segcache.proofs.AppendedItems.{AsksAppend, put_deadline}
 use Rattle.segcache.proofs.AppendNeeds.{appended_here, appended_room, appended_index, appended_current, had_current}
 use Rattle.segcache.proofs.segment_map.SegmentMap.append.Goals as goal
 use Rattle.index.proofs.PoolKeys.{item_key}
+use Rattle.segcache.specs.State.{MapState}
 
 pub insert-source-requires-clause-index : goal.insert-source-requires-clause-index
 insert-source-requires-clause-index c =
@@ -81,6 +82,9 @@ pub invariant_of-self-2 : goal.invariant_of-self-2
 invariant_of-self-2 c =
     let a = c.self.inside in
     let i = item_of c.args.item in
+    let m0 : MapState = record { pool = a.pool; index = a.index; marks = a.marks; moment = a.moment } in
+    let asks : AsksAppend m0 i c.args.item.deadline c.args.bucket =
+    subst (λ (s : MapState). AsksAppend s i c.args.item.deadline c.args.bucket) (sym c.self.view_is) (search rules) in
     let p = a.pool in
     let after = c.append.new.self in
     let added = appended p c.args.bucket a.moment i after c.in_ok-place.place c.self.invariant.tied.known.pool
@@ -96,10 +100,9 @@ invariant_of-self-2 c =
           (tied_put p after c.args.bucket a.moment i c.in_ok-place.place a.index c.insert-source.new.self
           a.marks c.insert-source.result
           c.self.invariant.tied c.append.ensures.pool added had m c.insert-source.ensures.size);
-      past = past_put p c.args.bucket a.moment i after c.in_ok-place.place c.self.invariant.tied.known.pool
-          c.self.invariant.past c.in_ok-place.ensures.appended
-          (in_segment p c.args.bucket a.moment i after c.in_ok-place.place c.self.invariant.tied.known.pool
-          c.self.invariant.past c.in_ok-place.ensures.appended);
+      past = (put_deadline p after c.args.bucket a.moment i c.args.item.deadline c.in_ok-place.place
+          c.self.invariant.past c.self.invariant.tied.known.pool c.in_ok-place.ensures.appended asks.own asks.waits
+          asks.of_bucket).past;
     }
 
 pub returns-clause-appended : goal.returns-clause-appended

@@ -45,7 +45,7 @@ invariant_of-self c =
     let asks : AsksOver m i c.args.item.deadline c.args.place =
     subst (λ (s : MapState). AsksOver s i c.args.item.deadline c.args.place) (sym c.self.view_is) (search rules) in
     let r = puts_over m i c.args.item.deadline c.args.place (item_of c.item-reads.result) c.overwrite.new.self c.self.invariant
-    asks.stands asks.goes c.item-reads.ensures.item c.overwrite.ensures.overwritten c.overwrite.ensures.pool in
+    asks.stands asks.goes asks.own c.item-reads.ensures.item c.overwrite.ensures.overwritten c.overwrite.ensures.pool in
     r.kept
 
 pub returns-clause-over : goal.returns-clause-over
@@ -56,5 +56,5 @@ returns-clause-over c =
     let asks : AsksOver m i c.args.item.deadline c.args.place =
     subst (λ (s : MapState). AsksOver s i c.args.item.deadline c.args.place) (sym c.self.view_is) (search rules) in
     let r = puts_over m i c.args.item.deadline c.args.place (item_of c.item-reads.result) c.overwrite.new.self c.self.invariant
-    asks.stands asks.goes c.item-reads.ensures.item c.overwrite.ensures.overwritten c.overwrite.ensures.pool in
+    asks.stands asks.goes asks.own c.item-reads.ensures.item c.overwrite.ensures.overwritten c.overwrite.ensures.pool in
     subst (λ (s : MapState). GoesOver s i c.args.item.deadline (record m { pool = c.overwrite.new.self })) c.self.view_is r.over

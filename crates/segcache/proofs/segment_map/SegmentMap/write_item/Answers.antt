@@ -16,6 +16,7 @@ use Rattle.segcache.specs.LiveItems.{live_others}
 use Rattle.segcache.proofs.ForgottenKeys.{placed_left, room_was, room_there}
 use Rattle.segcache.proofs.AppendedItems.{put_over, put_left, put_placed, was_refused, was_done}
 use Rattle.segcache.proofs.segment_map.SegmentMap.write_item.Goals as goal
+use Rattle.segcache.specs.OwnDeadlines.{own_deadline_by}
 
 pub append_to_freed-requires-clause-storable : goal.append_to_freed-requires-clause-storable
 append_to_freed-requires-clause-storable c =
@@ -43,6 +44,14 @@ append_to_freed-requires-clause-no_room c =
     let moment : left.moment ≡ c.args.self.now.moment = c.remove_key.ensures.moment ∙ c.append.ensures.moment in
     subst (λ (q : PoolState). HasNoRoom q c.args.bucket left.moment i) (sym pool)
     (subst (λ (t : ℕ). HasNoRoom c.args.self.now.pool c.args.bucket t i) (sym moment) first.0)
+
+pub append_to_freed-requires-clause-own : goal.append_to_freed-requires-clause-own
+append_to_freed-requires-clause-own c =
+    let first = was_refused c.append.result _ _ c.append.ensures.appended
+    (sym c.is_err.ensures.value ∙ c.if-is_err.true) in
+    let pool : c.remove_key.new.self.pool ≡ c.args.self.now.pool =
+    c.remove_key.ensures.same.pool ∙ ap (λ (x : MapState). x.pool) first.1 in
+    c.requires.own ∙ ap (λ (q : PoolState). own_deadline_by q.exact c.args.item.deadline) (sym pool)
 
 pub append_to_freed-requires-clause-waits : goal.append_to_freed-requires-clause-waits
 append_to_freed-requires-clause-waits c =
@@ -76,7 +85,7 @@ returns-else-is_err-clause-put c =
     put_over s.pool s.index s.marks c.args.bucket s.moment
     (item_of c.args.item) c.args.item.deadline
     c.append.new.self.pool c.append.new.self.index done.0 c.append.ensures.kept.past c.append.ensures.kept.tied
-    done.1.0 done.1.1 c.requires.waits c.requires.of_bucket
+    done.1.0 done.1.1 c.requires.own c.requires.waits c.requires.of_bucket
 
 pub returns-then-is_err-clause-placed : goal.returns-then-is_err-clause-placed
 returns-then-is_err-clause-placed c =
@@ -103,4 +112,5 @@ returns-else-is_err-clause-placed c =
     c.append.new.self.pool c.append.new.self.index done.0
     (room_there lives s.pool s.index c.args.bucket s.moment i
     (room_was s.pool c.args.bucket s.moment i c.append.new.self.pool done.0 done.1.0))
-    c.append.ensures.kept.past c.append.ensures.kept.tied done.1.0 done.1.1 c.requires.waits c.requires.of_bucket
+    c.append.ensures.kept.past c.append.ensures.kept.tied done.1.0 done.1.1 c.requires.own c.requires.waits
+    c.requires.of_bucket

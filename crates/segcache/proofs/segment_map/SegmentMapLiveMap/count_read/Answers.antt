@@ -12,6 +12,7 @@ use Rattle.segcache.proofs.ShownItems.{shown_same, touched_entry}
 use Rattle.segcache.proofs.TiedParts.{tied_changed, current_some}
 use Rattle.segcache.proofs.OpeningMoments.{past_changed}
 use Rattle.segcache.proofs.segment_map.SegmentMapLiveMap.count_read.Goals as goal
+use Rattle.segments.specs.Pools.{item_in}
 
 pub touch-requires : goal.touch-requires
 touch-requires c =
@@ -30,7 +31,9 @@ invariant_of-self c =
       tied = (tied_changed read_again a.pool c.touch.new.self a.index a.marks c.args.place c.self.invariant.tied
           (record { sized = keeps_read _ some; key = λ i _. refl }) c.touch.ensures.pool c.touch.ensures.touched).0;
       past = subst (λ (q : PoolState). IsPast q a.moment) (sym c.touch.ensures.touched)
-          (past_changed read_again a.pool a.moment c.args.place c.self.invariant.past some);
+          (past_changed read_again a.pool a.moment c.args.place c.self.invariant.past
+          (keeps_read (item_in a.pool c.args.place) some)
+          (λ i here. c.self.invariant.past.dated c.args.place i here));
     }
 
 pub returns-clause-entries : goal.returns-clause-entries

@@ -81,6 +81,7 @@ returns-clause-overwritten c =
       cursor = a.cursor;
       plan = None;
       eviction = a.eviction;
+      exact = a.exact;
       hits = c.count.new.self;
     })
     (changed_shown a c.args.place.segment s t (change_in (λ _. new) c.args.place.offset) q.within at

@@ -1,6 +1,6 @@
 use Rattle.std.proofs.lemmas.Option.{none-some}
 use Rattle.segments.proofs.PoolLemmas.{pool_kept}
-use Rattle.segments.proofs.pool.Pool.evict_by.Goals as goal
+use Rattle.segments.proofs.pool.Pool.set_rules.Goals as goal
 
 pub invariant_of-self : goal.invariant_of-self
 invariant_of-self c =

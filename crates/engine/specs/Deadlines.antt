@@ -1,0 +1,27 @@
+-- Stores that keep deadlines to the second.
+use Rattle.std.specs.Prelude.{◌≡◌, ◌≢◌, ℕ, Bool, true, nat_lt, List, Option, Some, None}
+use Rattle.std.specs.FinMap as map
+use Rattle.proto.specs.declared.message.Request.{Request}
+use Rattle.proto.specs.declared.message.Reply.{Reply}
+use Rattle.proto.specs.declared.message.Reply.TheVariants.{NoMemory}
+use Rattle.proto.specs.Sizes.{Sizes}
+use Rattle.proto.specs.Cache.{Entry, Cache}
+use Rattle.engine.specs.Outcomes.{outcome_at}
+
+-- whether a store can keep a deadline to the second: there is none, or it is below 2^48
+abbrev pub is_storable_deadline : Option ℕ → Bool
+is_storable_deadline None = true
+is_storable_deadline (Some deadline) = nat_lt deadline 281474976710656
+
+-- The entry that a request stores is there then as it asks to be, with the very deadline that it asks for, if a store can keep
+-- that.
+abbrev pub StoresAsAsked : Sizes → Cache → ℕ → Request → Reply → Cache → Type 0
+StoresAsAsked sizes before t q reply after =
+    let done = outcome_at sizes before t q in
+    (key : List ℕ) (e : Entry) → done.stored ≡ Some key → reply ≢ NoMemory → map.get done.entries key ≡ Some e
+    → is_storable_deadline e.deadline ≡ true → map.get after.entries key ≡ Some e
+
+-- A store that keeps deadlines to the second goes on so, and another one too. Where it does, the request stores its entry as it asks.
+abbrev pub KeepsDeadlines : {E : Type 0} → (E → Sizes) → (E → Cache) → (E → Bool) → E → ℕ → Request → Reply → E → Type 0
+KeepsDeadlines sizes cache exact old t q reply new =
+    (exact new ≡ exact old) × (exact old ≡ true → StoresAsAsked (sizes old) (cache old) t q reply (cache new))

@@ -1,2 +1,4 @@
 pub mod Serving
 pub mod Keeping
+pub mod Deadlines
+pub mod Sides

@@ -11,15 +11,17 @@ ghost use Rattle.storage_thread.specs.Serving.{AsksClock, IsReadSince, IsTimed, 
 ghost use Rattle.storage_thread.specs.Serving.{IsSameExchange, IsStorageServing};
 ghost use Rattle.storage_thread.specs.Serving.{GetsNone, GetsMessage, AnswersOpenRequest};
 ghost use Rattle.storage_thread.specs.Keeping.{LeadsKeeping, MayAlwaysForgetNothing};
+ghost use Rattle.storage_thread.specs.Deadlines.{LeadsAsAsked, MayStoreAsAsked};
 
+use crate::side::{Served, StorageSide};
 use crate::stats::StatsSource;
 use engine::{Clock, MAX_MOMENT, StorageEngine};
 use exchange::{
     Answered, IdleTurns, Posted, StorageBatch, StorageEnd, StorageSignals, Taken, Waits,
 };
-use proto::{AskedClock, Counts, Request};
+use proto::{AskedClock, Counts, Reply, Request};
 use std::sync::Wait;
-use std::time;
+use std::{hint, time};
 
 /// The workers are told of their answers at least at each so many.
 const ANSWERS_PER_FLUSH: u64 = 8;
@@ -29,6 +31,9 @@ const MANY_KEYS: usize = 64;
 
 /// The idle turns in a row in which it spins before it parks, if the signals say no time: two microseconds.
 const IDLE_TURNS: u32 = 10;
+
+/// How often a turn spins in which the side is held and nothing comes.
+const SPINS_PER_TURN: u32 = 4;
 
 /// The most messages for which storage reads ahead at once: their slots and items come from memory at the same time.
 const MESSAGES_AHEAD: u64 = 8;
@@ -44,7 +49,7 @@ pub struct StorageReport<C: Clock> {
 
 /// Prefetches for the message just taken and for those seen after it. `done` is how many messages an earlier call has already
 /// covered, and the result is how many this one has.
-fn read_ahead<S: StorageEngine>(
+pub(crate) fn read_ahead<S: StorageEngine>(
     done: u64,
     store: &S,
     end: &StorageBatch,
@@ -77,17 +82,35 @@ pub fn next_moment<C: Clock>(clock: &mut AskedClock<C>, last: u64) -> u64
     now.max(last)
 }
 
+/// What came of a request that was executed.
+#[derive(Clone, Copy)]
+pub(crate) struct Executed {
+    /// The worker that was told of its answers now, if one was.
+    pub(crate) told: Option<usize>,
+    pub(crate) served: Served,
+}
+
+/// About how many bytes the reply takes as an answer.
+fn reply_bytes(reply: &Reply) -> usize {
+    match reply {
+        Reply::Values(hits) => hits.text_len(),
+        _ => 0,
+    }
+}
+
 /// Executes the open request, counts it, and answers it. If the store made room for it, the time since the clock was read is
-/// noted. Its worker is told at the next flush, or before. It gives the worker that was told of its answers now, if one was.
-fn execute<S: StorageEngine, C: Clock, R: time::Clock>(
+/// noted. Its worker is told at the next flush, or before.
+pub(crate) fn execute<S: StorageEngine, C: Clock, R: time::Clock>(
+    rt: &R,
+    signals: &StorageSignals,
     store: &mut S,
     clock: &mut AskedClock<C>,
     counts: &mut Counts,
-    source: &mut StatsSource<R>,
+    source: &mut StatsSource,
     end: &mut StorageBatch,
     worker: usize,
     posted: Posted,
-) -> Option<usize>
+) -> Executed
     requires counts { counts.old ≡ counts_after no_counts end.old.end.history }
     requires answers { clock.old.answers ≡ answers_by [] end.old.end.history }
     requires read { IsReadSince end.old.end.terms.system_clock (C.start clock.old.clock) end.old.end.history }
@@ -100,6 +123,8 @@ fn execute<S: StorageEngine, C: Clock, R: time::Clock>(
     ensures reaches { Reaches end.new.end.terms.geometry end.new.end.history (S.cache store.new) (S.moment store.new) }
     ensures kept { LeadsKeeping end.old.end.terms.geometry end.old.end.history (S.cache store.old) (S.keeps store.old)
         → LeadsKeeping end.new.end.terms.geometry end.new.end.history (S.cache store.new) (S.keeps store.new) }
+    ensures dated { LeadsAsAsked end.old.end.terms.geometry end.old.end.history (S.cache store.old) (S.is_exact store.old)
+        → LeadsAsAsked end.new.end.terms.geometry end.new.end.history (S.cache store.new) (S.is_exact store.new) }
     ensures sizes { S.sizes store.new ≡ S.sizes store.old }
     ensures refused { RefusesBy S.may_refuse end.new.end.history }
     ensures counts { counts.new ≡ counts_after no_counts end.new.end.history }
@@ -115,8 +140,18 @@ fn execute<S: StorageEngine, C: Clock, R: time::Clock>(
         mut request,
     } = posted;
     let stored = store.handle(moment, &mut request);
-    let reply = source.reply(clock.at(), counts, store, worker, &request, stored);
+    let reply = source.reply(
+        rt,
+        signals,
+        clock.at(),
+        counts,
+        store,
+        worker,
+        &request,
+        stored,
+    );
     counts.count(&request, &reply);
+    let bytes = reply_bytes(&reply);
     let answered = Answered {
         worker,
         session,
@@ -126,11 +161,13 @@ fn execute<S: StorageEngine, C: Clock, R: time::Clock>(
         clock: clock.answers(),
         reply,
     };
-    end.answer_later(answered)
+    let told = end.answer_later(answered);
+    let served = Served::Request { worker, bytes };
+    Executed { told, served }
 }
 
 /// Tells the workers of all answers, and unparks the one whose answers they are.
-fn tell_workers(end: &mut StorageBatch, signals: &StorageSignals)
+pub(crate) fn tell_workers(end: &mut StorageBatch, signals: &StorageSignals)
     ensures end { end.new.end ≡ end.old.end }
     ensures told { end.new.told ≡ end.old.end.history }
 {
@@ -155,7 +192,7 @@ fn tells_before(taken: &Taken, executed: u64) -> bool {
 
 /// The next message among those that the last look at the lanes named; the workers are told of each eighth answer, and of all
 /// before a `get` for many keys. If none is left, they are told of all answers, and then the lanes are looked at.
-fn take_next<C: Clock>(
+pub(crate) fn take_next<C: Clock>(
     end: &mut StorageBatch,
     clock: &AskedClock<C>,
     executed: u64,
@@ -176,15 +213,16 @@ fn take_next<C: Clock>(
     Some(taken)
 }
 
-/// An idle turn, in which the thread may park. No worker waits for an answer that was given.
-fn pass_turn<R: Wait + time::Clock>(
+/// An idle turn of the storage thread, in which it may park. No worker waits for an answer that was
+/// given.
+fn pass_turn<R: Wait + time::Clock, S: StorageEngine, C: Clock>(
     rt: &R,
-    _end: &StorageBatch,
+    _side: &StorageSide<S, C>,
     idle: &mut IdleTurns,
     waits: &mut Waits,
     signals: &StorageSignals,
 )
-    requires told { _end.now.told ≡ _end.now.end.history }
+    requires told { _side.now.end.told ≡ _side.now.end.end.history }
 {
     if signals.spin().is_some() || idle.parks_next() {
         waits.begin(rt);
@@ -192,60 +230,57 @@ fn pass_turn<R: Wait + time::Clock>(
     idle.turn(rt, signals.parking());
 }
 
-/// Executes requests until all workers have said bye, of which so many are left, and gives how many it executed. The store and
-/// the end are new, and the clock was asked nothing.
-fn serve<R: Wait + time::Clock, S: StorageEngine, C: Clock>(
+fn spin() {
+    for _ in 0..SPINS_PER_TURN {
+        hint::spin_loop();
+    }
+}
+
+/// Executes requests until nothing has come for some turns, in which it spins. True if there was a
+/// message.
+pub(crate) fn serve_until_idle<R: Wait + time::Clock, S: StorageEngine, C: Clock>(
     rt: &R,
-    store: &mut S,
-    clock: &mut AskedClock<C>,
-    end: &mut StorageBatch,
-    mut left: usize,
+    side: &mut StorageSide<S, C>,
     signals: &StorageSignals,
-) -> u64
-    requires empty { (S.cache store.old ≡ empty_cache 0) × (S.moment store.old ≡ 0) }
-    requires sizes { S.sizes store.old ≡ end.old.end.terms.geometry }
-    requires refuses { end.old.end.terms.may_refuse ≡ false → S.may_refuse ≡ false }
-    requires system_clock { end.old.end.terms.system_clock ≡ true → IsSome (C.start clock.old.clock) }
-    requires unasked { clock.old.answers ≡ [] }
-    requires unused { IsUnused end.old.end }
-    requires left { left ≡ end.old.end.workers }
-    ensures serving { IsStorageServing end.old.end end.new.end (S.cache store.new) (S.moment store.new) }
-    ensures bye { SaidBye end.new.end }
-    ensures told { end.new.told ≡ end.new.end.history }
-    ensures refused { RefusesBy S.may_refuse end.new.end.history }
-    ensures leads { C.leads_to clock.old.clock clock.new.clock }
-    ensures moments { IsTimed (C.told clock.old.clock) (C.told clock.new.clock) end.new.end.history }
-    ensures kept { S.keeps store.old [] → LeadsKeeping end.new.end.terms.geometry end.new.end.history
-        (S.cache store.new) (S.keeps store.new) }
-    ensures executed { result ≡ min (length end.new.end.history) (2 ^ 64 - 1) }
+) -> bool
+    ensures origin { side.new.origin ≡ side.old.origin }
+    ensures told { side.new.end.told ≡ side.new.end.end.history }
 {
-    let mut executed = 0u64;
-    let mut counts = Counts::new();
-    let mut source = StatsSource::new(rt, signals);
+    let mut has_served = false;
+    let mut idle = 0;
+    for _ in rt.forever() {
+        match side.serve_next(rt, signals, None) {
+            Some(_) => {
+                has_served = true;
+                idle = 0;
+            }
+            None if idle >= IDLE_TURNS || side.is_done() => return has_served,
+            None => {
+                idle += 1;
+                spin();
+            }
+        }
+    }
+    unreachable!()
+}
+
+/// Executes requests until all workers have said bye.
+pub(crate) fn serve<R: Wait + time::Clock, S: StorageEngine, C: Clock>(
+    rt: &R,
+    side: &mut StorageSide<S, C>,
+    signals: &StorageSignals,
+)
+    ensures origin { side.new.origin ≡ side.old.origin }
+    ensures told { side.new.end.told ≡ side.new.end.end.history }
+    ensures done { side.new.left ≡ 0 }
+{
     let mut idle = IdleTurns::new(IDLE_TURNS, signals.spin());
     let mut waits = Waits::new(rt, Some(signals.storage_gauges()));
-    let mut ahead = 0;
     for _ in rt.forever() {
-        if left == 0 {
-            tell_workers(end, signals);
-            return executed;
-        }
-        match take_next(end, clock, executed, signals) {
-            Some(Taken::Asked { worker, posted }) => {
-                waits.end(rt);
-                ahead = read_ahead(ahead, store, end, signals);
-                let told = execute(store, clock, &mut counts, &mut source, end, worker, posted);
-                if let Some(told) = told {
-                    signals.unpark(told);
-                }
-                executed = executed.saturating_add(1);
-                idle.reset(signals.parking());
-            }
-            Some(Taken::Bye { worker: _ }) => {
-                left -= 1;
-                idle.reset(signals.parking());
-            }
-            None => pass_turn(rt, end, &mut idle, &mut waits, signals),
+        match side.serve_next(rt, signals, Some(&mut waits)) {
+            Some(_) => idle.reset(signals.parking()),
+            None if side.is_done() => return,
+            None => pass_turn(rt, side, &mut idle, &mut waits, signals),
         }
     }
     unreachable!()
@@ -258,7 +293,7 @@ fn serve<R: Wait + time::Clock, S: StorageEngine, C: Clock>(
 /// that posts or says bye wakes it. Workers' hints tell it what to prefetch.
 pub fn run_storage<R: Wait + time::Clock, S: StorageEngine + Drop, C: Clock>(
     rt: &R,
-    mut store: S,
+    store: S,
     clock: C,
     storage_end: StorageEnd,
     signals: &StorageSignals,
@@ -281,15 +316,12 @@ pub fn run_storage<R: Wait + time::Clock, S: StorageEngine + Drop, C: Clock>(
 
     // as long as no deadline is set and little is stored, nothing is forgotten by a store that keeps what it stores
     ensures bounded { S.keeps store [] → MayAlwaysForgetNothing storage_end.terms.geometry result.storage_end.history }
+
+    // over a store that keeps deadlines to the second, each entry has the deadline asked for
+    ensures dated { S.is_exact store ≡ true → MayStoreAsAsked storage_end.terms.geometry result.storage_end.history }
     ensures executed { result.executed ≡ min (length result.storage_end.history) (2 ^ 64 - 1) }
 {
-    let mut clock = AskedClock::new(clock);
-    let mut end = storage_end.batched();
-    let workers = end.workers();
-    let executed = serve(rt, &mut store, &mut clock, &mut end, workers, signals);
-    StorageReport {
-        clock: clock.into_clock(),
-        storage_end: end.into_end(),
-        executed,
-    }
+    let mut side = StorageSide::new(rt, store, clock, storage_end);
+    serve(rt, &mut side, signals);
+    side.into_report()
 }

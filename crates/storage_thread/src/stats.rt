@@ -8,67 +8,71 @@ use exchange::StorageSignals;
 use proto::{Counts, Gauge, NoMemory, Reply, Request, StatsText, VERSION};
 use std::time::{Clock, Duration, Instant};
 
-/// Where what a `stats` shows beside counts comes from: the system's clock, when the thread began, and the signals.
+/// What a `stats` shows beside counts, the system's clock and the signals: when the storage side was made.
 #[derive(Drop)]
-pub struct StatsSource<'a, R> {
-    rt: &'a R,
+pub struct StatsSource {
     /// None if the clock couldn't be read.
     began: Option<Instant>,
-    signals: &'a StorageSignals,
     /// How often the store had made room when that was noted last.
     evictions: u64,
 }
 
-impl<'a, R: Clock> StatsSource<'a, R> {
-    pub fn new(rt: &'a R, signals: &'a StorageSignals) -> StatsSource<'a, R> {
+/// How long ago that was; no time if the clock can't be read.
+pub(crate) fn passed<R: Clock>(rt: &R, since: Option<Instant>) -> Duration {
+    since
+        .and_then(|since| since.elapsed(rt).ok())
+        .unwrap_or(Duration::ZERO)
+}
+
+impl StatsSource {
+    pub fn new<R: Clock>(rt: &R) -> StatsSource {
         StatsSource {
-            rt,
             began: Instant::now(rt).ok(),
-            signals,
             evictions: 0,
         }
     }
 
-    /// How long ago that was; no time if the clock can't be read.
-    fn passed(&self, since: Option<Instant>) -> Duration {
-        since
-            .and_then(|since| since.elapsed(self.rt).ok())
-            .unwrap_or(Duration::ZERO)
-    }
-
-    /// Sets the gauges, this long after the thread began.
-    fn set_gauges<S: StorageEngine>(&self, store: &S, worker: usize, passed: Duration) {
-        let gauges = self.signals.storage_gauges();
+    /// Sets the gauges, this long after the side was made.
+    fn set_gauges<S: StorageEngine>(
+        &self,
+        signals: &StorageSignals,
+        store: &S,
+        worker: usize,
+        passed: Duration,
+    ) {
+        let gauges = signals.storage_gauges();
         gauges.set(&[
             (Gauge::Pid, u64::from(libc::getpid().unsigned_abs())),
             (Gauge::Uptime, passed.as_secs()),
             (Gauge::Time, store.last_moment()),
             (Gauge::PointerSize, 64),
-            (Gauge::Threads, self.signals.workers() as u64),
+            (Gauge::Threads, signals.workers() as u64),
             (Gauge::StorageBusy, gauges.busy_micros(passed)),
         ]);
-        self.signals.gather_gauges(worker);
+        signals.gather_gauges(worker);
         store.set_gauges(gauges);
     }
 
     /// These counts, the gauges, and the lines of each worker, for a worker that asks.
     #[inline(never)]
     #[tactic(auto, unfolding(proto::specs::StatTexts::names_gauge, proto::specs::StatTexts::count_lines, proto::specs::StatTexts::total_lines, proto::specs::StatTexts::tally_lines))]
-    fn text<S: StorageEngine>(
+    fn text<S: StorageEngine, R: Clock>(
         &self,
+        rt: &R,
+        signals: &StorageSignals,
         counts: &Counts,
         store: &S,
         worker: usize,
     ) -> Result<StatsText, NoMemory>
         ensures { IfOk result (λ text. text ≡ counts.now) }
     {
-        let passed = self.passed(self.began);
-        self.set_gauges(store, worker, passed);
-        let mut text = StatsText::of(self.signals.allocator(), counts)?
+        let passed = passed(rt, self.began);
+        self.set_gauges(signals, store, worker, passed);
+        let mut text = StatsText::of(signals.allocator(), counts)?
             .with_word(b"version", VERSION.as_bytes())?
-            .with_gauges(self.signals.storage_gauges())?;
-        for each in 0..self.signals.workers() {
-            if let Some(gauges) = self.signals.gauges(each) {
+            .with_gauges(signals.storage_gauges())?;
+        for each in 0..signals.workers() {
+            if let Some(gauges) = signals.gauges(each) {
                 let connections = gauges.get(Gauge::CurrConnections);
                 text = text.with_worker(each, connections, gauges.busy_micros(passed))?;
             }
@@ -79,8 +83,10 @@ impl<'a, R: Clock> StatsSource<'a, R> {
     /// The reply to a request of the worker, to which the store replied so, if these are the counts before it. If the store made
     /// room for the request, the time since the clock was read for it is noted.
     #[inline(always)]
-    pub fn reply<S: StorageEngine>(
+    pub fn reply<S: StorageEngine, R: Clock>(
         &mut self,
+        rt: &R,
+        signals: &StorageSignals,
         since: Option<Instant>,
         counts: &Counts,
         store: &S,
@@ -92,7 +98,7 @@ impl<'a, R: Clock> StatsSource<'a, R> {
         ensures same { (reply ≡ result) ⊎ (request.now ≡ Request.Stats) }
     {
         match request {
-            Request::Stats => match self.text(counts, store, worker) {
+            Request::Stats => match self.text(rt, signals, counts, store, worker) {
                 Ok(text) => Reply::Stats(text.into_lines()),
                 Err(_) => Reply::NoMemory,
             },
@@ -102,8 +108,8 @@ impl<'a, R: Clock> StatsSource<'a, R> {
                 let evictions = store.evictions();
                 if evictions != self.evictions {
                     self.evictions = evictions;
-                    let gauges = self.signals.storage_gauges();
-                    gauges.raise_micros(Gauge::MergeLongest, self.passed(since));
+                    let gauges = signals.storage_gauges();
+                    gauges.raise_micros(Gauge::MergeLongest, passed(rt, since));
                 }
                 reply
             }

@@ -12,10 +12,13 @@ use Rattle.exchange.specs.Ends.{StorageView}
 use Rattle.engine.specs.Reaching.{Reaches}
 use Rattle.storage_thread.specs.Serving.{IsReadSince}
 use Rattle.storage_thread.specs.Keeping.{LeadsKeeping}
+use Rattle.storage_thread.specs.Deadlines.{LeadsAsAsked}
+use Rattle.engine.specs.Deadlines.{StoresAsAsked}
 use Rattle.engine.proofs.ReachingLemmas.{reaches_more, legal_of, counted_more}
 use Rattle.engine.proofs.Refusals.{refused_get}
 use Rattle.storage_thread.proofs.Turns.{read_more}
 use Rattle.storage_thread.proofs.Kept.{KeepsStep, keeps_told, needs_none, refused_told, leads_more}
+use Rattle.storage_thread.proofs.Dated.{stores_told, dated_more}
 use Rattle.storage_thread.proofs.serving.execute.Goals as goal
 
 -- what an entry tells, by the counts before it
@@ -36,10 +39,10 @@ returns-clause-counts g c = let p = c.args.posted in
     } in
     c.count.ensures ∙ ap (λ (z : Counts). counted z e.request e.reply) c.requires.counts
     ∙ sym (counted_more no_counts c.args.end.now.end.history e)
-    ∙ ap (λ (z : StorageView). counts_after no_counts z.history) (sym c.answer_later.ensures.answered)
+    ∙ ap (λ (z : StorageView). counts_after no_counts z.history) (sym c.answer_later-told.ensures.answered)
 
-pub answer_later-requires-clause-legal : goal.answer_later-requires-clause-legal
-answer_later-requires-clause-legal g c = let p = c.args.posted in
+pub answer_later-told-requires-clause-legal : goal.answer_later-told-requires-clause-legal
+answer_later-told-requires-clause-legal g c = let p = c.args.posted in
     let e : Answered = record {
       worker = c.args.worker;
       session = p.session;
@@ -99,7 +102,7 @@ returns-clause-reaches g c = let p = c.args.posted in
     ∙ ap (λ (l : List GivenAnswer). l ++ c.next_moment-moment.ensures.moment.0 ∷ []) c.requires.answers) (search rules) c.requires.next in
     subst (λ (z : StorageView × ℕ). Reaches z.0.terms.geometry z.0.history
     (g.S.StorageEngine.cache c.handle-stored.new.self) z.1)
-    (λ i. (sym c.answer_later.ensures.answered i, sym c.handle-stored.ensures.moment i)) more
+    (λ i. (sym c.answer_later-told.ensures.answered i, sym c.handle-stored.ensures.moment i)) more
 
 pub returns-clause-kept : goal.returns-clause-kept
 returns-clause-kept g c l = let p = c.args.posted in let m = g.S.StorageEngine in
@@ -129,7 +132,35 @@ returns-clause-kept g c l = let p = c.args.posted in let m = g.S.StorageEngine i
     (subst (λ (z : Sizes × Request). KeepsStep z.0 old (record e { request = z.1; reply = c.handle-stored.result }) after
     (m.keeps c.args.store.now) (m.keeps c.handle-stored.new.self)) (λ i. (sizes i, request i)) c.handle-stored.ensures.kept)) in
     subst (λ (z : StorageView). LeadsKeeping z.terms.geometry z.history after (m.keeps c.handle-stored.new.self))
-    (sym c.answer_later.ensures.answered) more
+    (sym c.answer_later-told.ensures.answered) more
+
+pub returns-clause-dated : goal.returns-clause-dated
+returns-clause-dated g c l = let p = c.args.posted in let m = g.S.StorageEngine in
+    let e : Answered = record {
+      worker = c.args.worker;
+      session = p.session;
+      number = p.number;
+      request = c.handle-stored.new.request;
+      moment = c.next_moment-moment.result;
+      clock = c.answers.result;
+      reply = c.reply-reply.result;
+    } in
+    let old = m.cache c.args.store.now in let after = m.cache c.handle-stored.new.self in
+    let sizes : m.sizes c.args.store.now ≡ c.args.end.now.end.terms.geometry = c.requires.sizes in
+    let request : p.request ≡ c.handle-stored.new.request = sym c.handle-stored.ensures.request in
+    let more = dated_more c.args.end.now.end.terms.geometry c.args.end.now.end.history old after e (m.is_exact c.args.store.now)
+    (m.is_exact c.handle-stored.new.self) l (
+      c.handle-stored.result,
+      c.reply-reply.ensures.same,
+      subst (λ (z : Sizes × Request). Step z.0 old e.moment z.1 c.handle-stored.result after)
+          (λ i. (sizes i, request i)) c.handle-stored.ensures.step,
+    )
+    c.handle-stored.ensures.deadlines.0
+    (λ on. stores_told c.args.end.now.end.terms.geometry old e c.handle-stored.result after c.reply-reply.ensures.same
+    (subst (λ (z : Sizes × Request). StoresAsAsked z.0 old e.moment z.1 c.handle-stored.result after)
+    (λ i. (sizes i, request i)) (c.handle-stored.ensures.deadlines.1 on))) in
+    subst (λ (z : StorageView). LeadsAsAsked z.terms.geometry z.history after (m.is_exact c.handle-stored.new.self))
+    (sym c.answer_later-told.ensures.answered) more
 
 pub returns-clause-read : goal.returns-clause-read
 returns-clause-read g c = let p = c.args.posted in
@@ -146,7 +177,7 @@ returns-clause-read g c = let p = c.args.posted in
     c.answers.ensures ∙ c.next_moment-moment.ensures.moment.2
     ∙ ap (λ (l : List GivenAnswer). l ++ c.next_moment-moment.ensures.moment.0 ∷ []) c.requires.answers in
     subst (λ (z : StorageView). IsReadSince z.terms.system_clock (g.C.Clock.start c.next_moment-moment.new.clock.clock) z.history)
-    (sym c.answer_later.ensures.answered)
+    (sym c.answer_later-told.ensures.answered)
     (read_more _ _ _ c.args.end.now.end.history e c.next_moment-moment.ensures.moment.0 by c.requires.read
     c.next_moment-moment.ensures.moment.4 c.next_moment-moment.ensures.moment.5)
 
@@ -161,7 +192,7 @@ returns-clause-refused g c = let p = c.args.posted in let m = g.S.StorageEngine 
       clock = c.answers.result;
       reply = c.reply-reply.result;
     } in
-    subst (λ (z : StorageView). RefusesBy m.may_refuse z.history) (sym c.answer_later.ensures.answered)
+    subst (λ (z : StorageView). RefusesBy m.may_refuse z.history) (sym c.answer_later-told.ensures.answered)
     (refuses_more m.may_refuse c.args.end.now.end.history e c.requires.refused
     (λ is. refused_told e c.handle-stored.result c.reply-reply.ensures.same (refused_get m.may_refuse (m.sizes c.args.store.now)
     (m.cache c.args.store.now) c.next_moment-moment.result p.request c.handle-stored.new.request c.handle-stored.result

@@ -1,32 +1,26 @@
-use Rattle.std.proofs.Common.{◌<◌, All, rules, sym, ap, subst}
-use Rattle.exchange.specs.Ends.{StorageView, StorageBatchView}
-use Rattle.proto.specs.declared.terms.Terms.{Terms}
-use Rattle.proto.specs.History.{Legal, RefusesBy}
-use Rattle.engine.proofs.ReachingLemmas.{legal_of}
-use Rattle.storage_thread.specs.Serving.{IsStorageServing, SaidBye}
-use Rattle.storage_thread.specs.Keeping.{LeadsKeeping, MayAlwaysForgetNothing}
+use Rattle.std.proofs.Common.{◌≡◌, [], rules, ap, subst, ◌∙◌}
+use Rattle.exchange.specs.Ends.{StorageView}
+use Rattle.storage_thread.specs.Sides.{IsLeftBySide}
 use Rattle.storage_thread.proofs.serving.run_storage.Goals as goal
 
 -- all that was taken from the end as it was given was executed
 pub returns : goal.returns
 returns g c =
-    let m = g.S.StorageEngine in let served = c.serve-executed.ensures in
-    let given = ap (λ (batch : StorageBatchView). batch.end) c.batched-end.ensures in
-    let left = sym c.into_end.ensures in
-    let s : IsStorageServing c.args.storage_end c.into_end.result (m.cache c.serve-executed.new.store)
-    (m.moment c.serve-executed.new.store) =
-    subst (λ (z : StorageView × StorageView). IsStorageServing z.0 z.1 (m.cache c.serve-executed.new.store)
-    (m.moment c.serve-executed.new.store)) (λ i. (given i, left i)) served.serving in record {
-      same = s.same;
-      legal = subst (λ (t : Terms). Legal t.geometry c.into_end.result.history) s.same.2 (legal_of _ _ _ _ s.reaches);
-      refused = subst (λ (z : StorageView). RefusesBy m.may_refuse z.history) left served.refused;
-      once_in_order = (s.taken, s.shut);
-      inside = subst (λ n. All (λ e. e.worker < n) c.into_end.result.history) s.same.1 s.known;
-      bye = subst SaidBye left served.bye;
-      leads = search rules;
-      moments = search rules;
-      bounded = λ start. subst (λ (t : Terms). MayAlwaysForgetNothing t.geometry c.into_end.result.history) s.same.2
-          (subst (λ (z : StorageView). LeadsKeeping z.terms.geometry z.history (m.cache c.serve-executed.new.store)
-          (m.keeps c.serve-executed.new.store)) left (served.kept start)).always;
-      executed = search rules;
+    let m = g.S.StorageEngine in let n = g.C.Clock in let same = c.serve.ensures.origin in let made = c.new-side.ensures in
+    let store_is = ap (λ o. o.store.value) same ∙ made.store in
+    let clock_is = ap (λ o. o.clock.value) same ∙ made.clock in
+    let end_is = ap (λ o. o.end.value) same ∙ made.end in
+    let l = subst (λ (z : g.row.S.Denot × g.row.C.Denot × StorageView). IsLeftBySide n.told n.leads_to (m.keeps z.0 []) (m.is_exact z.0)
+    m.may_refuse z.1 z.2 c.into_report.result) (λ j. (store_is j, clock_is j, end_is j)) c.into_report.ensures.left in record {
+      same = l.same;
+      legal = l.legal;
+      refused = l.refused;
+      once_in_order = l.once_in_order;
+      inside = l.inside;
+      bye = c.into_report.ensures.bye c.serve.ensures.done;
+      leads = l.leads;
+      moments = l.moments;
+      bounded = l.bounded;
+      dated = l.dated;
+      executed = l.executed;
     }

@@ -1,0 +1,28 @@
+-- Histories in which each entry has the deadline that was asked for.
+use Rattle.std.specs.Prelude.{◌≡◌, ℕ, ⊤, Bool, true, List, ◌∷◌}
+use Rattle.proto.specs.declared.history.Answered.{Answered}
+use Rattle.proto.specs.Sizes.{Sizes}
+use Rattle.proto.specs.Cache.{Cache, empty_cache}
+use Rattle.proto.specs.History.{Chain}
+use Rattle.engine.specs.Deadlines.{StoresAsAsked}
+use Rattle.engine.specs.Reaching.{last_cache}
+
+-- each entry that is stored is there then as its request asks, with the very deadline
+abbrev pub AlwaysStoresAsAsked : Sizes → Cache → List Answered → List Cache → Type 0
+AlwaysStoresAsAsked sizes before (e ∷ history) (after ∷ caches) =
+    StoresAsAsked sizes before e.moment e.request e.reply after × AlwaysStoresAsAsked sizes after history caches
+AlwaysStoresAsAsked _ _ _ _ = ⊤
+
+-- some chain of the history stores each entry as its request asks
+abbrev pub MayStoreAsAsked : Sizes → List Answered → Type 0
+MayStoreAsAsked sizes history =
+    let start = empty_cache 0 in
+    (caches : List Cache) × Chain sizes start history caches × AlwaysStoresAsAsked sizes start history caches
+
+-- A chain of steps leads through the history to this cache, and stores each entry as its request asks, over a store that goes on so.
+pub record LeadsAsAsked (sizes : Sizes) (history : List Answered) (cache : Cache) (exact : Bool) : Type 0 where
+  pub goes_on : exact ≡ true
+  pub caches : List Cache
+  pub chain : Chain sizes (empty_cache 0) history caches
+  pub cache_is : last_cache (empty_cache 0) caches ≡ cache
+  pub stores : AlwaysStoresAsAsked sizes (empty_cache 0) history caches

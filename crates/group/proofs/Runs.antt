@@ -10,9 +10,10 @@ use Rattle.proto.specs.declared.history.Posted.{Posted}
 use Rattle.proto.specs.declared.history.Answered.{Answered}
 use Rattle.proto.specs.History.{worker_share, asked_posted}
 use Rattle.exchange.specs.declared.opening.Gathered.{Gathered}
-use Rattle.exchange.specs.Ends.{WorkerView, StorageView, AreMade, AreTogether, AreCounted, new_worker_view, new_storage_view}
+use Rattle.exchange.specs.Ends.{ExchangeId, WorkerView, StorageView, AreMade, AreTogether, AreCounted, new_worker_view, new_storage_view}
 use Rattle.exchange.proofs.Lists.{at_below, at_some, starts_trans}
 use Rattle.storage_thread.specs.declared.serving.StorageReport.{StorageReport}
+use Rattle.storage_thread.specs.Sides.{IsLeftBySide}
 use Rattle.worker_port.specs.Ports.{PortTrace}
 use Rattle.worker.specs.declared.run.WorkerReport.{WorkerReport}
 use Rattle.worker.specs.Reports.{IsSessionAnswered}
@@ -93,26 +94,36 @@ module _ {P : Type 0} (told : P → Option PortTrace) (leads_to : P → P → Ty
         spelled = kept.spelled;
       }
 
+  -- the same of an end of the same exchange
+  pub rejoined : (terms : Terms) (s t : StorageView) → t.exchange ≡ s.exchange → (ports : List P)
+      (reports : List (WorkerReport P))
+      → AreJoined told leads_to terms s ports reports → AreJoined told leads_to terms t ports reports
+  rejoined terms s t same ports reports j = record {
+    one_each = j.one_each;
+    each = λ w port report there at. subst (λ (x : ExchangeId). KeepsWorker told leads_to port (new_worker_view x terms w) report)
+        (sym same) (j.each w port report there at);
+  }
+
   -- the report of a storage thread that was given the clock and the end as it was made
-  pub stored : {C : Type 0} (clock_told : C → Option (List ℕ)) (clock_leads : C → C → Type 0) (keeps : Type 0) (may_refuse : Bool)
+  pub stored : {C : Type 0} (clock_told : C → Option (List ℕ)) (clock_leads : C → C → Type 0) (keeps : Type 0) (exact may_refuse : Bool)
       (n : ℕ)
       (g : Terms)
       (ends : List WorkerView) (s : StorageView) → AreMade n g ends s → (ports : List P) → n ≡ length ports
       → (clock c₀ : C) (e₀ : StorageView) (report : StorageReport C) → c₀ ≡ clock → e₀ ≡ s
-      → KeepsStorage clock_told clock_leads keeps may_refuse c₀ e₀ report
-      → IsLeftByStorage clock_told clock_leads keeps may_refuse g ports clock report
-  stored {C} clock_told clock_leads keeps may_refuse n g ends s made ports count clock c₀ e₀ report clock_is end_is kept =
-      let k : KeepsStorage clock_told clock_leads keeps may_refuse clock s report = subst
-      (λ (z : C × StorageView). KeepsStorage clock_told clock_leads keeps may_refuse z.0 z.1 report)
+      → KeepsStorage clock_told clock_leads keeps exact may_refuse c₀ e₀ report
+      → IsLeftByStorage clock_told clock_leads keeps exact may_refuse g ports clock report
+  stored {C} clock_told clock_leads keeps exact may_refuse n g ends s made ports count clock c₀ e₀ report clock_is end_is kept =
+      let k : KeepsStorage clock_told clock_leads keeps exact may_refuse clock s report = subst
+      (λ (z : C × StorageView). KeepsStorage clock_told clock_leads keeps exact may_refuse z.0 z.1 report)
       (λ i. (clock_is i, end_is i)) kept in
-      subst (λ (z : StorageView). KeepsStorage clock_told clock_leads keeps may_refuse clock z report)
+      subst (λ (z : StorageView). KeepsStorage clock_told clock_leads keeps exact may_refuse clock z report)
       (made.2 ∙ (λ i. new_storage_view (sym k.same.0 i) g (count i))) k
 
   pub run : {C : Type 0} (clock_told : C → Option (List ℕ)) (clock_leads : C → C → Type 0) (keeps : Type 0)
-      (may_refuse : Bool) (terms : Terms)
+      (exact may_refuse : Bool) (terms : Terms)
       (ports : List P) (clock : C) (reports : List (WorkerReport P)) (storage : StorageReport C)
       (report : GroupReport P C)
-      → IsLeftByStorage clock_told clock_leads keeps may_refuse terms ports clock storage
+      → IsLeftByStorage clock_told clock_leads keeps exact may_refuse terms ports clock storage
       → AreJoined told leads_to terms storage.storage_end ports reports
       → report.workers.items ≡ workers_of reports → report.clock ≡ storage.clock → report.executed ≡ storage.executed
       → ((i : ℕ) (v : WorkerView) → get_elem? (ends_of reports) i ≡ some v
@@ -120,8 +131,8 @@ module _ {P : Type 0} (told : P → Option PortTrace) (leads_to : P → P → Ty
       (slice_index report.gathered.back v.worker))
       → ((w : ℕ) → storage.storage_end.workers ≤ w
       → (slice_index report.gathered.sent w ≡ 0) × (slice_index report.gathered.back w ≡ 0))
-      → IsRun told leads_to clock_told clock_leads keeps may_refuse terms.geometry ports clock report
-  run {C} clock_told clock_leads keeps may_refuse terms ports clock reports storage report stored joined workers_are clock_is
+      → IsRun told leads_to clock_told clock_leads keeps exact may_refuse terms.geometry ports clock report
+  run {C} clock_told clock_leads keeps exact may_refuse terms ports clock reports storage report stored joined workers_are clock_is
       executed_is counted beyond = record {
         history = storage.storage_end.history;
         made = subst (λ (y : C × ℕ). IsHistoryOf clock_told clock_leads terms.geometry (length ports) clock y.0 y.1
@@ -135,7 +146,21 @@ module _ {P : Type 0} (told : P → Option PortTrace) (leads_to : P → P → Ty
         none_beyond = λ w le. beyond w (subst (λ n. n ≤ w) (sym stored.same.1) le);
         refused = stored.refused;
         bounded = stored.bounded;
+        dated = stored.dated;
       }
+
+-- what a storage side leaves that began with this clock and this end
+pub kept_by_side : {C : Type 0} (told : C → Option (List ℕ)) (leads_to : C → C → Type 0) (keeps : Type 0) (exact may_refuse : Bool)
+    (clock : C) (end : StorageView) (report : StorageReport C) → IsLeftBySide told leads_to keeps exact may_refuse clock end report
+    → KeepsStorage told leads_to keeps exact may_refuse clock end report
+kept_by_side told leads_to keeps exact may_refuse clock end report l = record {
+  same = l.same;
+  none_open = l.once_in_order.1;
+  made = record { legal = l.legal; inside = l.inside; counted = l.executed; moments = l.moments; leads = l.leads };
+  refused = l.refused;
+  bounded = l.bounded;
+  dated = l.dated;
+}
 
 -- the ports are those of the ends, as they were made
 pub ports_at : {P : Type 0} (told : P → Option PortTrace) (n : ℕ) (g : Terms) (d : Dialect) (ports : List P) (ends : List WorkerView)

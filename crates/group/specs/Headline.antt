@@ -1,5 +1,5 @@
 -- The headline: what holds once a group has ended.
-use Rattle.std.specs.Prelude.{◌≡◌, ℕ, ◌^◌, ◌-◌, ◌<◌, ◌≤◌, Bool, List, length, min, All, Option, Some, is_some, slice_index}
+use Rattle.std.specs.Prelude.{◌≡◌, ℕ, ◌^◌, ◌-◌, ◌<◌, ◌≤◌, Bool, true, List, length, min, All, Option, Some, is_some, slice_index}
 use mathlib.Core.Option.{some}
 use lib.ListN.{get_elem?}
 use Rattle.proto.specs.declared.message.Message.{Message}
@@ -10,6 +10,7 @@ use Rattle.proto.specs.Reading.{Reads}
 use Rattle.exchange.specs.declared.opening.Gathered.{Gathered}
 use Rattle.exchange.specs.Beginnings.{StartsWith}
 use Rattle.storage_thread.specs.Keeping.{MayAlwaysForgetNothing}
+use Rattle.storage_thread.specs.Deadlines.{MayStoreAsAsked}
 use Rattle.storage_thread.specs.Serving.{IsTimed}
 use Rattle.session_book.specs.declared.causes.EndCause.{EndCause}
 use Rattle.worker_port.specs.Ports.{PortTrace, fed}
@@ -48,10 +49,11 @@ pub record IsWorkerOf {P : Type 0} (told : P → Option PortTrace) (leads_to : P
   pub given_by : (trace : PortTrace) → told worker.port ≡ Some trace → StartsWith history trace.history
 
 -- The headline: there is a history that was made. Each port's worker was answered in it, and no other worker was. It refuses memory
--- as the store may. For a store that keeps, each beginning of it may forget nothing, if it stores little and sets no deadline.
+-- as the store may. For a store that keeps, each beginning of it may forget nothing, if it stores little and sets no deadline. For
+-- one that is exact, each entry may have the very deadline that was asked for.
 pub record IsRun {P C : Type 0} (told : P → Option PortTrace) (leads_to : P → P → Type 0)
-    (clock_told : C → Option (List ℕ)) (clock_leads : C → C → Type 0) (keeps : Type 0) (may_refuse : Bool) (sizes : Sizes)
-    (ports : List P) (clock : C) (report : GroupReport P C) : Type 0 where
+    (clock_told : C → Option (List ℕ)) (clock_leads : C → C → Type 0) (keeps : Type 0) (exact may_refuse : Bool)
+    (sizes : Sizes) (ports : List P) (clock : C) (report : GroupReport P C) : Type 0 where
   pub history : List Answered
   pub made : IsHistoryOf clock_told clock_leads sizes (length ports) clock report.clock report.executed history
   pub one_each : length report.workers.items ≡ length ports
@@ -61,3 +63,4 @@ pub record IsRun {P C : Type 0} (told : P → Option PortTrace) (leads_to : P �
       → (slice_index report.gathered.sent w ≡ 0) × (slice_index report.gathered.back w ≡ 0)
   pub refused : RefusesBy may_refuse history
   pub bounded : keeps → MayAlwaysForgetNothing sizes history
+  pub dated : exact ≡ true → MayStoreAsAsked sizes history

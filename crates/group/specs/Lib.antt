@@ -1,2 +1,3 @@
 pub mod Threads
 pub mod Headline
+pub mod Precedence

@@ -10,6 +10,7 @@ use Rattle.proto.specs.Sizes.{Sizes}
 use Rattle.proto.specs.History.{RefusesBy}
 use Rattle.exchange.specs.Ends.{ExchangeId, WorkerView, StorageView, new_worker_view, new_storage_view}
 use Rattle.storage_thread.specs.Keeping.{MayAlwaysForgetNothing}
+use Rattle.storage_thread.specs.Deadlines.{MayStoreAsAsked}
 use Rattle.storage_thread.specs.Serving.{IsSameExchange}
 use Rattle.storage_thread.specs.declared.serving.StorageReport.{StorageReport}
 use Rattle.worker_port.specs.Ports.{PortTrace}
@@ -35,15 +36,16 @@ pub record KeepsWorker {P : Type 0} (told : P → Option PortTrace) (leads_to : 
       → trace.dialect ≡ first.dialect
 
 -- what the storage thread leaves of the clock and the end that it was given, over a store that keeps what it stores where
--- `keeps` says so, and may be refused memory for it where `may_refuse` does
+-- `keeps` says so, deadlines to the second where `exact` does, and may be refused memory for an item where `may_refuse` does
 pub record KeepsStorage {C : Type 0} (told : C → Option (List ℕ)) (leads_to : C → C → Type 0) (keeps : Type 0)
-    (may_refuse : Bool) (clock : C) (end : StorageView) (report : StorageReport C) : Type 0 where
+    (exact may_refuse : Bool) (clock : C) (end : StorageView) (report : StorageReport C) : Type 0 where
   pub same : IsSameExchange end report.storage_end
   pub none_open : report.storage_end.open_request ≡ None
   pub made : IsHistoryOf told leads_to end.terms.geometry end.workers clock report.clock report.executed
       report.storage_end.history
   pub refused : RefusesBy may_refuse report.storage_end.history
   pub bounded : keeps → MayAlwaysForgetNothing end.terms.geometry report.storage_end.history
+  pub dated : exact ≡ true → MayStoreAsAsked end.terms.geometry report.storage_end.history
 
 -- what a thread leaves that waited for the start `id`: it ran if it was told to begin, and what it left is kept
 pub record IsFinished {T : Type 0} (id : ℕ) (keeps : T → Type 0) (finished : Finished T) : Type 0 where
@@ -99,7 +101,7 @@ pub record AreJoined {P : Type 0} (told : P → Option PortTrace) (leads_to : P 
       → KeepsWorker told leads_to port (new_worker_view storage.exchange terms w) report
 
 -- what the storage thread left, which was given this clock and its end of the exchange that was made for these ports
-abbrev pub IsLeftByStorage : {P C : Type 0} → (C → Option (List ℕ)) → (C → C → Type 0) → Type 0 → Bool → Terms → List P → C
+abbrev pub IsLeftByStorage : {P C : Type 0} → (C → Option (List ℕ)) → (C → C → Type 0) → Type 0 → Bool → Bool → Terms → List P → C
     → StorageReport C → Type 0
-IsLeftByStorage told leads_to keeps may_refuse terms ports clock report =
-    KeepsStorage told leads_to keeps may_refuse clock (new_storage_view report.storage_end.exchange terms (length ports)) report
+IsLeftByStorage told leads_to keeps exact may_refuse terms ports clock report =
+    KeepsStorage told leads_to keeps exact may_refuse clock (new_storage_view report.storage_end.exchange terms (length ports)) report

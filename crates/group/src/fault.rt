@@ -14,6 +14,10 @@ pub enum GroupFault {
     /// A thread couldn't be started. Those that were started have ended.
     #[error("cannot start a thread")]
     NoThread,
+    /// The lock that was made for the note of what the group began with had one. No run comes to
+    /// it.
+    #[error("a new lock had a value")]
+    NotNew,
 }
 
 impl From<AllocError> for GroupFault {

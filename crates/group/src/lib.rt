@@ -3,7 +3,9 @@
 #![tactic(auto)]
 
 mod context;
+mod executing;
 mod fault;
+pub mod laws;
 mod report;
 mod run;
 mod start;

@@ -1,18 +1,20 @@
 //! What a group is given, and what it leaves.
 
 use exchange::{Gathered, SentList};
-use proto::{Dialect, Terms};
+use proto::{Dialect, Storage, Terms};
 use worker::SessionList;
 
 /// What a group runs for.
 #[derive(Clone, Copy)]
 pub struct Config {
-    /// The sizes of the store that the storage thread owns, and whether its clock is the system's.
+    /// The sizes of the store, and whether its clock is the system's.
     pub terms: Terms,
     /// How lines are written that sessions send.
     pub dialect: Dialect,
     /// How many microseconds each thread looks for work before it sleeps. With None each uses its own small number of turns.
     pub spin: Option<u32>,
+    /// Which threads execute requests.
+    pub storage: Storage,
 }
 
 /// What a group leaves of one worker.

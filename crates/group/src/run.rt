@@ -5,19 +5,26 @@ ghost use Rattle.proto.specs.Cache.{empty_cache};
 ghost use Rattle.exchange.specs.Ends.{AreMade, AreTogether, IsCount};
 ghost use Rattle.group.specs.Threads.{ArePortsOf, AreJoined, IsLeftByStorage, StartsEmpty, ends_of, workers_of};
 ghost use Rattle.group.specs.Headline.{IsRun};
+ghost use Rattle.storage_thread.specs.Sides.{IsSameOrigin};
 
 use crate::context::{GroupContext, Runtime};
+use crate::executing::{StorageExecutor, note_unheld};
 use crate::fault::GroupFault;
 use crate::report::{Config, GroupReport, GroupWorker};
 use crate::start::announce_start;
-use crate::threads::{StorageHandle, WorkerHandle, join_workers, start_storage, start_workers};
+use crate::threads::{WorkerHandle, join_workers, start_storage, start_workers};
 use engine::{Clock, StorageEngine};
-use exchange::{Exchange, StorageSignals, WorkerEnd, gather};
+use exchange::{Exchange, StorageEnd, StorageSignals, WorkerEnd, gather};
+use proto::Storage;
 use std::alloc::{AllocError, Global};
-use std::sync::OnceLock;
+use std::marker::Brand;
+use std::snapshot::Snapshot;
+use std::sync::{OnceLock, OnceToken};
 use std::thread::{self, Scope};
-use storage_thread::StorageReport;
-use worker::{Gate, WorkerReport};
+use storage_thread::{
+    LockId, Origin, Serve, SharedSide, SharedStorage, StorageReport, StorageSide,
+};
+use worker::{Executor, Gate, WorkerReport};
 use worker_port::Port;
 
 /// Splits the reports into what the group says of each worker, and the ends. The lists have room for them.
@@ -54,9 +61,10 @@ fn gather_report<P: Port, E: StorageEngine, C: Clock>(
     requires ends { (ends.items ≡ []) × (vec_len reports ≤ vec_capacity ends) }
     requires together { AreTogether (ends_of reports.items) storage.storage_end }
     ensures { (store : E) (terms : Terms) (ports : List P) (clock : C)
-        → IsLeftByStorage C.told C.leads_to (E.keeps store []) E.may_refuse terms ports clock storage
+        → IsLeftByStorage C.told C.leads_to (E.keeps store []) (E.is_exact store) E.may_refuse terms ports clock storage
         → AreJoined P.told P.leads_to terms storage.storage_end ports reports.items
-        → IsRun P.told P.leads_to C.told C.leads_to (E.keeps store []) E.may_refuse terms.geometry ports clock result }
+        → IsRun P.told P.leads_to C.told C.leads_to (E.keeps store []) (E.is_exact store) E.may_refuse terms.geometry ports
+        clock result }
 {
     let (workers, ends) = split_reports(reports, workers, ends);
     GroupReport {
@@ -67,100 +75,157 @@ fn gather_report<P: Port, E: StorageEngine, C: Clock>(
     }
 }
 
-/// Lists with room for all workers, which joining and gathering fill.
+/// Lists with room for all workers, which joining fills.
 #[derive(Drop)]
 struct Room<'s, P: Port> {
     handles: Vec<WorkerHandle<'s, P>>,
     reports: Vec<WorkerReport<P>>,
-    workers: Vec<GroupWorker<P>>,
-    ends: Vec<WorkerEnd>,
 }
 
 /// Empty lists with room for this many workers.
 fn room_for<'s, P: Port>(alloc: Global, count: usize) -> Result<Room<'s, P>, AllocError>
     ensures handles { IfOk result (λ r. (r.handles.items ≡ []) × (count ≤ vec_capacity r.handles)) }
     ensures reports { IfOk result (λ r. (r.reports.items ≡ []) × (count ≤ vec_capacity r.reports)) }
-    ensures workers { IfOk result (λ r. (r.workers.items ≡ []) × (count ≤ vec_capacity r.workers)) }
-    ensures ends { IfOk result (λ r. (r.ends.items ≡ []) × (count ≤ vec_capacity r.ends)) }
 {
     Ok(Room {
         handles: Vec::with_capacity(alloc, count)?,
         reports: Vec::with_capacity(alloc, count)?,
-        workers: Vec::with_capacity(alloc, count)?,
-        ends: Vec::with_capacity(alloc, count)?,
     })
 }
 
-/// Starts a thread for each port, has all threads begin, and joins them. The storage thread was started, with its end of the
-/// exchange that the other ends are of.
-fn run_started<'s, P: Port + Send + 's, E: StorageEngine, C: Clock>(
+/// Starts a thread for each port, has all threads begin, and joins those of the workers. The ends were made with this storage's end.
+fn run_workers<'s, P: Port + Send + 's>(
     rt: &'s impl Runtime,
     scope: &'s Scope<'s, &()>,
     context: &'s GroupContext<'s, impl Gate + Sync>,
+    executor: &'s (impl Executor + Sync),
     ports: Vec<P>,
     ends: Vec<WorkerEnd>,
-    storage: StorageHandle<'s, E, C>,
+    end: Snapshot<StorageEnd>,
     room: Room<'s, P>,
-) -> Result<GroupReport<P, C>, GroupFault>
-    requires ports { ArePortsOf P.told storage.promise.end.value.exchange storage.promise.end.value.terms
-        context.now.config.dialect ports.items }
-    requires made { AreMade (vec_len ports) storage.promise.end.value.terms ends.items storage.promise.end.value }
-    requires start { storage.promise.start.now.id ≡ context.now.start.now.id }
+) -> Result<Vec<WorkerReport<P>>, GroupFault>
+    requires ports { ArePortsOf P.told end.value.exchange end.value.terms context.now.config.dialect ports.items }
+    requires made { AreMade (vec_len ports) end.value.terms ends.items end.value }
     requires handles { (room.handles.items ≡ []) × (vec_len ports ≤ vec_capacity room.handles) }
     requires reports { (room.reports.items ≡ []) × (vec_len ports ≤ vec_capacity room.reports) }
-    requires workers { (room.workers.items ≡ []) × (vec_len ports ≤ vec_capacity room.workers) }
-    requires gathered { (room.ends.items ≡ []) × (vec_len ports ≤ vec_capacity room.ends) }
-    ensures run { IfOk result (λ report. IsRun P.told P.leads_to C.told C.leads_to
-        (E.keeps storage.entry.promise.store.value []) E.may_refuse storage.entry.promise.end.value.terms.geometry
-        ports.items storage.entry.promise.clock.value report) }
+    ensures joined { IfOk result (λ reports. AreJoined P.told P.leads_to end.value.terms end.value ports.items
+        reports.items) }
 {
-    let Room {
-        handles,
-        reports,
-        workers,
-        ends: gathered,
-    } = room;
-    let started = start_workers(rt, scope, context, ports, ends, handles);
+    let Room { handles, reports } = room;
+    let started = start_workers(rt, scope, context, executor, ports, ends, handles);
     // The threads that were started are told not to begin if one wasn't.
     let told = announce_start(rt, context.start, started.is_ok());
     let handles = started?;
     if !*context.start.value(&told) {
         return Err(GroupFault::NoThread);
     }
-    let left = join_workers(rt, &told, handles, reports);
-    let stored = storage.join(rt);
-    stored.told.agrees(&told);
-    Ok(gather_report::<P, E, C>(left, stored.ran.unwrap(), workers, gathered))
+    Ok(join_workers(rt, &told, handles, reports))
 }
 
-/// Makes all room that joining needs, starts the threads, and joins them.
-fn run_in<'s, P: Port + Send + 's, E: StorageEngine + Drop + Send + 's, C: Clock + Send + 's>(
+/// Makes all room that joining needs, starts the storage thread, and runs the workers.
+fn run_in<'s, P: Port + Send + 's, T: Serve + Send + 's>(
     rt: &'s impl Runtime,
     scope: &'s Scope<'s, &()>,
     context: &'s GroupContext<'s, impl Gate + Sync>,
+    executor: &'s (impl Executor + Sync),
+    shared: &'s SharedStorage<T>,
     ports: Vec<P>,
-    exchange: Exchange,
-    store: E,
-    clock: C,
-) -> Result<GroupReport<P, C>, GroupFault>
-    requires ports { ArePortsOf P.told exchange.id context.now.config.terms context.now.config.dialect ports.items }
-    requires made { (exchange.workers ≡ vec_len ports) × (exchange.terms ≡ context.now.config.terms) }
-    requires store { StartsEmpty E.cache E.moment E.sizes E.may_refuse C.told C.start context.now.config.terms
-        store clock }
-    requires count { IsCount (vec_len ports) }
-    ensures run { IfOk result (λ report. IsRun P.told P.leads_to C.told C.leads_to (E.keeps store []) E.may_refuse
-        (E.sizes store) ports.items clock report) }
+    ends: Vec<WorkerEnd>,
+    end: Snapshot<StorageEnd>,
+) -> Result<Vec<WorkerReport<P>>, GroupFault>
+    requires ports { ArePortsOf P.told end.value.exchange end.value.terms context.now.config.dialect ports.items }
+    requires made { AreMade (vec_len ports) end.value.terms ends.items end.value }
+    ensures joined { IfOk result (λ reports. AreJoined P.told P.leads_to end.value.terms end.value ports.items
+        reports.items) }
 {
-    let count = ports.len();
-    let (ends, storage_end) = exchange.into_ends();
-    let room = room_for(context.alloc, count)?;
-    let storage = start_storage(rt, scope, context, store, clock, storage_end)?;
-    run_started(rt, scope, context, ports, ends, storage, room)
+    let room = room_for(context.alloc, ports.len())?;
+    start_storage(rt, scope, context, shared)?;
+    run_workers(rt, scope, context, executor, ports, ends, end, room)
 }
 
-/// Runs a worker for each port, and one storage thread over the store, each in a thread of its own, until all ports
-/// have ended and all was answered and given. The store is new, the configuration has its sizes, and the exchange was made for as
-/// many workers, by the same terms.
+/// Runs a group whose storage side began with what stands in the lock of this id.
+fn run_named<
+    P: Port + Send,
+    E: StorageEngine + Drop + Send,
+    C: Clock + Send,
+    G: Gate + Sync,
+    R: Runtime,
+    J: LockId + Send + Sync,
+>(
+    rt: &R,
+    alloc: Global,
+    ports: Vec<P>,
+    ends: Vec<WorkerEnd>,
+    end: Snapshot<StorageEnd>,
+    side: StorageSide<E, C>,
+    origin: &OnceToken<'_, Origin<E, C>>,
+    config: Config,
+    gate: &G,
+    signals: &StorageSignals,
+) -> Result<GroupReport<P, C>, GroupFault>
+    requires id { origin.now.of ≡ J.id }
+    requires origin { IsSameOrigin side.origin origin.now.value }
+    requires end { end.value ≡ origin.now.value.end.value }
+    requires told { side.end.told ≡ side.end.end.history }
+    requires ports { ArePortsOf P.told end.value.exchange end.value.terms config.dialect ports.items }
+    requires made { AreMade (vec_len ports) end.value.terms ends.items end.value }
+    ensures run { IfOk result (λ report. IsRun P.told P.leads_to C.told C.leads_to
+        (E.keeps origin.now.value.store.value []) (E.is_exact origin.now.value.store.value) E.may_refuse
+        end.value.terms.geometry ports.items origin.now.value.clock.value report) }
+{
+    let workers = Vec::with_capacity(alloc, ports.len())?;
+    let gathered = Vec::with_capacity(alloc, ports.len())?;
+    let start = OnceLock::new();
+    let group = GroupContext {
+        alloc,
+        start: &start,
+        config,
+        gate,
+        signals,
+    };
+    let shared = SharedStorage::new(SharedSide::<E, C, J>::new(side, origin.again()));
+    let executor = StorageExecutor {
+        rt,
+        shared: &shared,
+        signals,
+        serves: matches!(config.storage, Storage::Workers),
+    };
+    let reports = run_threads(rt, &group, &executor, &shared, ports, ends, end)?;
+    let storage = shared.into_inner().into_report(origin);
+    Ok(gather_report::<P, E, C>(reports, storage, workers, gathered))
+}
+
+/// Runs all threads of a group in a scope of their own.
+fn run_threads<P: Port + Send, T: Serve + Send, X: Executor + Sync, G: Gate + Sync, R: Runtime>(
+    rt: &R,
+    context: &GroupContext<'_, G>,
+    executor: &X,
+    shared: &SharedStorage<T>,
+    ports: Vec<P>,
+    ends: Vec<WorkerEnd>,
+    end: Snapshot<StorageEnd>,
+) -> Result<Vec<WorkerReport<P>>, GroupFault>
+    requires ports { ArePortsOf P.told end.value.exchange end.value.terms context.now.config.dialect ports.items }
+    requires made { AreMade (vec_len ports) end.value.terms ends.items end.value }
+    ensures joined { IfOk result (λ reports. AreJoined P.told P.leads_to end.value.terms end.value ports.items
+        reports.items) }
+{
+    thread::scope(
+        thread::scope_env(),
+        rt,
+        move |scope| -> Result<Vec<WorkerReport<P>>, GroupFault>
+            requires ports { ArePortsOf P.told end.value.exchange end.value.terms context.now.config.dialect ports.items }
+            requires made { AreMade (vec_len ports) end.value.terms ends.items end.value }
+            ensures joined { IfOk result (λ reports. AreJoined P.told P.leads_to end.value.terms end.value ports.items
+                reports.items) }
+        { run_in(rt, scope, context, executor, shared, ports, ends, end) },
+    )
+}
+
+/// Runs a worker for each port and a storage thread, each in a thread of its own, until all ports
+/// have ended and all was answered and given. Requests are executed over the store by the threads
+/// that the configuration names. The store is new, the configuration has its sizes, and the
+/// exchange was made for as many workers, by the same terms.
 ///
 /// # Errors
 ///
@@ -184,32 +249,20 @@ pub fn run_group<P: Port + Send, E: StorageEngine + Drop + Send, C: Clock + Send
     requires refuses { config.terms.may_refuse ≡ false → E.may_refuse ≡ false }
     requires system_clock { config.terms.system_clock ≡ true → IsSome (C.start clock) }
     requires unasked { IsSome (C.start clock) → C.told clock ≡ Some [] }
-    ensures run { IfOk result (λ report. IsRun P.told P.leads_to C.told C.leads_to (E.keeps store []) E.may_refuse
-        (E.sizes store) ports.items clock report) }
+    ensures run { IfOk result (λ report. IsRun P.told P.leads_to C.told C.leads_to (E.keeps store []) (E.is_exact store)
+        E.may_refuse (E.sizes store) ports.items clock report) }
 {
-    let start = OnceLock::new();
-    let workers = exchange.workers();
-    let signals = StorageSignals::new(alloc, store.key_hasher(), workers, config.spin)?;
-    let group = GroupContext {
-        alloc,
-        start: &start,
-        config,
-        gate,
-        signals: &signals,
+    let signals = StorageSignals::new(alloc, store.key_hasher(), exchange.workers(), config.spin)?;
+    let (ends, storage_end) = exchange.into_ends();
+    let end = Snapshot::of(&storage_end);
+    let lock = OnceLock::new();
+    // The lock is new, and no other thread knows it.
+    let Ok(origin) = lock.try_set(Origin::of(&store, &clock, &storage_end)) else {
+        return Err(GroupFault::NotNew);
     };
-    let context = &group;
-    thread::scope(
-        thread::scope_env(),
-        rt,
-        move |scope| -> Result<GroupReport<P, C>, GroupFault>
-            requires count { IsCount (vec_len ports) }
-            requires ports { ArePortsOf P.told exchange.id context.now.config.terms context.now.config.dialect
-                ports.items }
-            requires made { (exchange.workers ≡ vec_len ports) × (exchange.terms ≡ context.now.config.terms) }
-            requires store { StartsEmpty E.cache E.moment E.sizes E.may_refuse C.told C.start context.now.config.terms
-                store clock }
-            ensures run { IfOk result (λ report. IsRun P.told P.leads_to C.told C.leads_to (E.keeps store [])
-                E.may_refuse (E.sizes store) ports.items clock report) }
-        { run_in(rt, scope, context, ports, exchange, store, clock) },
+    let side = StorageSide::new(rt, store, clock, storage_end);
+    note_unheld(&signals, config.storage);
+    run_named::<P, E, C, _, _, Brand>(
+        rt, alloc, ports, ends, end, side, &origin, config, gate, &signals,
     )
 }

@@ -2,25 +2,23 @@
 ghost use Rattle.std.specs.Prelude.{◌≡◌, ℕ, ◌<◌, ◌≤◌, [], true, None, All, IfOk, IfErr, map, length, vec_len};
 ghost use Rattle.std.specs.Prelude.{vec_capacity, ◌+◌, ◌∷◌};
 ghost use Rattle.worker.specs.declared.run.WorkerReport.{WorkerReport};
-ghost use Rattle.storage_thread.specs.Serving.{IsUnused};
 ghost use Rattle.exchange.specs.Ends.{WorkerView};
 ghost use Rattle.group.specs.declared.fault.GroupFault.TheVariants.{NoThread};
 ghost use Rattle.worker.specs.Starts.{IsPortAt, HasSentNothing};
-ghost use Rattle.group.specs.Threads.{IsFinished, StartsEmpty};
-ghost use Rattle.group.specs.Threads.{KeepsWorker, KeepsStorage, AreEach};
+ghost use Rattle.group.specs.Threads.{IsFinished, KeepsWorker, AreEach};
 
 use crate::context::{GroupContext, Runtime};
 use crate::fault::GroupFault;
 use crate::start::{Finished, wait_for_start};
-use engine::{Clock, StorageEngine};
-use exchange::{StorageEnd, WorkerEnd};
+use exchange::WorkerEnd;
 use os::set_thread_name;
+use proto::Storage;
 use std::snapshot::Snapshot;
 use std::sync::{OnceLock, OnceToken, Wait};
-use std::thread::{Promise, PromisedHandle, Scope, Threads};
+use std::thread::{JoinHandle, Promise, PromisedHandle, Scope, Threads};
 use std::{time, vec};
-use storage_thread::{StorageReport, run_storage};
-use worker::{Gate, WorkerReport, run_worker};
+use storage_thread::{Serve, SharedStorage};
+use worker::{Executor, Gate, WorkerReport, run_worker};
 use worker_port::Port;
 
 /// What a worker's thread promises: what it leaves of the port and the end that it was given, if it was told to begin.
@@ -37,30 +35,7 @@ impl<'a, P: Port> Promise<Finished<'a, WorkerReport<P>>> for WorkerPromise<'a, P
     ghost kept_by = { λ p r. IsFinished p.start.now.id (KeepsWorker P.told P.leads_to p.port.value p.end.value) r };
 }
 
-/// What the storage thread promises: what it leaves of the clock and the end that it was given, if it was told to begin.
-#[derive(Drop)]
-pub struct StoragePromise<'a, E, C> {
-    pub start: &'a OnceLock<bool>,
-    pub store: Snapshot<E>,
-    pub clock: Snapshot<C>,
-    pub end: Snapshot<StorageEnd>,
-}
-
-impl<'a, E: StorageEngine, C: Clock> Promise<Finished<'a, StorageReport<C>>>
-    for StoragePromise<'a, E, C> {
-    ghost use Rattle.std.specs.Prelude.{[]};
-    ghost use Rattle.group.specs.Threads.{IsFinished, KeepsStorage};
-
-    ghost kept_by = { λ p r. IsFinished p.start.now.id (KeepsStorage C.told C.leads_to (E.keeps p.store.value []) E.may_refuse
-        p.clock.value p.end.value) r };
-}
-
 pub type WorkerHandle<'a, P> = PromisedHandle<Finished<'a, WorkerReport<P>>, WorkerPromise<'a, P>>;
-
-pub type StorageHandle<'a, E, C> = PromisedHandle<
-    Finished<'a, StorageReport<C>>,
-    StoragePromise<'a, E, C>,
->;
 
 /// The name of a worker's thread, as the system's tools show it: `worker 0` to `worker 7`.
 fn thread_name(worker: usize) -> [u8; 8]
@@ -72,9 +47,10 @@ fn thread_name(worker: usize) -> [u8; 8]
 }
 
 /// Names the thread, and runs a worker in it once it is told to begin.
-fn worker_thread<'a, P: Port, G: Gate, R: Wait + time::Clock>(
+fn worker_thread<'a, P: Port, G: Gate, X: Executor, R: Wait + time::Clock>(
     rt: &R,
     context: &GroupContext<'a, G>,
+    executor: &X,
     port: P,
     end: WorkerEnd,
 ) -> Finished<'a, WorkerReport<P>>
@@ -90,30 +66,34 @@ fn worker_thread<'a, P: Port, G: Gate, R: Wait + time::Clock>(
     if !*context.start.value(&told) {
         return Finished { told, ran: None };
     }
-    let ran = Some(run_worker(rt, context.alloc, port, end, dialect, gate, signals));
+    let ran = Some(run_worker(
+        rt,
+        context.alloc,
+        port,
+        end,
+        dialect,
+        gate,
+        executor,
+        signals,
+    ));
     Finished { told, ran }
 }
 
-/// Names the thread, and runs the storage loop in it once it is told to begin.
-fn run_storage_thread<'a, E: StorageEngine + Drop, C: Clock, G, R: Wait + time::Clock>(
+/// Names the thread, and serves in it once it is told to begin.
+fn run_storage_thread<'a, T: Serve, G, R: Wait + time::Clock>(
     rt: &R,
     context: &GroupContext<'a, G>,
-    store: E,
-    clock: C,
-    end: StorageEnd,
-) -> Finished<'a, StorageReport<C>>
-    requires store { StartsEmpty E.cache E.moment E.sizes E.may_refuse C.told C.start end.terms store clock }
-    requires unused { IsUnused end }
-    ensures { IsFinished context.now.start.now.id
-        (KeepsStorage C.told C.leads_to (E.keeps store []) E.may_refuse clock end) result }
-{
+    shared: &SharedStorage<T>,
+) {
     let _ = set_thread_name(b"storage");
     let told = wait_for_start(rt, context.start);
     if !*context.start.value(&told) {
-        return Finished { told, ran: None };
+        return;
     }
-    let ran = Some(run_storage(rt, store, clock, end, context.signals));
-    Finished { told, ran }
+    match context.config.storage {
+        Storage::Thread => shared.serve_to_end(rt, context.signals),
+        Storage::Workers => shared.serve_beside(rt, context.signals),
+    }
 }
 
 /// Starts the storage thread.
@@ -121,32 +101,16 @@ fn run_storage_thread<'a, E: StorageEngine + Drop, C: Clock, G, R: Wait + time::
 /// # Errors
 ///
 /// NoThread if the system starts no thread.
-pub fn start_storage<'s, E: StorageEngine + Drop + Send + 's, C: Clock + Send + 's>(
+pub fn start_storage<'s, T: Serve + Send + 's>(
     rt: &'s impl Runtime,
     scope: &'s Scope<'s, &()>,
     context: &'s GroupContext<'s, impl Sync>,
-    store: E,
-    clock: C,
-    end: StorageEnd,
-) -> Result<StorageHandle<'s, E, C>, GroupFault>
-    requires store { StartsEmpty E.cache E.moment E.sizes E.may_refuse C.told C.start end.terms store clock }
-    requires unused { IsUnused end }
+    shared: &'s SharedStorage<T>,
+) -> Result<JoinHandle<()>, GroupFault>
     ensures fault { IfErr result (λ fault. fault ≡ NoThread) }
-    ensures start { IfOk result (λ h. h.promise.start.now.id ≡ context.now.start.now.id) }
-    ensures given { IfOk result (λ h. (h.promise.store.value ≡ store) × (h.promise.clock.value ≡ clock)
-        × (h.promise.end.value ≡ end)) }
 {
-    let promise = StoragePromise {
-        start: context.start,
-        store: Snapshot::of(&store),
-        clock: Snapshot::of(&clock),
-        end: Snapshot::of(&end),
-    };
     scope
-        .spawn_with(
-            promise,
-            move || run_storage_thread(rt, context, store, clock, end),
-        )
+        .spawn(move || run_storage_thread(rt, context, shared))
         .map_err(|_| GroupFault::NoThread)
 }
 
@@ -155,6 +119,7 @@ fn start_worker<'s, P: Port + Send + 's>(
     rt: &'s impl Runtime,
     scope: &'s Scope<'s, &()>,
     context: &'s GroupContext<'s, impl Gate + Sync>,
+    executor: &'s (impl Executor + Sync),
     port: P,
     end: WorkerEnd,
 ) -> Result<WorkerHandle<'s, P>, GroupFault>
@@ -170,7 +135,10 @@ fn start_worker<'s, P: Port + Send + 's>(
         end: Snapshot::of(&end),
     };
     scope
-        .spawn_with(promise, move || worker_thread(rt, context, port, end))
+        .spawn_with(
+            promise,
+            move || worker_thread(rt, context, executor, port, end),
+        )
         .map_err(|_| GroupFault::NoThread)
 }
 
@@ -195,6 +163,7 @@ pub fn start_workers<'s, P: Port + Send + 's>(
     rt: &'s impl Runtime,
     scope: &'s Scope<'s, &()>,
     context: &'s GroupContext<'s, impl Gate + Sync>,
+    executor: &'s (impl Executor + Sync),
     ports: Vec<P>,
     ends: Vec<WorkerEnd>,
     mut handles: Vec<WorkerHandle<'s, P>>,
@@ -211,7 +180,7 @@ pub fn start_workers<'s, P: Port + Send + 's>(
     let mut ports = ports.into_iter();
     for end in ends {
         let port = next_port(&mut ports);
-        let handle = start_worker(rt, scope, context, port, end)?;
+        let handle = start_worker(rt, scope, context, executor, port, end)?;
         handles.push_reserved(handle);
     }
     Ok(handles)

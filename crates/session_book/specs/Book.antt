@@ -17,7 +17,8 @@ use Rattle.session_book.specs.declared.causes.Received.TheVariants as received
 use Rattle.session_book.specs.declared.causes.Settled.{Settled}
 use Rattle.session_book.specs.declared.causes.Settled.TheVariants as outcomes
 use Rattle.proto.specs.declared.limits.TheConstants.{WINDOW}
-use Rattle.proto.specs.declared.limits.TheConstants.{MAX_SESSIONS, MAX_POSTS}
+use Rattle.proto.specs.declared.limits.TheConstants.{MAX_POSTS}
+use Rattle.proto.specs.Sessions.{most_sessions}
 use Rattle.session_book.specs.declared.book.TheConstants.{MAX_OUTPUT}
 use Rattle.session_book.specs.Session.{SessionState, begins_asked, TakesPiece, IsInputFull, held_fed, ReadsUpTo, IsReady, Stops, with_reply, IsEmptied}
 
@@ -100,7 +101,7 @@ FeedsHeldOf before session (Err e) after = IsSome (session_of before session) ×
 
 -- a session can't be opened with this number, or none can
 abbrev pub IsKnown : BookState → ℕ → Type 0
-IsKnown book session = (session ≤ book.greatest) ⊎ (MAX_SESSIONS ≤ book.opened)
+IsKnown book session = (session ≤ book.greatest) ⊎ (most_sessions book.dialect ≤ book.opened)
 
 -- the request with its number, where one is given
 abbrev pub given_in : Result (Option (Request × ℕ)) NoMemory → List (Request × ℕ)

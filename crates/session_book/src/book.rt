@@ -20,7 +20,7 @@ use crate::session::{MAX_WAITING, Offer, Session};
 use crate::upkeep::Upkeep;
 use bytes::Bytes;
 use indexmap::IndexMap;
-use proto::{Answered, Dialect, Gauge, Gauges, MAX_POSTS, MAX_SESSIONS, NoMemory, Request, WINDOW};
+use proto::{Answered, Dialect, Gauge, Gauges, MAX_POSTS, NoMemory, Request, WINDOW};
 use std::alloc::Global;
 use std::collections::VecDeque;
 use std::marker::Model;
@@ -105,7 +105,7 @@ impl Book {
             ≡ record self.old { sessions = self.new.sessions; greatest = session; opened = self.old.opened + 1 }) }
         ensures err { OnErr result (self.new ≡ self.old) }
     {
-        if session <= self.greatest || self.opened >= MAX_SESSIONS {
+        if session <= self.greatest || self.opened >= self.dialect.most_sessions() {
             return Err(OpenFault::Known);
         }
         if self.upkeep.ready.reserve(self.sessions.len() + 1).is_err() {

@@ -2,7 +2,9 @@
 
 ghost use Rattle.std.specs.Prelude.{◌≡◌, ◌≤◌, ◌+◌, ◌*◌, length};
 ghost use Rattle.proto.specs.declared.hits.Hit.{Hit};
-ghost use Rattle.proto.specs.declared.limits.TheConstants.{WINDOW, MAX_ANSWER, MAX_KEPT, MAX_SESSIONS, MAX_POSTS};
+ghost use Rattle.proto.specs.declared.limits.TheConstants.{WINDOW, MAX_ANSWER, MAX_KEPT, MAX_POSTS};
+ghost use Rattle.proto.specs.declared.dialect.Dialect.TheVariants.{Strict, Lenient};
+ghost use Rattle.proto.specs.Sessions.{most_sessions};
 ghost use Rattle.proto.specs.Hits.{hit_room};
 ghost use Rattle.session_book.specs.declared.session.TheConstants.{MAX_UNREAD, MAX_WAITING};
 ghost use Rattle.session_book.specs.declared.load.TheConstants.{MAX_KEYS};
@@ -39,6 +41,7 @@ pub fn limits()
     ensures hits { MAX_KEYS * MAX_HIT + MAX_ANSWER ≤ 41943040 }
     ensures strict_hits { (MAX_KEYS + 1021) * MAX_HIT ≤ 167772160 }
     ensures output { MAX_OUTPUT ≡ 67108864 }
-    ensures sessions { MAX_SESSIONS ≡ 16777216 }
+    ensures sessions { most_sessions Strict ≡ 16777216 }
+    ensures lenient_sessions { most_sessions Lenient ≡ 4611686018427387904 }
     ensures posts { MAX_POSTS ≡ 4611686018427387904 }
 {}

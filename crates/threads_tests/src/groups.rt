@@ -7,3 +7,4 @@ mod pace;
 mod rows;
 mod running;
 mod second_gate;
+mod told_early;

@@ -104,7 +104,16 @@ where
         { run_storage(&handle, store, SteadyClock, storage_end, &of_storage) },
     )
     .expect(rt, "a thread");
-    let report = run_worker(rt, alloc, port, end, Dialect::Strict, gate, &signals);
+    let report = run_worker(
+        rt,
+        alloc,
+        port,
+        end,
+        Dialect::Strict,
+        gate,
+        &*signals,
+        &signals,
+    );
     check_same(rt, report.unopened, 0, "unopened");
     Served {
         sent: report.worker_end.sent(),

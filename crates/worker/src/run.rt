@@ -7,12 +7,13 @@ ghost use Rattle.worker_port.specs.Giving.{IsTraceOf};
 ghost use Rattle.worker.specs.Reports.{IsReported, HasSaidBye};
 ghost use Rattle.worker.specs.Starts.{IsPortAt, HasSentNothing};
 
+use crate::executor::{Executor, Posting};
 use crate::gate::Gate;
 use crate::pauses::Pauses;
 use crate::session_list::SessionList;
 use crate::worker::{AskAgain, Worker, WorkerState};
 use exchange::{StorageSignals, Waits, WorkerEnd};
-use proto::{Dialect, WINDOW};
+use proto::{Dialect, Gauge, WINDOW};
 use session_book::{EndCause, Task};
 use std::alloc::Global;
 use std::sync::Wait;
@@ -51,17 +52,18 @@ pub struct WorkerReport<P> {
 
 /// Takes a few events. After each it reads the requests that the event brought, so a session's requests are read before the
 /// event that its client has gone. If a session has requests that can't be read now, few events are taken, and storage
-/// doesn't wait for them. True if something was done.
-fn take_events<P: Port, G: Gate, R: Clock>(
+/// doesn't wait for them. It gives how many events it took.
+fn take_events<P: Port, G: Gate, E: Executor, R: Clock>(
     rt: &R,
     worker: &mut Worker<P>,
     pauses: &mut Pauses,
     gate: &G,
+    executor: &E,
     storage: &StorageSignals,
-) -> bool
+) -> usize
     ensures { Continues P.told P.leads_to worker.old worker.new }
 {
-    let mut moved = false;
+    let mut count = 0;
     for taken in 1..=EVENTS_A_TURN {
         // The time for which the port may wait isn't busy, and before it the worker sets its gauges.
         let may_wait = worker.may_wait();
@@ -76,16 +78,16 @@ fn take_events<P: Port, G: Gate, R: Clock>(
         if !came {
             break;
         }
-        moved = true;
+        count = taken;
         ask_sessions(worker, gate, storage);
         if worker.state.book.ready(Task::Ask) > 0 {
-            worker.flush(storage);
+            worker.flush(executor, false);
             if taken >= EVENTS_WHILE_BUSY || worker.state.book.has_little_output() {
                 break;
             }
         }
     }
-    moved
+    count
 }
 
 /// Feeds each held piece that may fit by now. True if something was done.
@@ -172,9 +174,17 @@ fn give_output<P: Port>(worker: &mut Worker<P>, task: Task, most: usize) -> bool
     moved
 }
 
+/// Counts a session that is closed as too much output waits, for `stats`.
+fn count_unread(worker: usize, storage: &StorageSignals) {
+    if let Some(gauges) = storage.gauges(worker) {
+        let closed = gauges.get(Gauge::ClosedUnread).wrapping_add(1);
+        gauges.set(&[(Gauge::ClosedUnread, closed)]);
+    }
+}
+
 /// Shuts the sessions that have the most output, as long as so much waits over all sessions that there is no room for it. True if
 /// something was done.
-fn limit_output<P: Port>(worker: &mut Worker<P>) -> bool
+fn limit_output<P: Port>(worker: &mut Worker<P>, storage: &StorageSignals) -> bool
     ensures { Continues P.told P.leads_to worker.old worker.new }
 {
     let mut moved = false;
@@ -182,6 +192,7 @@ fn limit_output<P: Port>(worker: &mut Worker<P>) -> bool
         let Some(session) = worker.state.book.fullest() else {
             break;
         };
+        count_unread(worker.state.batch.worker(), storage);
         worker.state.shut(session, EndCause::NoMemory);
         moved = true;
     }
@@ -190,25 +201,26 @@ fn limit_output<P: Port>(worker: &mut Worker<P>) -> bool
 
 /// One turn. True if something was done. It puts the held request, then what has come and what fits by now. Storage knows of
 /// all of it before the answers are looked for, so nothing is kept back while the worker waits.
-fn take_turn<P: Port, G: Gate, R: Clock>(
+fn take_turn<P: Port, G: Gate, E: Executor, R: Clock>(
     rt: &R,
     worker: &mut Worker<P>,
     pauses: &mut Pauses,
     gate: &G,
+    executor: &E,
     storage: &StorageSignals,
 ) -> bool
     ensures { Continues P.told P.leads_to worker.old worker.new }
 {
     let held = worker.put_held(gate, storage);
-    let came = take_events(rt, worker, pauses, gate, storage);
+    let came = take_events(rt, worker, pauses, gate, executor, storage);
     let fed = feed_pieces(worker);
     let asked = ask_sessions(worker, gate, storage);
-    worker.flush(storage);
+    worker.flush(executor, came == EVENTS_A_TURN);
     let settled = settle_answers(worker, gate);
     let given = give_output(worker, Task::Give, usize::MAX);
     let given_slowly = give_output(worker, Task::RetryWrite, SLOW_A_TURN);
-    let shut = limit_output(worker);
-    held || came || fed || asked || settled || given || given_slowly || shut
+    let shut = limit_output(worker, storage);
+    held || came > 0 || fed || asked || settled || given || given_slowly || shut
 }
 
 /// Whether all is done: the port has ended, nothing is held or outstanding, and no open session has input or output left. One
@@ -237,14 +249,15 @@ fn has_drained<P: Port>(worker: &mut Worker<P>) -> bool
 /// Serves a port until it has ended and all was answered and given, and then says bye.
 ///
 /// The end has sent nothing yet, and the list of a port that tells it is empty. It may wait: for events, for answers and for a
-/// port that accepts no bytes. After it has posted, it wakes the storage thread if that is parked.
-pub fn run_worker<P: Port, G: Gate, R: Wait + Clock>(
+/// port that accepts no bytes. Whoever executes is told of what it posts.
+pub fn run_worker<P: Port, G: Gate, E: Executor, R: Wait + Clock>(
     rt: &R,
     alloc: Global,
     port: P,
     worker_end: WorkerEnd,
     dialect: Dialect,
     gate: &G,
+    executor: &E,
     storage: &StorageSignals,
 ) -> WorkerReport<P>
     requires port { IsPortAt P.told dialect port worker_end }
@@ -265,10 +278,10 @@ pub fn run_worker<P: Port, G: Gate, R: Wait + Clock>(
     let mut turns = 0;
     for _ in rt.forever() {
         count_turn(&mut turns, &worker, storage);
-        if take_turn(rt, &mut worker, &mut pauses, gate, storage) {
+        if take_turn(rt, &mut worker, &mut pauses, gate, executor, storage) {
             pauses.reset(parking);
         } else if has_drained(&mut worker) {
-            return leave(worker, storage);
+            return leave(worker, executor);
         } else {
             pauses.turn(rt, worker.state.batch.outstanding() > 0, parking);
         }
@@ -284,8 +297,8 @@ fn count_turn<P: Port>(turns: &mut u32, worker: &Worker<P>, storage: &StorageSig
     }
 }
 
-/// Says bye, for which storage is unparked, and leaves the report.
-fn leave<P: Port>(worker: Worker<P>, storage: &StorageSignals) -> WorkerReport<P>
+/// Says bye, as whoever executes is told, and leaves the report.
+fn leave<P: Port, E: Executor>(worker: Worker<P>, executor: &E) -> WorkerReport<P>
     requires { IsDrained worker }
     ensures port { result.port ≡ worker.port }
     ensures bye { HasSaidBye (end_of worker) result.worker_end }
@@ -312,7 +325,12 @@ fn leave<P: Port>(worker: Worker<P>, storage: &StorageSignals) -> WorkerReport<P
     // All that was put has been flushed, as it came back.
     let mut worker_end = batch.into_end();
     worker_end.bye();
-    storage.parking().unpark();
+    executor.posted(Posting {
+        worker: worker_end.worker(),
+        requests: 0,
+        is_crowded: false,
+        has_more: false,
+    });
     WorkerReport {
         port,
         worker_end,

@@ -10,6 +10,7 @@ ghost use Rattle.worker.specs.Starts.{IsPortAt, HasSentNothing};
 ghost use Rattle.worker.specs.Workers.{end_of, once_flushed, Continues, TakesNone, TakesBack};
 ghost use Rattle.worker.specs.Workers.{Closes, Shuts, Admits, Refuses, SameRest, HandlesData};
 
+use crate::executor::{Executor, Posting};
 use crate::gate::Gate;
 use crate::session_list::SessionList;
 use bytes::Bytes;
@@ -138,6 +139,16 @@ impl<P: Port> WorkerState<P> {
         }
         if let Some(key) = posted.request.first_key() {
             storage.leave_hint(self.batch.worker(), posted.number - 1, key);
+        }
+    }
+
+    /// What the worker says once it has posted. The port may have more events, or not.
+    fn posting(&self, may_read_on: bool) -> Posting {
+        Posting {
+            worker: self.batch.worker(),
+            requests: self.batch.outstanding(),
+            is_crowded: self.book.is_crowded(),
+            has_more: may_read_on || self.book.ready(Task::Ask) > 0,
         }
     }
 }
@@ -317,12 +328,13 @@ impl<P: Port> Worker<P> {
         }
     }
 
-    /// Tells storage of all that was put, and unparks it.
-    pub(crate) fn flush(&mut self, storage: &StorageSignals)
+    /// Tells storage of all that was put, and has it executed. The port may have more events, or
+    /// not.
+    pub(crate) fn flush<E: Executor>(&mut self, executor: &E, may_read_on: bool)
         ensures { Continues P.told P.leads_to self.old self.new }
     {
         if self.state.batch.flush() {
-            storage.parking().unpark();
+            executor.posted(self.state.posting(may_read_on));
         }
     }
 

@@ -6,7 +6,7 @@ use crate::groups::running::run;
 use crate::same::check_same;
 use crate::texts::repeated;
 use bytes::Bytes;
-use proto::{Clock as Moments, ClockAnswer};
+use proto::{Clock as Moments, ClockAnswer, Storage};
 use std::alloc::Global;
 use std::process::Abort;
 use std::sync::atomic::{AtomicU64, Ordering};
@@ -104,7 +104,8 @@ fn each_eighth_answer_is_told(rt: HostRuntime) {
     };
     let mut ports = Vec::new(alloc);
     ports.push(port_of(&rt, alloc)).expect(&rt, "memory");
-    let executed = run(&rt, alloc, ports, clock, &answers).executed;
+    // A worker that executes takes no answers meanwhile.
+    let executed = run(&rt, alloc, ports, clock, &answers, Storage::Thread).executed;
     check_same(&rt, executed, REQUESTS as u64, "executed");
     let given_up = answers.given_up.load(Ordering::SeqCst);
     check_same(&rt, given_up, 0, "given up");

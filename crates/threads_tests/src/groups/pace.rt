@@ -5,9 +5,10 @@ ghost use Rattle.std.specs.Prelude.{◌≡◌, [], Some, IsSome};
 
 use crate::clock::SteadyClock;
 use crate::groups::running;
+use crate::groups::running::EACH_STORAGE;
 use bytes::Bytes;
 use exchange::WorkerBatch;
-use proto::{Clock as Moments, ClockAnswer};
+use proto::{Clock as Moments, ClockAnswer, Storage};
 use std::alloc::Global;
 use std::process::Abort;
 use std::sync::Wait;
@@ -106,7 +107,13 @@ impl<R: Clock + Drop> Port for OneAtATime<R> {
 }
 
 // Runs a group over the requests, and gives how many were executed and how long that took.
-fn run<R, C>(rt: &R, alloc: Global, pause_millis: u64, clock: C) -> (u64, Duration)
+fn run<R, C>(
+    rt: &R,
+    alloc: Global,
+    pause_millis: u64,
+    clock: C,
+    storage: Storage,
+) -> (u64, Duration)
 where
     R: Abort + Threads + Wait + Clock + Sync + Send + Copy + Drop,
     C: Moments + Send,
@@ -123,7 +130,7 @@ where
     let mut ports = Vec::new(alloc);
     ports.push(port).expect(rt, "memory");
     let start = Instant::now(rt).expect(rt, "the time");
-    let executed = running::run(rt, alloc, ports, clock, &OpenGate).executed;
+    let executed = running::run(rt, alloc, ports, clock, &OpenGate, storage).executed;
     (executed, start.elapsed(rt).expect(rt, "the time"))
 }
 
@@ -135,11 +142,18 @@ fn check_run(rt: &impl Abort, (executed, took): (u64, Duration)) {
 // Storage has parked when a request comes.
 #[test]
 fn requests_after_pauses_are_answered_soon(rt: HostRuntime) {
-    check_run(&rt, run(&rt, rt.alloc(), PAUSE_MILLIS, SteadyClock));
+    for storage in EACH_STORAGE {
+        check_run(
+            &rt,
+            run(&rt, rt.alloc(), PAUSE_MILLIS, SteadyClock, storage),
+        );
+    }
 }
 
 // The worker has parked when its answer comes.
 #[test]
 fn answers_of_a_slow_storage_are_taken_soon(rt: HostRuntime) {
-    check_run(&rt, run(&rt, rt.alloc(), 0, SlowClock { rt }));
+    for storage in EACH_STORAGE {
+        check_run(&rt, run(&rt, rt.alloc(), 0, SlowClock { rt }, storage));
+    }
 }

@@ -3,11 +3,12 @@
 use crate::clock::{CountingClock, SteadyClock};
 use crate::groups::keeping_port::KeepingPort;
 use crate::groups::meeting::{Meeting, MeetingClock};
-use crate::groups::running::{are_complete, ports_of, run};
+use crate::groups::running::{EACH_STORAGE, are_complete, ports_of, run};
 use crate::groups::second_gate::SecondGate;
 use crate::same::check_same;
 use bytes::Bytes;
 use group::GroupReport;
+use proto::Storage;
 use std::alloc::Global;
 use std::process::Abort;
 use std::test::Fail;
@@ -16,11 +17,14 @@ use worker::{HoldGate, OpenGate};
 #[test]
 fn one_worker_drains(rt: HostRuntime) {
     let alloc: Global = rt.alloc();
-    let clock = CountingClock { last: 0 };
-    let report = run(&rt, alloc, ports_of(&rt, alloc, b"a"), clock, &OpenGate);
-    assert!(rt; are_complete(&rt, alloc, report.workers.as_slice(), b"a"));
-    check_same(&rt, report.executed, 2, "executed");
-    check_same(&rt, report.clock.last, 2, "moments");
+    for storage in EACH_STORAGE {
+        let clock = CountingClock { last: 0 };
+        let ports = ports_of(&rt, alloc, b"a");
+        let report = run(&rt, alloc, ports, clock, &OpenGate, storage);
+        assert!(rt; are_complete(&rt, alloc, report.workers.as_slice(), b"a"));
+        check_same(&rt, report.executed, 2, "executed");
+        check_same(&rt, report.clock.last, 2, "moments");
+    }
 }
 
 fn check_waited(rt: &impl Abort, alloc: Global, report: &GroupReport<KeepingPort, SteadyClock>) {
@@ -34,10 +38,13 @@ fn check_waited(rt: &impl Abort, alloc: Global, report: &GroupReport<KeepingPort
 #[test]
 fn two_workers_wait_for_each_other(rt: HostRuntime) {
     let alloc: Global = rt.alloc();
-    let gate = HoldGate::new();
-    let report = run(&rt, alloc, ports_of(&rt, alloc, b"ab"), SteadyClock, &gate);
-    check_waited(&rt, alloc, &report);
-    assert!(rt; !gate.spent());
+    for storage in EACH_STORAGE {
+        let gate = HoldGate::new();
+        let ports = ports_of(&rt, alloc, b"ab");
+        let report = run(&rt, alloc, ports, SteadyClock, &gate, storage);
+        check_waited(&rt, alloc, &report);
+        assert!(rt; !gate.spent());
+    }
 }
 
 #[test]
@@ -46,7 +53,8 @@ fn all_apart(rt: HostRuntime) {
     let keys = b"abcdefgh";
     let meeting = Meeting::new();
     let clock = MeetingClock { meeting: &meeting };
-    let report = run(&rt, alloc, ports_of(&rt, alloc, keys), clock, &meeting);
+    let ports = ports_of(&rt, alloc, keys);
+    let report = run(&rt, alloc, ports, clock, &meeting, Storage::Thread);
     check_same(&rt, meeting.given_up(), 0, "stays given up");
     assert!(rt; are_complete(&rt, alloc, report.workers.as_slice(), keys));
     check_same(&rt, report.executed, 16, "executed");
@@ -65,10 +73,12 @@ fn check_seen(rt: &impl Abort, report: &GroupReport<KeepingPort, SteadyClock>) {
 #[test]
 fn two_workers_see_one_cache(rt: HostRuntime) -> Result<(), Fail> {
     let alloc: Global = rt.alloc();
-    let set = Bytes::from_static(b"set a 0 0 1\r\nx\r\n");
-    let get = Bytes::from_static(b"get a\r\n");
-    let ports = vec![in alloc; KeepingPort::new(alloc, set), KeepingPort::new(alloc, get)]?;
-    let report = run(&rt, alloc, ports, SteadyClock, &SecondGate::new());
-    check_seen(&rt, &report);
+    for storage in EACH_STORAGE {
+        let set = Bytes::from_static(b"set a 0 0 1\r\nx\r\n");
+        let get = Bytes::from_static(b"get a\r\n");
+        let ports = vec![in alloc; KeepingPort::new(alloc, set), KeepingPort::new(alloc, get)]?;
+        let report = run(&rt, alloc, ports, SteadyClock, &SecondGate::new(), storage);
+        check_seen(&rt, &report);
+    }
     Ok(())
 }

@@ -7,7 +7,7 @@ use crate::serving::sizes;
 use bytes::Bytes;
 use exchange::Exchange;
 use group::{Config, GroupReport, GroupWorker, run_group};
-use proto::{Clock, Dialect, Terms};
+use proto::{Clock, Dialect, Storage, Terms};
 use segcache::Store;
 use std::alloc::Global;
 use std::process::Abort;
@@ -16,6 +16,9 @@ use std::thread::Threads;
 use std::time;
 use worker::Gate;
 use worker_port::Port;
+
+/// Who may execute requests.
+pub(crate) const EACH_STORAGE: [Storage; 2] = [Storage::Thread, Storage::Workers];
 
 /// Stores one byte under the key `a` and asks for it.
 const INPUT: &[u8] = b"set a 0 0 1\r\nx\r\nget a\r\n";
@@ -53,6 +56,7 @@ pub(crate) fn run<P, C, G, R>(
     ports: Vec<P>,
     clock: C,
     gate: &G,
+    storage: Storage,
 ) -> GroupReport<P, C>
 where
     P: Port + Send,
@@ -72,6 +76,7 @@ where
         },
         dialect: Dialect::Strict,
         spin: None,
+        storage,
     };
     let exchange = Exchange::new(alloc, ports.len(), config.terms).expect(rt, "an exchange");
     run_group(rt, alloc, ports, exchange, config, store, clock, gate).expect(rt, "a run")

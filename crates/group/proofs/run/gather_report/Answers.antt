@@ -13,7 +13,7 @@ gather-requires g c = subst (λ (l : List WorkerView). AreTogether l c.args.stor
 pub returns : goal.returns
 returns g c = λ store sizes ports clock stored joined.
     run g.P.Port.told g.P.Port.leads_to g.C.Clock.told g.C.Clock.leads_to
-    (g.E.StorageEngine.keeps store []) g.E.StorageEngine.may_refuse sizes ports clock c.args.reports.items c.args.storage _ stored joined
+    (g.E.StorageEngine.keeps store []) (g.E.StorageEngine.is_exact store) g.E.StorageEngine.may_refuse sizes ports clock c.args.reports.items c.args.storage _ stored joined
     c.split_reports-workers.ensures.0 refl refl
     (subst (λ (l : List WorkerView). (i : _) (v : WorkerView) → get_elem? l i ≡ some v
     → AreCounted c.args.storage.storage_end v (slice_index c.gather.result.sent v.worker)

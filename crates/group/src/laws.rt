@@ -1,0 +1,28 @@
+//! What clients may rely on, as a law of told histories. The server doesn't call it.
+
+ghost use Rattle.std.specs.Prelude.{◌≡◌, List};
+ghost use Rattle.proto.specs.declared.history.Answered.{Answered};
+ghost use Rattle.proto.specs.Sizes.{Sizes};
+ghost use Rattle.proto.specs.History.{Legal};
+ghost use Rattle.exchange.specs.Beginnings.{AreOfOne};
+ghost use Rattle.worker_port.specs.Ports.{PortTrace};
+ghost use Rattle.worker_port.specs.Giving.{HasAskedOnly};
+ghost use Rattle.group.specs.Precedence.{AnsweredBeforeSent, Precedes, SeesLeft};
+
+use exchange::{ToldHistory, WorkerBatch};
+use worker_port::laws::order_in_real_time;
+
+/// Linearizability: a request that was sent after another one was answered comes after it,
+/// whichever workers they are of, and sees what it left, or what came after that. The answer was
+/// given by the earlier history, which its port keeps. The sender is the worker's end of the other
+/// request's port, which is about to read.
+pub fn later_requests_see_earlier_ones(sender: &mut WorkerBatch, earlier: ToldHistory)
+    requires { earlier.exchange ≡ sender.old.end.exchange }
+    ensures same { sender.new ≡ sender.old }
+    ensures sees { (sizes : Sizes) (answering sending : PortTrace) (later : List Answered) (one other : Answered)
+        → answering.history ≡ earlier.items → HasAskedOnly sending sender.old.end
+        → AreOfOne earlier.items later → Legal sizes later → AnsweredBeforeSent answering sending later one other
+        → (p : Precedes later one other) × SeesLeft sizes one p.between other }
+{
+    order_in_real_time(sender, earlier);
+}

@@ -1,0 +1,32 @@
+//! Who executes what workers have posted.
+
+use exchange::StorageSignals;
+
+/// What a worker says once it has posted requests or its bye.
+#[derive(Clone, Copy)]
+pub struct Posting {
+    /// The worker's number.
+    pub worker: usize,
+    /// How many of its requests aren't answered yet.
+    pub requests: u64,
+    /// Whether they are for so many keys, or their answers so large, that the worker sends one at a
+    /// time.
+    pub is_crowded: bool,
+    /// Whether the worker has more to do before it waits for the answers: requests that the window
+    /// has no room for, or streams that may have input.
+    pub has_more: bool,
+}
+
+/// Sees to it that what workers have posted is executed, by another thread or by the caller's. No
+/// clause says so.
+pub trait Executor {
+    /// A worker has posted.
+    fn posted(&self, posting: Posting);
+}
+
+/// Has the storage thread execute: wakes it, if it has parked or is about to.
+impl Executor for StorageSignals {
+    fn posted(&self, _posting: Posting) {
+        self.parking().unpark();
+    }
+}

@@ -17,12 +17,13 @@ pub record IsReplayInRange (o : Options) : Type 0 where
   pub segments : (8 ≤ o.segments) × (o.segments ≤ 65536)
   pub accept : o.accept ≤ 65536
 
--- the same of workers and segments; and if they are given, at least one session, 1 to 4,294,967,295 seconds of silence,
--- and at most 1,000,000 microseconds
+-- the same of workers and segments; and if they are given, 1 to 65,536 connections, at least one session, 1 to
+-- 4,294,967,295 seconds of silence, and at most 1,000,000 microseconds
 pub record IsServeInRange (o : ServeOptions) : Type 0 where
   pub workers : (1 ≤ o.workers) × (o.workers ≤ 8)
   pub segment_size : (4096 ≤ o.segment_size) × (o.segment_size ≤ 1048576)
   pub segments : (8 ≤ o.segments) × (o.segments ≤ 65536)
+  pub connections : IfSome o.connections (λ n. (1 ≤ n) × (n ≤ 65536))
   pub sessions : IfSome o.sessions (λ n. 1 ≤ n)
   pub idle : IfSome o.idle (λ n. (1 ≤ n) × (n ≤ 4294967295))
   pub spin : IfSome o.spin (λ n. n ≤ 1000000)

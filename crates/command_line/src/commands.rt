@@ -20,6 +20,15 @@ const COUNTERS_IN_PLACE: &str = "counters-in-place";
 
 pub(crate) const EVICT: &str = "evict";
 
+pub(crate) const EXACT_TTLS: &str = "exact-ttls";
+
+pub(crate) const STORAGE: &str = "storage";
+
+/// The values of `--storage`.
+const BY_THREAD: &str = "thread";
+
+pub(crate) const BY_WORKERS: &str = "workers";
+
 /// The values of `--evict`.
 const OLDEST: &str = "oldest";
 
@@ -30,6 +39,12 @@ const LENIENT_HELP: &str =
 
 const UPDATE_IN_PLACE_HELP: &str =
     "incr, decr, append and prepend change a value where it stands if the new one fits there, so that it keeps its TTL";
+
+const EXACT_TTLS_HELP: &str =
+    "Items live to the second as long as their TTLs say: each keeps its own deadline, and not its segment's";
+
+const STORAGE_HELP: &str =
+    "Who executes requests: the storage thread, or the workers, which then wake no thread";
 
 const EVICT_HELP: &str =
     "Which segments are merged or evicted: the oldest, or of the first quarter those whose items were read least";
@@ -47,7 +62,7 @@ Exit status: 0 done, 1 a fault (one line on standard error), 2 bad words";
 const SERVE_HELP: &str =
     "The first line on standard output is `listening on ADDR`, with the real port. The first line on standard error has all options that are in force.
 
-Exit status: 0 done, 1 a fault (the last line on standard error), 2 bad words";
+Exit status: 0 done, 1 a fault (the last line on standard error), 2 wrong options, 3 the address cannot be had";
 
 fn number_option<'a>(alloc: Global, option: &NumberOption) -> Arg<'a> {
     Arg::new(alloc, option.name)
@@ -80,6 +95,15 @@ fn evict<'a>(alloc: Global) -> Arg<'a> {
         .default_values(&[OLDEST])
 }
 
+fn storage<'a>(alloc: Global) -> Arg<'a> {
+    Arg::new(alloc, STORAGE)
+        .long(STORAGE)
+        .value_name("THREADS")
+        .help(STORAGE_HELP)
+        .value_parser(ValueParser::Names(&[BY_THREAD, BY_WORKERS]))
+        .default_values(&[BY_THREAD])
+}
+
 /// The command with these options, and with those that both jobs have.
 fn with_options<'a>(
     alloc: Global,
@@ -92,6 +116,8 @@ fn with_options<'a>(
     let in_place = flag(alloc, UPDATE_IN_PLACE, UPDATE_IN_PLACE_HELP);
     let command = command.arg(in_place.alias(COUNTERS_IN_PLACE)?)?;
     let command = command.arg(evict(alloc))?;
+    let command = command.arg(storage(alloc))?;
+    let command = command.arg(flag(alloc, EXACT_TTLS, EXACT_TTLS_HELP))?;
     command.arg(flag(alloc, LENIENT, LENIENT_HELP))
 }
 

@@ -1,9 +1,13 @@
 //! The options with which a server runs, as words.
 
-use crate::commands::{EVICT, LEAST_READ, LENIENT, LISTEN, UPDATE_IN_PLACE};
-use crate::number_option::{IDLE, NumberOption, SEGMENT_SIZE, SEGMENTS, SESSIONS, SPIN, WORKERS};
+use crate::commands::{
+    BY_WORKERS, EVICT, EXACT_TTLS, LEAST_READ, LENIENT, LISTEN, STORAGE, UPDATE_IN_PLACE,
+};
+use crate::number_option::{
+    CONNECTIONS, IDLE, NumberOption, SEGMENT_SIZE, SEGMENTS, SESSIONS, SPIN, WORKERS,
+};
 use crate::options::ServeOptions;
-use proto::{Dialect, Eviction};
+use proto::{Dialect, Eviction, Storage};
 use std::alloc::{AllocError, Global};
 
 /// Adds an option's name.
@@ -53,6 +57,7 @@ fn push_numbers(
     push_number(alloc, line, &WORKERS, Some(options.workers))?;
     push_number(alloc, line, &SEGMENT_SIZE, Some(options.segment_size))?;
     push_number(alloc, line, &SEGMENTS, Some(options.segments))?;
+    push_number(alloc, line, &CONNECTIONS, options.connections)?;
     push_number(alloc, line, &SESSIONS, options.sessions)?;
     push_number(alloc, line, &IDLE, options.idle)?;
     push_number(alloc, line, &SPIN, spin)
@@ -63,6 +68,10 @@ fn push_rules(line: &mut String, options: &ServeOptions) -> Result<(), AllocErro
     if options.eviction == Eviction::LeastRead {
         push_value(line, EVICT, LEAST_READ)?;
     }
+    if options.storage == Storage::Workers {
+        push_value(line, STORAGE, BY_WORKERS)?;
+    }
+    push_flag(line, EXACT_TTLS, options.exact_ttls)?;
     push_flag(line, LENIENT, options.dialect == Dialect::Lenient)?;
     push_flag(line, UPDATE_IN_PLACE, options.update_in_place)
 }

@@ -2,6 +2,9 @@
 
 use proto::{MAX_SEGMENT_SIZE, MAX_SEGMENTS, MAX_WORKERS, MIN_SEGMENT_SIZE, MIN_SEGMENTS};
 
+/// The most connections that a worker can be told to serve at a time.
+const MAX_CONNECTIONS: u64 = 65_536;
+
 /// An option whose value is a number from `least` to `most`.
 #[derive(Drop)]
 pub(crate) struct NumberOption {
@@ -96,10 +99,19 @@ pub(crate) const IDLE: NumberOption = NumberOption {
     default: &[],
 };
 
+pub(crate) const CONNECTIONS: NumberOption = NumberOption {
+    name: "connections",
+    value_name: "COUNT",
+    help: "How many connections each worker serves at a time, 1 to 65536; 1024 if it isn't given",
+    least: 1,
+    most: MAX_CONNECTIONS,
+    default: &[],
+};
+
 pub(crate) const SPIN: NumberOption = NumberOption {
     name: "spin",
     value_name: "MICROSECONDS",
-    help: "How long each thread looks for work before it sleeps, 0 to 1000000. Single requests are answered faster, and each worker and the storage thread keep a processor busy",
+    help: "How long each thread looks for work before it sleeps, 0 to 1000000. Single requests are answered faster, and each worker and the storage thread keep a processor busy. With --storage workers it does nothing",
     least: 0,
     most: 1_000_000,
     default: &[],
@@ -116,4 +128,11 @@ pub(crate) static REPLAY_OPTIONS: [NumberOption; 6] = [
 ];
 
 /// The options of a server beside its address and its workers.
-pub(crate) static SERVE_OPTIONS: [NumberOption; 5] = [SESSIONS, IDLE, SPIN, SEGMENT_SIZE, SEGMENTS];
+pub(crate) static SERVE_OPTIONS: [NumberOption; 6] = [
+    CONNECTIONS,
+    SESSIONS,
+    IDLE,
+    SPIN,
+    SEGMENT_SIZE,
+    SEGMENTS,
+];

@@ -1,6 +1,6 @@
 //! What the program is asked to do.
 
-use proto::{Dialect, Eviction};
+use proto::{Dialect, Eviction, Storage};
 
 /// What `segcached replay` is told.
 #[derive(Drop)]
@@ -25,6 +25,10 @@ pub struct Options {
     /// Whether `incr`, `decr`, `append` and `prepend` change a value where it stands.
     pub update_in_place: bool,
     pub eviction: Eviction,
+    /// Which threads execute requests.
+    pub storage: Storage,
+    /// Whether items keep their own deadlines, to the second.
+    pub exact_ttls: bool,
 }
 
 /// What `segcached serve` is told.
@@ -34,12 +38,14 @@ pub struct ServeOptions {
     pub listen: String,
     /// How many workers run, 1 to 8.
     pub workers: u64,
+    /// How many connections each worker serves at a time, 1 to 65,536; None is 1,024.
+    pub connections: Option<u64>,
     /// How many connections are accepted before serving ends; None is any number.
     pub sessions: Option<u64>,
     /// After how many seconds a silent connection is closed, 1 to 4,294,967,295; None is never.
     pub idle: Option<u64>,
     /// For how many microseconds a thread looks for work before it sleeps, 0 to 1,000,000; None leaves it to each
-    /// thread.
+    /// thread. It does nothing if workers execute requests.
     pub spin: Option<u32>,
     /// The bytes of a segment, 4,096 to 1,048,576. Whether it is a power of two is tested later.
     pub segment_size: u64,
@@ -49,6 +55,10 @@ pub struct ServeOptions {
     /// Whether `incr`, `decr`, `append` and `prepend` change a value where it stands.
     pub update_in_place: bool,
     pub eviction: Eviction,
+    /// Which threads execute requests.
+    pub storage: Storage,
+    /// Whether items keep their own deadlines, to the second.
+    pub exact_ttls: bool,
 }
 
 /// What the words ask for.

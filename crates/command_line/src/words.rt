@@ -8,16 +8,19 @@ ghost use Rattle.std.specs.declared.io.ErrorKind.TheVariants as io;
 ghost use Rattle.command_line.specs.declared.words.WordsFault.TheVariants as words;
 ghost use Rattle.command_line.specs.Words.{IsJob, IsReplayInRange, IsServeInRange, IsInRange};
 
-use crate::commands::{EVICT, FILE, LEAST_READ, LENIENT, LISTEN, UPDATE_IN_PLACE, command};
+use crate::commands::{
+    BY_WORKERS, EVICT, EXACT_TTLS, FILE, LEAST_READ, LENIENT, LISTEN, STORAGE, UPDATE_IN_PLACE,
+    command,
+};
 use crate::number_option::{
-    ACCEPT, FAIL_GIVE, IDLE, NOW, NumberOption, SEGMENT_SIZE, SEGMENTS, SESSIONS, SPIN, TICK,
-    WORKERS,
+    ACCEPT, CONNECTIONS, FAIL_GIVE, IDLE, NOW, NumberOption, SEGMENT_SIZE, SEGMENTS, SESSIONS,
+    SPIN, TICK, WORKERS,
 };
 use crate::options::{Job, Options, ServeOptions};
 use crate::version::PROVED_WITH;
 use clap::ArgMatches;
 use clap::error::ErrorKind;
-use proto::{Dialect, Eviction};
+use proto::{Dialect, Eviction, Storage};
 use std::alloc::{AllocError, Global};
 use std::io;
 use thiserror::Error;
@@ -94,6 +97,13 @@ fn eviction(matches: &ArgMatches<'_>) -> Eviction {
     }
 }
 
+fn storage(matches: &ArgMatches<'_>) -> Storage {
+    match matches.get_str(STORAGE) {
+        Some(BY_WORKERS) => Storage::Workers,
+        _ => Storage::Thread,
+    }
+}
+
 fn replay_options(alloc: Global, matches: &ArgMatches<'_>) -> Result<Options, WordsFault>
     ensures { IfOk result IsReplayInRange }
 {
@@ -108,6 +118,8 @@ fn replay_options(alloc: Global, matches: &ArgMatches<'_>) -> Result<Options, Wo
         dialect: dialect(matches),
         update_in_place: matches.get_flag(UPDATE_IN_PLACE),
         eviction: eviction(matches),
+        storage: storage(matches),
+        exact_ttls: matches.get_flag(EXACT_TTLS),
         file: String::from_str(alloc, matches.get_str(FILE).unwrap_or(""))?,
     })
 }
@@ -117,6 +129,7 @@ fn serve_options(alloc: Global, matches: &ArgMatches<'_>) -> Result<ServeOptions
 {
     Ok(ServeOptions {
         workers: number(alloc, matches, &WORKERS)?,
+        connections: number_or_none(alloc, matches, &CONNECTIONS)?,
         sessions: number_or_none(alloc, matches, &SESSIONS)?,
         idle: number_or_none(alloc, matches, &IDLE)?,
         spin: number_or_none(alloc, matches, &SPIN)?.map(|micros| micros as u32),
@@ -125,6 +138,8 @@ fn serve_options(alloc: Global, matches: &ArgMatches<'_>) -> Result<ServeOptions
         dialect: dialect(matches),
         update_in_place: matches.get_flag(UPDATE_IN_PLACE),
         eviction: eviction(matches),
+        storage: storage(matches),
+        exact_ttls: matches.get_flag(EXACT_TTLS),
         listen: String::from_str(alloc, matches.get_str(LISTEN).unwrap_or(""))?,
     })
 }

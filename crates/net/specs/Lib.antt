@@ -1,4 +1,5 @@
 pub mod Listening
+pub mod Probes
 pub mod Seen
 pub mod Shown
 pub mod Sockets

@@ -9,10 +9,11 @@ mod listener;
 mod open_stream;
 mod polls;
 mod port;
+mod probes;
 mod sockets;
 mod streams;
 
-pub use fault::NetFault;
+pub use fault::{NetFault, Refusal};
 pub use hand::{Hand, StreamSender};
 pub use listener::{ListenReport, Listener, Notices};
 pub use port::MioPort;

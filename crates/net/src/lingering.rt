@@ -16,7 +16,7 @@ const LINGER_MILLIS: u64 = 2000;
 
 const LINGER_BYTES: usize = 16 * 1024 * 1024;
 
-/// The most reads of one in a row.
+/// The most reads of all of them between two polls.
 const READS: usize = 64;
 
 #[derive(Drop)]
@@ -37,8 +37,8 @@ enum Drained {
 }
 
 impl LingeringStream {
-    fn drain(&mut self, scratch: &mut [u8]) -> Drained {
-        for _ in 0..READS {
+    fn drain(&mut self, scratch: &mut [u8], reads: usize) -> Drained {
+        for _ in 0..reads {
             match self.stream.drain(scratch) {
                 Ok(0) => return Drained::Done,
                 Ok(count) => self.left = self.left.saturating_sub(count),
@@ -85,16 +85,18 @@ impl LingeringStreams {
         self.is_ready = true;
     }
 
-    /// Drops what came, and closes the streams that have ended or expired.
+    /// Drops some of what came, as much of one stream as of another, and closes those that have
+    /// ended or expired.
     pub(crate) fn drain<R: Clock>(&mut self, rt: &R, scratch: &mut [u8]) {
         let was_ready = self.is_ready;
         self.is_ready = false;
+        let reads_each = (READS / self.streams.len().max(1)).max(1);
         for _ in 0..self.streams.len() {
             let Some(mut lingering) = self.streams.pop_front() else {
                 return;
             };
             if was_ready {
-                match lingering.drain(scratch) {
+                match lingering.drain(scratch, reads_each) {
                     Drained::Done => continue,
                     Drained::More => self.is_ready = true,
                     Drained::Empty => {}

@@ -10,11 +10,11 @@ ghost use Rattle.worker_port.specs.Giving.{HasAskedOnly};
 ghost use Rattle.net.specs.Shown.{shown_stream};
 ghost use Rattle.net.specs.Ties.{OpenAgrees, BytesAgree, SocketsAgree};
 
-use crate::fault::NetFault;
+use crate::fault::{NetFault, Refusal};
 use crate::hand::Hand;
 use crate::interval::Interval;
 use crate::polls::Polls;
-use crate::streams::{OPEN_SESSIONS, Owner, Streams};
+use crate::streams::{Owner, Streams};
 use exchange::{ExchangeName, WorkerBatch};
 use mio::{Events, Poll};
 use proto::{Gauge, Gauges};
@@ -56,7 +56,7 @@ impl<R: Wait + Clock + Net + Drop> MioPort<R> {
     ///
     /// # Errors
     ///
-    /// Poll, NoMemory.
+    /// Refused, NoMemory.
     pub fn new(
         rt: R,
         alloc: Global,
@@ -67,8 +67,8 @@ impl<R: Wait + Clock + Net + Drop> MioPort<R> {
         ensures { IfOk result
             (λ port. IsNew owner.geometry owner.dialect owner.worker exchange (trace_of port.served)) }
     {
-        let poll = Poll::new(&rt).map_err(|_| NetFault::Poll)?;
-        hand.register(&poll).map_err(|_| NetFault::Poll)?;
+        let poll = Poll::new(&rt).map_err(|error| Refusal::of(&error))?;
+        hand.register(&poll).map_err(|error| Refusal::of(&error))?;
         Ok(MioPort {
             rt,
             hand,
@@ -159,7 +159,7 @@ impl<R: Wait + Clock + Drop> MioPort<R> {
         ensures { TellsNothing self.old.served self.new.served }
     {
         let has_heard = !self.served.ready.is_empty() || self.has_idle;
-        let may_open = self.has_streams && self.served.len() < OPEN_SESSIONS;
+        let may_open = self.has_streams && self.served.len() < self.hand.most_open();
         let knows_event = has_heard
             || may_open
             || (self.served.is_empty() && self.hand.is_drained());
@@ -199,7 +199,7 @@ impl<R: Wait + Clock + Drop> MioPort<R> {
         ensures sockets { AddsSockets self.old.served self.new.served }
     {
         for _ in 0..EVENTS {
-            if self.served.len() >= OPEN_SESSIONS {
+            if self.served.len() >= self.hand.most_open() {
                 return None;
             }
             let Some(stream) = self.hand.take(&self.rt) else {

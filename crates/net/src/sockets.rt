@@ -6,14 +6,23 @@ ghost use Rattle.net.specs.Sockets.{socket_of, IsNewLog};
 
 mod logged_stream;
 
+use crate::probes::{PROBE_BYTES, is_probe};
 use logged_stream::LoggedStream;
 pub(crate) use logged_stream::ServedStream;
 use mio::net::{TcpListener, TcpStream};
 use mio::{Interest, Poll, Token};
 use proto::{Noted, Trace};
-use std::io::{self, Read};
+use std::io::{self, Read, Write};
 use std::net::{Net, Shutdown, SocketAddr};
 use std::snapshot::Snapshot;
+
+/// What a client is told that no worker can take.
+const TOO_MANY: &[u8] = b"ERROR Too many open connections\r\n";
+
+/// How many bytes of such a client are dropped at once, and how often.
+const DROPPED_BYTES: usize = 4096;
+
+const DROPS: usize = 16;
 
 /// A socket that accepts streams. For clauses alone it knows which it accepted.
 #[derive(Drop)]
@@ -87,6 +96,28 @@ impl NewStream {
             .register(&mut stream, Token(session as usize), both)
             .ok()?;
         Some(LoggedStream::new(stream))
+    }
+
+    /// Whether a probe's request is what came first. It is left to be read.
+    pub(crate) fn has_probe(&self) -> bool {
+        let mut first = [0u8; PROBE_BYTES];
+        match self.stream.peek(&mut first) {
+            Ok(count) => is_probe(&first[..count]),
+            Err(_) => false,
+        }
+    }
+
+    /// Says that there are too many, and closes the stream. What came is dropped first: the system resets a stream that is
+    /// closed with unread input, and the line might be lost.
+    pub(crate) fn refuse(mut self) {
+        let _ = self.stream.write(TOO_MANY);
+        let _ = self.stream.shutdown(Shutdown::Write);
+        let mut dropped = [0u8; DROPPED_BYTES];
+        for _ in 0..DROPS {
+            if !matches!(self.stream.read(&mut dropped), Ok(DROPPED_BYTES)) {
+                return;
+            }
+        }
     }
 }
 

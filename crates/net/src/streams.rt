@@ -22,7 +22,8 @@ use std::snapshot::Snapshot;
 use std::time::Clock;
 use worker_port::{Gone, MAX_PIECE, PortEvent, PortNote, PortRecord, ToldHistory};
 
-/// The most sessions of a port that are open at a time, with those that were shut and are read still.
+/// The most sessions of a port that are open at a time, with those that were shut and are read still, unless it is told
+/// another number.
 pub(crate) const OPEN_SESSIONS: usize = 1024;
 
 /// The worker whose port it is, the sizes by which its histories are judged, and the dialect by which it reads.

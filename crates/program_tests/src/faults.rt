@@ -1,7 +1,7 @@
 //! Listeners that can't be bound.
 
 use crate::clients::listener;
-use net::{Listener, NetFault};
+use net::{Listener, NetFault, Refusal};
 use std::alloc::Global;
 use std::net::Net;
 use std::process::Abort;
@@ -25,7 +25,7 @@ fn check_bound_once<R: Net + Abort>(rt: &R, alloc: Global, listener: &Listener) 
     assert!(*rt; port > 0);
     let addr = format!(in alloc; "127.0.0.1:{port}").expect(rt, "memory");
     let fault = fault_at(rt, alloc, addr.as_str());
-    assert!(*rt; matches!(fault, Some(NetFault::Bind)));
+    assert!(*rt; matches!(fault, Some(NetFault::Refused(Refusal::PortTaken))));
 }
 
 #[test]

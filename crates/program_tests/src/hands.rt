@@ -38,7 +38,7 @@ fn a_full_hand_has_64_streams_and_the_next_is_closed(rt: HostRuntime) {
     check_same(
         &rt,
         read_last(&rt, alloc, clients),
-        0,
+        b"ERROR Too many open connections\r\n".len(),
         "bytes of the last one",
     );
     check_report(&rt, report, (65, 1, 0));

@@ -14,6 +14,8 @@ mod faults;
 #[cfg(test)]
 mod hands;
 #[cfg(test)]
+mod polling;
+#[cfg(test)]
 mod ports;
 #[cfg(test)]
 mod replays;

@@ -113,6 +113,10 @@ fn sent_to<R: Abort>(rt: &R, alloc: Global, client: &TcpStream) -> usize {
     read_all(rt, alloc, client).len()
 }
 
+/// How long it may take until a stream is closed that its peer has closed, in milliseconds. One of which no event is heard is
+/// closed after two seconds.
+const CLOSED_MILLIS: u64 = 1000;
+
 /// The stream of a session that was shut is ended at once, and closed once its peer has closed it.
 fn check_shut<R>(rt: &R, alloc: Global, port: &mut AskedPort<R>, clients: &mut Vec<TcpStream>)
 where
@@ -126,7 +130,8 @@ where
     check_same(rt, sent_to(rt, alloc, last(rt, clients)), 0, "bytes");
     check_next(rt, port, 8, Came::Idle, "while its stream is read");
     clients.clear();
-    check_next(rt, port, CALLS, Came::Ended, "the end");
+    let took = time_until(rt, port, Came::Ended, "the end");
+    assert!(*rt; took < Duration::from_millis(CLOSED_MILLIS));
 }
 
 /// The time until the next event, which is this one.

@@ -9,7 +9,7 @@ use std::process::Abort;
 use std::test::Fail;
 
 /// Words after `serve`, and all options that are then in force.
-const IN_FORCE: [(&str, &str); 7] = [
+const IN_FORCE: [(&str, &str); 9] = [
     (
         "serve --listen 127.0.0.1:0",
         "--listen 127.0.0.1:0 --workers 2 --segment-size 65536 --segments 64",
@@ -27,11 +27,19 @@ const IN_FORCE: [(&str, &str); 7] = [
         "--listen 127.0.0.1:0 --workers 2 --segment-size 65536 --segments 8 --lenient",
     ),
     (
-        "serve --lenient --evict least-read --listen 127.0.0.1:0",
-        "--listen 127.0.0.1:0 --workers 2 --segment-size 65536 --segments 64 --evict least-read --lenient",
+        "serve --lenient --exact-ttls --evict least-read --listen 127.0.0.1:0",
+        "--listen 127.0.0.1:0 --workers 2 --segment-size 65536 --segments 64 --evict least-read --exact-ttls --lenient",
     ),
     (
         "serve --evict oldest --listen 127.0.0.1:0",
+        "--listen 127.0.0.1:0 --workers 2 --segment-size 65536 --segments 64",
+    ),
+    (
+        "serve --storage workers --lenient --listen 127.0.0.1:0",
+        "--listen 127.0.0.1:0 --workers 2 --segment-size 65536 --segments 64 --storage workers --lenient",
+    ),
+    (
+        "serve --storage thread --listen 127.0.0.1:0",
         "--listen 127.0.0.1:0 --workers 2 --segment-size 65536 --segments 64",
     ),
     (

@@ -3,12 +3,13 @@ use Rattle.std.proofs.Common.{◌≡◌, ℕ, true, List, Option, Some, None, re
 use Rattle.std.specs.Prelude.{⊤}
 use Rattle.proto.specs.declared.message.Request.{Request}
 use Rattle.proto.specs.declared.message.Reply.{Reply}
-use Rattle.proto.specs.Cache.{Entry, found_at}
+use Rattle.proto.specs.Cache.{Entry, Cache, found_at}
 use Rattle.proto.specs.Commands.{Outcome, cache_of}
 use Rattle.engine.specs.declared.commands.Engine.{Engine}
 use Rattle.engine.specs.declared.live_map.LiveMap.{Ghosts as MapOf}
 use Rattle.reference.specs.declared.plain_map.PlainMap.{PlainMap}
 use Rattle.engine.specs.Outcomes.{outcome_at}
+use Rattle.engine.specs.Deadlines.{KeepsDeadlines}
 use Rattle.engine.specs.Engines.{Changes, Stores, Way, as_written, as_changed, as_touched, way_of, IsHandled}
 use Rattle.reference.specs.PlainEntries.{plain_entries}
 use Rattle.reference.specs.PlainState.{plain_sizes, plain_cache}
@@ -32,7 +33,7 @@ members =
       changes = WritesPlainly;
       reads = ReadsPlainly;
       touches = ReadsPlainly;
-      stays = λ t asked given. same_deadline asked given;
+      stays = λ m t asked given. same_deadline asked given;
       alike = λ m n. ⊤;
       keeps = λ m items. ⊤;
     }
@@ -77,3 +78,10 @@ handles_plainly before t q reply after h =
           inl (record { reply_is = d.reply_is; cache_is = cache })
       | inr d ↦ inr (denied members h.found after (found_at (plain_cache before) t) done reply h.found_is d)
     ]
+
+-- and a plain step stores what it stores as it asks to be
+pub keeps_deadlines : (before : Engine PlainMap) (t : ℕ) (q : Request) (reply : Reply) (after : Engine PlainMap)
+    → HandlesPlainly before t q reply after → KeepsDeadlines plain_sizes plain_cache (λ _. true) before t q reply after
+keeps_deadlines before t q reply after (inl e) =
+    (refl, λ _ key entry stored other is near. ap (λ (c : Cache). map.get c.entries key) e.cache_is ∙ is)
+keeps_deadlines before t q reply after (inr r) = (refl, λ _ key entry stored other is near. absurd (other r.reply_is))

@@ -127,7 +127,7 @@ impl LiveMap for PlainMap {
 
     ghost touches = { ReadsPlainly };
 
-    ghost stays = { λ t asked given. same_deadline asked given };
+    ghost stays = { λ m t asked given. same_deadline asked given };
 
     ghost alike = { λ m n. ⊤ };
 
@@ -213,9 +213,11 @@ impl LiveMap for PlainMap {
 impl StoreMap for PlainMap {
     ghost use Rattle.reference.specs.Plain.{HandlesPlainly};
 
-    ghost made = { λ sizes seed eviction m. ⊤ };
+    ghost made = { λ sizes seed eviction exact m. ⊤ };
 
     ghost promises = { HandlesPlainly };
+
+    ghost is_exact = { λ m. true };
 
     /// An empty map takes no memory, and hashes no key.
     fn seeded(
@@ -223,6 +225,7 @@ impl StoreMap for PlainMap {
         geometry: Geometry,
         _seed: u64,
         _eviction: Eviction,
+        _exact: bool,
     ) -> Result<Self, NoMemory> {
         Ok(PlainMap {
             alloc,

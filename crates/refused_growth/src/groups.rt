@@ -9,7 +9,7 @@ use crate::quiet_port::QuietPort;
 use crate::served::{Outcome, Session, outcome_of};
 use exchange::{Exchange, MakeFault};
 use group::{Config, GroupFault, GroupReport, run_group};
-use proto::{Dialect, Geometry, Terms};
+use proto::{Dialect, Geometry, Storage, Terms};
 use segcache::Store;
 use std::alloc::Global;
 use std::sync::Wait;
@@ -86,6 +86,7 @@ fn run_over<'a, R: Threads + Wait + time::Clock + Sync>(
     ports: Vec<QuietPort<'a>>,
     geometry: Geometry,
     store: Store,
+    storage: Storage,
 ) -> Outcome
     requires empty { (segmented_cache store ≡ empty_cache 0) × (last_moment store ≡ 0) }
     requires sizes { sizes_in store ≡ geometry }
@@ -98,6 +99,7 @@ fn run_over<'a, R: Threads + Wait + time::Clock + Sync>(
         },
         dialect: Dialect::Strict,
         spin: None,
+        storage,
     };
     match Exchange::new(alloc, ports.len(), config.terms) {
         Ok(exchange) => {
@@ -115,6 +117,7 @@ fn run_counted<R: Threads + Wait + time::Clock + Sync>(
     rt: &R,
     alloc: Global,
     counters: &Counters,
+    storage: Storage,
 ) -> Outcome {
     let Ok(geometry) = Geometry::new(65_536, 64) else {
         return Outcome::Wrong;
@@ -123,20 +126,21 @@ fn run_counted<R: Threads + Wait + time::Clock + Sync>(
         return Outcome::Wrong;
     };
     match Store::new(alloc, geometry) {
-        Ok(store) => run_over(rt, alloc, counters, ports, geometry, store),
+        Ok(store) => run_over(rt, alloc, counters, ports, geometry, store, storage),
         Err(_) => Outcome::Allowed,
     }
 }
 
-fn run<R: Threads + Wait + time::Clock + Sync>(rt: &R, alloc: Global) -> Outcome {
+fn run<R: Threads + Wait + time::Clock + Sync>(rt: &R, alloc: Global, storage: Storage) -> Outcome {
     let counters = Counters::new();
-    let outcome = run_counted(rt, alloc, &counters);
+    let outcome = run_counted(rt, alloc, &counters, storage);
     drop(counters);
     outcome
 }
 
-/// Whether each of two runs comes to what a refusal allows, and one of them, as no more than one of them meets the
-/// refusal, to what it comes to without one.
+/// Whether each of two runs, in which other threads execute requests, comes to what a refusal
+/// allows, and one of them, as no more than one of them meets the refusal, to what it comes to
+/// without one.
 pub fn is_named<R: Threads + Wait + time::Clock + Sync>(rt: &R, alloc: Global) -> bool {
-    run(rt, alloc).and(run(rt, alloc)) != Outcome::Wrong
+    run(rt, alloc, Storage::Thread).and(run(rt, alloc, Storage::Workers)) != Outcome::Wrong
 }

@@ -33,6 +33,7 @@ fn finds_room(pool: &mut Pool, geometry: Geometry, bucket: usize) -> bool
         deadline: None,
         cas: 1,
         reads: 0,
+        own_deadline: 0,
     };
     size_of(item) <= geometry.item_limit() && pool.append(bucket, 0, item).is_ok()
 }

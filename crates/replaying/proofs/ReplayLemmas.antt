@@ -208,15 +208,15 @@ timed_by clock told after history clock_is none legal gives is =
 
 -- the lines of the sessions in a group's run over ports that play a script
 -- are what is printed for the script's bytes
-pub replayed : (sizes : Sizes) (d : Dialect) (clock : ClockState) (workers accept fail_give : ℕ) (text : List ℕ) (scripts : Workers)
+pub replayed : (sizes : Sizes) (d : Dialect) (exact : Bool) (clock : ClockState) (workers accept fail_give : ℕ) (text : List ℕ) (scripts : Workers)
     → AreEventsOf workers text scripts
     → (exchange : ExchangeId) (ports : List PortState) → ArePorts sizes d exchange accept fail_give scripts ports → (told : RecordingClock)
     → told.clock ≡ clock → told.answers.items ≡ []
     → (report : GroupReport PortState RecordingClock) → IsRun trace_told PlaysOn
-    (λ (c : RecordingClock). Some c.answers.items) GivesAnswers ⊤ false sizes ports told report
+    (λ (c : RecordingClock). Some c.answers.items) GivesAnswers ⊤ exact false sizes ports told report
     → ArePlayed report.workers.items
-    → IsReplayOf sizes d clock workers fail_give text (lines_from 0 (map events_of report.workers.items))
-replayed sizes d clock workers accept fail_give text scripts read exchange ports ports_are told clock_is none report run played =
+    → IsReplayOf sizes d exact clock workers fail_give text (lines_from 0 (map events_of report.workers.items))
+replayed sizes d exact clock workers accept fail_give text scripts read exchange ports ports_are told clock_is none report run played =
     record {
       scripts = scripts;
       read = read;
@@ -253,5 +253,6 @@ replayed sizes d clock workers accept fail_give text scripts read exchange ports
           (λ could. lt_true 0 fail_give (sym can_fail_is ∙ could)));
       refused = run.refused;
       bounded = run.bounded tt;
+      dated = run.dated;
       printed_is = lines_are 0 report.workers.items;
     }

@@ -78,14 +78,15 @@ abbrev pub ArePlayed : List (GroupWorker PortState) → Type 0
 ArePlayed workers = (k : ℕ) (x : GroupWorker PortState) → get_elem? workers k ≡ some x → IsPlayedAt x.port
 
 -- a new store, of whatever seed
-pub record IsReplayStore (sizes : Sizes) (in_place : Bool) (d : Dialect) (eviction : Eviction) (store : Store) : Type 0 where
+pub record IsReplayStore (sizes : Sizes) (in_place : Bool) (d : Dialect) (eviction : Eviction) (exact : Bool) (store : Store)
+    : Type 0 where
   pub seed : ℕ
-  pub new : IsNewStore sizes seed in_place d eviction store
+  pub new : IsNewStore sizes seed in_place d eviction exact store
 
 -- The script has these events for this number of workers. A group of them ran over ports with these events, over a new
--- store that changes values in place or doesn't and evicts by this rule, and over a new clock; and what each session was given is
--- printed, in order of worker and session.
-pub record IsPrinted (sizes : Sizes) (in_place : Bool) (d : Dialect) (eviction : Eviction) (clock : ClockState)
+-- store that changes values in place or doesn't, evicts by this rule, and keeps deadlines to the second or doesn't, and over a new
+-- clock; and what each session was given is printed, in order of worker and session.
+pub record IsPrinted (sizes : Sizes) (in_place : Bool) (d : Dialect) (eviction : Eviction) (exact : Bool) (clock : ClockState)
     (workers accept fail_give : ℕ) (text printed : List ℕ) : Type 0 where
   pub scripts : Workers
   pub read : AreEventsOf workers text scripts
@@ -93,9 +94,9 @@ pub record IsPrinted (sizes : Sizes) (in_place : Bool) (d : Dialect) (eviction :
   pub ports : List PortState
   pub ports_are : ArePorts sizes d exchange accept fail_give scripts ports
   pub store : Store
-  pub store_is : IsReplayStore sizes in_place d eviction store
+  pub store_is : IsReplayStore sizes in_place d eviction exact store
   pub told : RecordingClock
   pub told_is : (told.clock ≡ clock) × (told.answers.items ≡ [])
   pub report : GroupReport PortState RecordingClock
-  pub run : IsRun trace_told PlaysOn (λ c. Some c.answers.items) GivesAnswers ⊤ false sizes ports told report
+  pub run : IsRun trace_told PlaysOn (λ c. Some c.answers.items) GivesAnswers ⊤ exact false sizes ports told report
   pub printed_is : printed ≡ lines_from 0 (map events_of report.workers.items)

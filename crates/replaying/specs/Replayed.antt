@@ -1,5 +1,5 @@
 -- What `segcached replay` prints, by the bytes of its script alone.
-use Rattle.std.specs.Prelude.{◌≡◌, ◌≢◌, ℕ, ◌+◌, ◌<◌, ◌⊎◌, ⊤, true, false, List, [], ◌∷◌, ◌++◌, ◌==◌, length}
+use Rattle.std.specs.Prelude.{◌≡◌, ◌≢◌, ℕ, ◌+◌, ◌<◌, ◌⊎◌, ⊤, Bool, true, false, List, [], ◌∷◌, ◌++◌, ◌==◌, length}
 use Rattle.std.specs.Prelude.{map, flat_map, All, Contains, Option, Some, None}
 use Rattle.std.specs.List.{list_any, last_or}
 use mathlib.Core.Option.{some}
@@ -18,6 +18,7 @@ use Rattle.worker_port.specs.Giving.{BeginsAnswers}
 use Rattle.session_book.specs.declared.causes.EndCause.{EndCause}
 use Rattle.session_book.specs.declared.causes.EndCause.TheVariants as causes
 use Rattle.storage_thread.specs.Keeping.{MayAlwaysForgetNothing}
+use Rattle.storage_thread.specs.Deadlines.{MayStoreAsAsked}
 use Rattle.script.specs.declared.event.ScriptEvent.{ScriptEvent}
 use Rattle.script.specs.Events.{sessions_opened, sent_bytes, goes_in_script}
 use Rattle.script.specs.Clocks.{ClockState, AreTimed}
@@ -84,8 +85,9 @@ outcome_lines worker (outcomes ∷ more) =
 -- What is printed for a script with these bytes where this `give` was asked to fail, or none for 0: some legal history
 -- has the clock's first answers and the moments that these give; by it each worker's sessions, those that the script
 -- opens, have their outcomes; only a `get` is out of memory; as long as no request sets a deadline and little is stored,
--- it may be read as one that forgets nothing; and a line for each session tells what it was given, in order of worker and session.
-pub record IsReplayOf (sizes : Sizes) (d : Dialect) (clock : ClockState) (workers fail_give : ℕ)
+-- it may be read as one that forgets nothing; where deadlines are kept to the second, as one whose entries have those asked for;
+-- and a line for each session tells what it was given, in order of worker and session.
+pub record IsReplayOf (sizes : Sizes) (d : Dialect) (exact : Bool) (clock : ClockState) (workers fail_give : ℕ)
     (text printed : List ℕ) : Type 0 where
   pub scripts : Workers
   pub read : AreEventsOf workers text scripts
@@ -99,4 +101,5 @@ pub record IsReplayOf (sizes : Sizes) (d : Dialect) (clock : ClockState) (worker
       → get_elem? outcomes w ≡ some os → AreOutcomesOf d history w fail_give script os
   pub refused : RefusesBy false history
   pub bounded : MayAlwaysForgetNothing sizes history
+  pub dated : exact ≡ true → MayStoreAsAsked sizes history
   pub printed_is : printed ≡ outcome_lines 0 outcomes

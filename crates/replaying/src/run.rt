@@ -147,10 +147,17 @@ fn clock_of(options: &Options) -> RecordingClock
 /// A new store, as the options say.
 fn new_store(alloc: Global, options: &Options, geometry: Geometry) -> Result<Store, NoMemory>
     ensures { IfOk result (IsReplayStore geometry options.entry.now.update_in_place options.entry.now.dialect
-        options.entry.now.eviction) }
+        options.entry.now.eviction options.entry.now.exact_ttls) }
 {
     let in_place = options.update_in_place;
-    Store::evicting(alloc, geometry, in_place, options.dialect, options.eviction)
+    Store::evicting(
+        alloc,
+        geometry,
+        in_place,
+        options.dialect,
+        options.eviction,
+        options.exact_ttls,
+    )
 }
 
 /// Reads the script, runs a group of workers over it, and prints what each session was given: its worker, its number
@@ -174,13 +181,14 @@ pub fn replay<H: Runtime, R: Read + Drop, W: Write>(
     // they are all that it had, where it tells
     ensures read { IfOk result (λ read. IfSome (R.remaining script) (λ text. read.items ≡ text)) }
     ensures printed { IfOk result (λ read. (printed : List ℕ)
-        × IsReplayOf geometry options.entry.now.dialect (clock_at options.entry.now.now options.entry.now.tick)
-        options.entry.now.workers options.entry.now.fail_give read.items printed
+        × IsReplayOf geometry options.entry.now.dialect options.entry.now.exact_ttls
+        (clock_at options.entry.now.now options.entry.now.tick) options.entry.now.workers options.entry.now.fail_give read.items printed
         × Appends (W.contents out.old) (W.contents out.new) printed) }
 
     // it is a group's run over ports with the faults that the options ask for, and over a store as they say
     ensures ran { IfOk result (λ read. (printed : List ℕ)
         × IsPrinted geometry options.entry.now.update_in_place options.entry.now.dialect options.entry.now.eviction
+        options.entry.now.exact_ttls
         (clock_at options.entry.now.now options.entry.now.tick) options.entry.now.workers options.entry.now.accept
         options.entry.now.fail_give read.items printed
         × Appends (W.contents out.old) (W.contents out.new) printed) }
@@ -194,6 +202,7 @@ pub fn replay<H: Runtime, R: Read + Drop, W: Write>(
         },
         dialect: options.dialect,
         spin: None,
+        storage: options.storage,
     };
     let exchange = Exchange::new(alloc, scripts.len(), config.terms)?;
     let ports = ports_of(alloc, options, geometry, &exchange, scripts)?;

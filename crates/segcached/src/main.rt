@@ -53,16 +53,27 @@ fn job(rt: &HostRuntime) -> Result<Job, WordsFault> {
 }
 
 /// Prints the fault, if standard error takes it, and answers the exit status.
-fn fail<F: Display + Drop>(rt: &HostRuntime, fault: F) -> u8 {
+fn fail<F: Display + Drop>(rt: &HostRuntime, fault: F, status: u8) -> u8 {
     let _ = rt.eprintln(fault);
-    1
+    status
 }
 
 /// The exit status of what was done, whose fault is printed.
 fn status<F: Display + Drop>(rt: &HostRuntime, done: Result<(), F>) -> u8 {
     match done {
         Ok(()) => 0,
-        Err(fault) => fail(rt, fault),
+        Err(fault) => fail(rt, fault, 1),
+    }
+}
+
+/// The exit status of what was served, whose fault is printed.
+fn serve_status(rt: &HostRuntime, served: Result<(), serving::Fault>) -> u8 {
+    match served {
+        Ok(()) => 0,
+        Err(fault) => {
+            let status = fault.status();
+            fail(rt, fault, status)
+        }
     }
 }
 
@@ -71,7 +82,7 @@ fn run<H: System>(rt: &HostRuntime, threads: &H, job: Job) -> u8 {
     match job {
         Job::Help(text) => status(rt, rt.print(text).map_err(|_| "fault: cannot write")),
         Job::Replay(options) => status(rt, replay_file(rt, threads, &options)),
-        Job::Serve(options) => status(rt, serve_at(rt, threads, &options)),
+        Job::Serve(options) => serve_status(rt, serve_at(rt, threads, &options)),
     }
 }
 
@@ -82,7 +93,7 @@ fn main(rt: HostRuntime) -> ExitCode {
             let _ = rt.eprint(text);
             2
         }
-        Err(WordsFault::NoMemory) => fail(&rt, "fault: out of memory"),
+        Err(WordsFault::NoMemory) => fail(&rt, "fault: out of memory", 1),
     };
     ExitCode::from(status)
 }

@@ -32,7 +32,8 @@ AreNewPorts {R} sizes d exchange ports =
 
 -- a new store as the options say, which hashes this seed before each key
 abbrev pub IsStoreFor : Sizes → ℕ → ServeOptions → Store → Type 0
-IsStoreFor sizes seed options store = IsNewStore sizes seed options.update_in_place options.dialect options.eviction store
+IsStoreFor sizes seed options store = IsNewStore sizes seed options.update_in_place options.dialect options.eviction
+    options.exact_ttls store
 
 -- what is served over, as the options say: a new store, an exchange, and a new port of each of its workers
 pub record IsSetUp {R : Type 0} (sizes : Sizes) (seed : ℕ) (options : ServeOptions) (exchange : ExchangeView)
@@ -56,4 +57,5 @@ pub record IsServed {R : Type 0} (sizes : Sizes) (seed : ℕ) (options : ServeOp
   pub new_store : IsStoreFor sizes seed options store
   pub clock : ClockLog
   pub unread : clock.readings ≡ []
-  pub run : IsRun socket_told (λ _ _. ⊤) clock_told (λ _ _. ⊤) ⊤ false sizes ports clock report
+  pub run : IsRun socket_told (λ _ _. ⊤) clock_told (λ _ _. ⊤) ⊤ options.exact_ttls false sizes ports
+      clock report

@@ -2,9 +2,11 @@
 
 ghost use Rattle.std.specs.Prelude.{◌≡◌};
 ghost use Rattle.serving.specs.declared.fault.Fault.TheVariants.{NoMemory, Group, Exchange};
+ghost use Rattle.serving.specs.Statuses.{fault_status};
 
 use exchange::MakeFault;
 use group::GroupFault;
+use net::NetFault;
 use proto::NoMemory;
 use std::alloc::AllocError;
 use thiserror::Error;
@@ -14,9 +16,9 @@ use thiserror::Error;
 pub enum Fault {
     #[error("fault: bad geometry")]
     BadGeometry,
-    /// The address.
-    #[error("fault: cannot listen on {0}")]
-    CannotListen(String),
+    /// The address, and why.
+    #[error("fault: cannot listen on {0}: {1}")]
+    CannotListen(String, NetFault),
     #[error("fault: cannot write")]
     CannotWrite,
     /// The thread that accepts connections can't be started.
@@ -30,6 +32,22 @@ pub enum Fault {
     Group(GroupFault),
     #[error("fault: out of memory")]
     NoMemory,
+}
+
+impl Fault {
+    /// The exit status: 2 if the options ask for what can't be, 3 if the address can't be had, else 1.
+    pub fn status(&self) -> u8
+        ensures { result ≡ fault_status self.now }
+    {
+        match self {
+            Fault::BadGeometry => 2,
+            Fault::CannotListen(_, why) => match why {
+                NetFault::BadAddress => 2,
+                _ => 3,
+            },
+            _ => 1,
+        }
+    }
 }
 
 impl From<NoMemory> for Fault {

@@ -15,7 +15,7 @@ use command_line::{ServeOptions, on_one_line, options_in_force};
 use exchange::Exchange;
 use group::{Config, GroupReport, Runtime, run_group};
 use net::{Hand, ListenReport, Listener, MioPort, NetFault, Owner, StreamSender};
-use proto::{Geometry, MAX_SESSIONS, SystemClock, Terms};
+use proto::{Geometry, Storage, SystemClock, Terms};
 use segcache::Store;
 use std::alloc::Global;
 use std::io::{Eprint, Write};
@@ -35,14 +35,21 @@ pub type Report<H> = GroupReport<MioPort<H>, SystemClock<H>>;
 
 /// That it can't listen, for this reason.
 fn cannot_listen(alloc: Global, options: &ServeOptions, fault: NetFault) -> Fault {
-    match fault {
-        NetFault::NoMemory => Fault::NoMemory,
-        NetFault::BadAddress | NetFault::Bind | NetFault::Poll => {
-            match on_one_line(alloc, options.listen.as_str()) {
-                Ok(addr) => Fault::CannotListen(addr),
-                Err(_) => Fault::NoMemory,
-            }
-        }
+    if matches!(fault, NetFault::NoMemory) {
+        return Fault::NoMemory;
+    }
+    match on_one_line(alloc, options.listen.as_str()) {
+        Ok(addr) => Fault::CannotListen(addr, fault),
+        Err(_) => Fault::NoMemory,
+    }
+}
+
+/// For how many microseconds threads look for work before they sleep. No time is given if workers
+/// execute requests.
+fn spin_of(options: &ServeOptions) -> Option<u32> {
+    match options.storage {
+        Storage::Thread => options.spin,
+        Storage::Workers => None,
     }
 }
 
@@ -59,8 +66,12 @@ fn make_port<H: Wait + Net + time::Clock + Copy + Drop>(
     ensures { IfOk result (λ made. IsNew geometry options.entry.now.dialect worker exchange.entry.now.id
         (trace_of made.1.served)) }
 {
-    let (of_listener, of_port) = Hand::pair(&rt, alloc, MAX_SESSIONS)?;
     let dialect = options.dialect;
+    let (mut of_listener, mut of_port) = Hand::pair(&rt, alloc, dialect.most_sessions())?;
+    if let Some(connections) = options.connections {
+        of_listener.set_most_open(connections as usize);
+        of_port.set_most_open(connections as usize);
+    }
     let owner = Owner {
         geometry,
         dialect,
@@ -70,7 +81,7 @@ fn make_port<H: Wait + Net + time::Clock + Copy + Drop>(
     if let Some(seconds) = options.idle {
         port.set_idle_limit(seconds);
     }
-    if let Some(micros) = options.spin {
+    if let Some(micros) = spin_of(options) {
         port.set_spin(micros);
     }
     Ok((of_listener, port))
@@ -184,6 +195,7 @@ fn open<H: Wait + Net + time::Clock + Copy + Drop>(
         options.update_in_place,
         options.dialect,
         options.eviction,
+        options.exact_ttls,
     )?;
     Ok(Opened {
         listener,
@@ -211,7 +223,8 @@ fn run_workers<H: Runtime + Copy + Drop + Send + 'static>(
     let config = Config {
         terms: terms_of(geometry),
         dialect: options.dialect,
-        spin: options.spin,
+        spin: spin_of(options),
+        storage: options.storage,
     };
     let clock = SystemClock::new(rt);
     let report = run_group(&rt, alloc, ports, exchange, config, store, clock, &OpenGate)?;

@@ -399,7 +399,7 @@ const LOCAL_LINES: [Step; 10] = [
     See(Finished(1, None)),
 ];
 
-const LOCAL_ANSWERS: &str = "VERSION 1.6.0-segcached-0.6.0\r\nVALUE a 0 1\r\nx\r\nEND\r\nOK\r\n";
+const LOCAL_ANSWERS: &str = "VERSION 1.6.0-segcached-0.7.0\r\nVALUE a 0 1\r\nx\r\nEND\r\nOK\r\n";
 
 const TO_CLOSED: [Step; 12] = [
     Open(1),

@@ -278,12 +278,12 @@ pub const LENIENT_FAULTS: [Row; 31] = [
     (
         b"version\r\n",
         Given::Nothing,
-        b"VERSION 1.6.0-segcached-0.6.0\r\n",
+        b"VERSION 1.6.0-segcached-0.7.0\r\n",
     ),
     (
         b"version 1 \r\n",
         Given::Nothing,
-        b"VERSION 1.6.0-segcached-0.6.0\r\n",
+        b"VERSION 1.6.0-segcached-0.7.0\r\n",
     ),
     (b"verbosity 1\r\n", Given::Nothing, b"OK\r\n"),
     (b"verbosity 1 noreply\r\n", Given::Nothing, b""),

@@ -1,5 +1,6 @@
 use Rattle.std.proofs.Common.{Some, refl, ◌∙◌}
 use Rattle.std.specs.Prelude.{map}
+use Rattle.segcache.proofs.NewMaps.{exact_of}
 use denote.Exit.{no}
 use denote.Param.Send.{param_send, arg_send}
 use Rattle.script.specs.declared.clock.RecordingClock.{RecordingClock}
@@ -38,9 +39,10 @@ returns-clause-ran g c =
         told_is = (c.clock_of-clock.ensures.clock, c.clock_of-clock.ensures.answers);
         report = c.in_ok-report.report;
         run = keeping_run trace_told PlaysOn
-            (λ (k : RecordingClock). Some k.answers.items) GivesAnswers _ _ _ c.args.geometry c.in_ok-ports.ports.items c.clock_of-clock.result
+            (λ (k : RecordingClock). Some k.answers.items) GivesAnswers _ _ c.args.options.now.exact_ttls _ _ c.args.geometry c.in_ok-ports.ports.items c.clock_of-clock.result
             c.in_ok-report.report
-            c.in_ok-report.ensures.run c.in_ok-store.ensures.new.sizes_are c.in_ok-store.ensures.new.keeps;
+            c.in_ok-report.ensures.run c.in_ok-store.ensures.new.sizes_are
+            (exact_of _ _ _ _ _ _ _ c.in_ok-store.ensures.new) c.in_ok-store.ensures.new.keeps;
         printed_is = refl;
       },
       all.0,
@@ -50,14 +52,15 @@ pub returns-clause-printed : goal.returns-clause-printed
 returns-clause-printed g c =
     let all = rw c.as_slice.ensures.value at c.in_ok-write_lines.ensures in (
       lines_from 0 (map events_of c.in_ok-report.report.workers.items),
-      replayed c.args.geometry c.args.options.now.dialect _ c.args.options.now.workers c.args.options.now.accept c.args.options.now.fail_give
+      replayed c.args.geometry c.args.options.now.dialect c.args.options.now.exact_ttls _ c.args.options.now.workers c.args.options.now.accept c.args.options.now.fail_give
           c.in_ok-scripts.text.items c.in_ok-scripts.scripts.items c.in_ok-scripts.ensures.events
           c.in_ok-exchange.exchange.id c.in_ok-ports.ports.items c.in_ok-ports.ensures c.clock_of-clock.result
           c.clock_of-clock.ensures.clock c.clock_of-clock.ensures.answers c.in_ok-report.report
           (keeping_run trace_told PlaysOn
-          (λ (k : RecordingClock). Some k.answers.items) GivesAnswers _ _ _ c.args.geometry c.in_ok-ports.ports.items c.clock_of-clock.result
+          (λ (k : RecordingClock). Some k.answers.items) GivesAnswers _ _ c.args.options.now.exact_ttls _ _ c.args.geometry c.in_ok-ports.ports.items c.clock_of-clock.result
           c.in_ok-report.report
-          c.in_ok-report.ensures.run c.in_ok-store.ensures.new.sizes_are c.in_ok-store.ensures.new.keeps)
+          c.in_ok-report.ensures.run c.in_ok-store.ensures.new.sizes_are
+          (exact_of _ _ _ _ _ _ _ c.in_ok-store.ensures.new) c.in_ok-store.ensures.new.keeps)
           all.1,
       all.0,
     )

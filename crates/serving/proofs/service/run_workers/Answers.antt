@@ -3,6 +3,7 @@ use Rattle.std.specs.Prelude.{⊤}
 use Rattle.proto.specs.declared.terms.Terms.{Terms}
 use Rattle.segcache.specs.Keeping.{KeepsStored}
 use Rattle.segcache.specs.StoreState.{sizes_in}
+use Rattle.segcache.proofs.NewMaps.{exact_of}
 use Rattle.serving.specs.Runs.{socket_told, clock_told}
 use denote.Exit.{no}
 use denote.Param.Send.{param_send, arg_send}
@@ -35,7 +36,8 @@ returns g c = record {
   new_store = c.requires.new_store;
   clock = c.new-clock.result;
   unread = c.new-clock.ensures;
-  run = keeping_run socket_told (λ _ _. ⊤) clock_told (λ _ _. ⊤) (KeepsStored c.args.store.map []) false (sizes_in c.args.store)
-      c.args.geometry c.args.ports.items c.new-clock.result c.in_ok-report.report c.in_ok-report.ensures.run
-      c.requires.new_store.sizes_are c.requires.new_store.keeps;
+  run = keeping_run socket_told (λ _ _. ⊤) clock_told (λ _ _. ⊤) (KeepsStored c.args.store.map []) c.args.store.map.pool.exact
+      c.args.options.now.exact_ttls false (sizes_in c.args.store) c.args.geometry c.args.ports.items c.new-clock.result
+      c.in_ok-report.report c.in_ok-report.ensures.run c.requires.new_store.sizes_are
+      (exact_of _ _ _ _ _ _ _ c.requires.new_store) c.requires.new_store.keeps;
 }

@@ -1,7 +1,7 @@
 use Rattle.std.proofs.Common.{◌≡◌}
 use Rattle.net.specs.Listening.{accepted_count}
-use Rattle.net.proofs.listener.Listener.hand_out.Given as goal
+use Rattle.net.proofs.listener.Listener.offer_waiting_probes.Given as goal
 
--- nothing is accepted
+-- nothing was accepted
 abbrev pub invariant-loop : goal.invariant-loop
 invariant-loop g l = accepted_count l.self ≡ accepted_count l.fn.self

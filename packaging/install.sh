@@ -7,7 +7,7 @@ cd "$(dirname "$0")/.."
 prefix=${PREFIX:-/usr/local}
 units=${UNITS:-$prefix/lib/systemd/system}
 documents=$prefix/share/doc/segcached
-defaults=${DESTDIR:-}/etc/default/segcached
+defaults="segcached.default segcached.local"
 program=crates/segcached/out/segcached
 pages="INSTALL OPERATIONS CLIENTS PERFORMANCE"
 absent="ARCHITECTURE|DECISIONS|EDITS|GATE|HEADLINE|PROOFS|TESTING"
@@ -22,8 +22,11 @@ each_file() {
   "$1" 644 "$made/segcached.service" "$units/segcached.service"
   "$1" 644 "$made/segcached@.service" "$units/segcached@.service"
   "$1" 755 "$made/ready" "$prefix/lib/segcached/ready"
+  "$1" 755 packaging/taken.sh "$prefix/lib/segcached/taken"
+  "$1" 644 packaging/address.sh "$prefix/lib/segcached/address.sh"
   "$1" 755 examples/probe.sh "$prefix/lib/segcached/probe"
   "$1" 644 crates/segcached/out/PROVED "$documents/PROVED"
+  "$1" 644 CHANGELOG.md "$documents/CHANGELOG.md"
   for page in $pages; do
     "$1" 644 "$made/$page.md" "$documents/$page.md"
   done
@@ -33,20 +36,32 @@ each_file() {
   "$1" 755 tools/script_of.py "$documents/examples/script_of.py"
   "$1" 644 tools/refused_lines.py "$documents/examples/refused_lines.py"
   "$1" 755 examples/probe.sh "$documents/examples/probe.sh"
-  for example in Containerfile kubernetes.yaml twemproxy/three_caches.yml; do
+  "$1" 644 "$made/Containerfile" "$documents/examples/Containerfile"
+  for example in kubernetes.yaml twemproxy/three_caches.yml; do
     "$1" 644 examples/$example "$documents/examples/$example"
   done
 }
 
-# Makes what differs by PREFIX or by place: the man page, the units with the script that they call, and the pages, whose
-# examples lie beside them, and in which a link to a page that isn't installed is its text alone.
+# Where the options of a file of `packaging` stand.
+place_of() {
+  echo "${DESTDIR:-}/etc/default/$(basename "$1" .default)"
+}
+
+# Makes what differs by PREFIX or by place: the man page, the units with the script that they call, the container file,
+# which takes what is installed, and the pages, whose examples lie beside them, and in which a link to a page that isn't
+# installed is its text alone.
 make_files() {
   tools/man_page.sh $program >"$made/segcached.1"
-  sed -e "s|/usr/bin/|$prefix/bin/|" -e "s|/usr/lib/|$prefix/lib/|" systemd/segcached.service >"$made/segcached.service"
+  sed -e "s|/usr/bin/segcached|$prefix/bin/segcached|" -e "s|/usr/lib/|$prefix/lib/|" systemd/segcached.service >"$made/segcached.service"
   sed "s|^probe=.*|probe=$prefix/lib/segcached/probe|" packaging/ready.sh >"$made/ready"
-  sed -e '1,2c # An instance of segcached; its options stand in /etc/default/segcached-NAME.' \
-    -e 's|^EnvironmentFile=.*|&-%i|' -e 's|^Description=segcached|& (%i)|' \
+  sed -e '1,3c # An instance of segcached; its options stand in /etc/default/segcached-NAME.' \
+    -e '/^EnvironmentFile=.*local$/d' -e 's| \$LOCAL||' \
+    -e 's|^EnvironmentFile=\(.*\)|# (without this file the program says that it has no address)\nEnvironmentFile=-\1-%i|' \
+    -e '/^# (without its options/d' -e '/^AssertPathExists=/d' -e 's|^Description=segcached|& (%i)|' \
     "$made/segcached.service" >"$made/segcached@.service"
+  sed -e "1s|-f .*|-f $documents/examples/Containerfile -t segcached $prefix|" \
+    -e 's|crates/segcached/out/segcached|bin/segcached|' -e 's|examples/probe.sh|lib/segcached/probe|' \
+    examples/Containerfile >"$made/Containerfile"
   for page in $pages; do
     sed -E -e 's|\]\(\.\./examples/|](examples/|g' -e 's/\[([^]]*)\]\('"($absent)"'\.md[^)]*\)/\1/g' docs/$page.md >"$made/$page.md"
   done
@@ -69,11 +84,15 @@ put)
   make_files
   each_file put_file
   # Options that somebody has written stay.
-  [ -e "$defaults" ] || install -D -m 644 packaging/segcached.default "$defaults"
+  for file in $defaults; do
+    [ -e "$(place_of "$file")" ] || install -D -m 644 "packaging/$file" "$(place_of "$file")"
+  done
   ;;
 remove)
   each_file remove_file
   rm -rf "${DESTDIR:-}$documents" "${DESTDIR:-}$prefix/lib/segcached"
-  if cmp -s packaging/segcached.default "$defaults"; then rm "$defaults"; fi
+  for file in $defaults; do
+    if cmp -s "packaging/$file" "$(place_of "$file")"; then rm "$(place_of "$file")"; fi
+  done
   ;;
 esac

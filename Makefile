@@ -9,7 +9,7 @@ run: ## shows a first answer, proves and builds segcached, replays the first scr
 serve: ## builds segcached and serves on 127.0.0.1:11211
 	@bash tools/serve.sh
 
-test: ## the gate: every proof from nothing, the wrong bodies that must be refused, the tests, sockets and clients
+test: ## the gate: every proof, the wrong bodies that must be refused, the tests, sockets and clients
 	@bash tools/gate.sh
 
 quick: ## for daily work: proves what changed since the last run, and runs the rows

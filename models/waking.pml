@@ -11,13 +11,16 @@
    once, since it is owed nothing then.
 
    Without SOCKETS the port is any that brings requests, nothing or its end, and nothing only where the worker may not wait.
+   With BY_WORKERS workers execute requests, and the storage thread does what they leave: one thread at a time holds the storage
+   side. A look at a lane is one step, with all that is executed then. Ports are left out; one that has no more requests ends at
+   once, or once no thread can go on. By then all that was posted has to be answered, since a bye would have it executed too.
    Each other name that is asked for by #ifdef makes a wrong protocol: tools/tests/test_waking.py has them refused. */
 
 #ifndef WORKERS
 #define WORKERS 2
 #endif
 #ifndef REQUESTS
-#define REQUESTS 2           /* the most of the first client; each further one has one less */
+#define REQUESTS 2           /* the most of the first client; each further one has one less, but with BY_WORKERS as many */
 #endif
 #ifndef WINDOW
 #define WINDOW 3             /* proto/limits.rt: WINDOW */
@@ -93,6 +96,177 @@ inline turn(parking) {                             /* exchange/idle_turns.rt: tu
   fi
 }
 
+#ifdef BY_WORKERS
+/* Who executes: a worker that has posted, or the storage thread. */
+
+bool is_held, is_wanted;                           /* storage_thread/sharing.rt: SharedStorage */
+byte counts[WORKERS], left = WORKERS;              /* storage_thread/side.rt: SideState */
+bool is_quiet;                                     /* no thread could go on */
+
+inline try_lock() {
+  atomic { if :: !is_held -> is_held = true; holds = true :: else fi }
+}
+
+inline try_hold() {                                /* storage_thread/sharing.rt: try_hold, try_twice */
+  try_lock();
+  if
+  :: !holds ->
+     is_wanted = true;
+#ifndef TRIES_ONCE
+     try_lock()
+#endif
+  :: else
+  fi;
+#ifndef TAKES_BACK_LATE
+  if :: holds -> is_wanted = false :: else fi
+#endif
+}
+
+inline put_back() {
+#ifdef TAKES_BACK_LATE
+  is_wanted = false;
+#endif
+  atomic { is_held = false; holds = false }
+}
+
+inline look_and_execute() {                        /* storage_thread/side.rt: serve_next */
+  d_step {
+    if
+    :: posted[lane] > counts[lane] ->
+       if :: posted[lane] == bye[lane] -> left-- :: else fi;
+       counts[lane] = posted[lane]; found = true; is_new = true
+    :: else -> lane++
+    fi
+  };
+  if
+  :: is_new ->
+     d_step { done[lane] = counts[lane]; is_new = false };
+     if :: lane != me -> unpark(worker_words[lane]) :: else fi;
+     lane++
+  :: !is_new
+  fi
+}
+
+inline execute_all() {                             /* storage_thread/side.rt: serve_turn */
+  do
+  :: lane < WORKERS ->
+     if
+     :: look_and_execute()
+     :: d_step {                                   /* storage_thread/side.rt: OTHERS_A_TURN */
+          me != NOBODY && lane != me && posted[lane] > counts[lane] -> may_leave = true; lane++
+        }
+     fi
+  :: else ->
+     atomic {
+       lane = 0; has_served = (me == NOBODY && (has_served || found));
+       if :: found && !may_leave -> found = false :: else -> found = false; is_done = (left == 0); break fi
+     }
+  od
+}
+
+inline look_again() {                              /* storage_thread/sharing.rt: is_wanted */
+#ifndef NO_LAST_LOOK
+  must_look = is_wanted
+#else
+  skip
+#endif
+}
+
+inline serve() {                                   /* storage_thread/sharing.rt: serve */
+  do
+  :: true ->
+     try_hold();
+     if :: !holds -> break :: else fi;
+     execute_all();
+#ifdef LOOKS_BEFORE_IT_PUTS_BACK
+     look_again(); put_back();
+#else
+     put_back(); look_again();
+#endif
+     if
+#ifndef LEAVES_UNTOLD
+     :: may_leave -> unpark(storage_word); break
+#else
+     :: may_leave -> break
+#endif
+#ifndef ENDS_UNTOLD
+     :: is_done && !may_leave -> unpark(storage_word); break
+#else
+     :: is_done && !may_leave -> break
+#endif
+     :: must_look && !may_leave && !is_done ->
+        if                                         /* storage_thread/sharing.rt: TURNS_IN_A_ROW */
+        :: !is_last -> atomic { is_last = true; must_look = false }
+        :: is_last -> unpark(storage_word); break
+        fi
+     :: !must_look && !may_leave && !is_done -> break
+     fi
+  od;
+  atomic { may_leave = false; is_done = false; must_look = false; has_served = false; is_last = false }
+}
+
+proctype storage() {                               /* storage_thread/sharing.rt: serve_beside */
+  byte me = NOBODY, lane, old_word;
+  bool holds, found, is_new, may_leave, is_done, has_served, must_look, announced;
+  do
+  :: true ->
+     if :: !holds -> try_hold() :: else fi;
+     if
+     :: holds ->
+        execute_all();                             /* storage_thread/serving.rt: serve_until_idle */
+        if :: is_done -> put_back(); break :: else fi;
+#ifndef PARKS_HOLDING
+        put_back();
+#ifndef PARKS_WITHOUT_A_LOOK
+        look_again()
+#endif
+#endif
+     :: else
+     fi;
+     if
+     :: has_served || must_look -> has_served = false; must_look = false; reset(storage_word)
+     :: else -> turn(storage_word)
+     fi
+  od
+}
+
+inline wait_for_answers() {                        /* worker/pauses.rt: turn */
+  do
+  :: done[me] == sent -> reset(worker_words[me]); break
+  :: else -> turn(worker_words[me])
+  od
+}
+
+proctype worker(byte me) {                         /* worker/run.rt: run_worker */
+  byte sent, lane, old_word;
+  bool holds, found, is_new, may_leave, is_done, is_last, has_served, must_look, announced;
+  do
+  :: sent < REQUESTS ->
+     d_step { sent++; posted[me] = sent };         /* exchange/worker.rt: flush */
+     if
+     :: unpark(storage_word)                       /* group/executing.rt: is_left */
+     :: serve()                                    /* group/executing.rt: posted */
+     fi;
+     if :: sent < REQUESTS :: wait_for_answers() fi   /* it may read on before */
+  :: sent == REQUESTS -> break
+  od;
+  wait_for_answers();
+  if :: true -> is_quiet :: true fi;
+  atomic { bye[me] = sent + 1; posted[me] = bye[me] };   /* exchange/steps.rt: put_bye */
+  serve()                                          /* worker/run.rt: leave */
+}
+
+proctype quiet() {
+  byte at;
+  timeout;
+  do
+  :: at < WORKERS -> assert(posted[at] == done[at]); at++
+  :: else -> break
+  od;
+  is_quiet = true
+}
+
+#else
 /* The storage thread. */
 
 inline flush_answers() {                           /* exchange/storage.rt: flush_answers */
@@ -105,7 +279,7 @@ inline flush_answers() {                           /* exchange/storage.rt: flush
   fi
 }
 
-inline unpark_told() {                             /* storage_thread/serving.rt: tell_workers, execute */
+inline unpark_told() {                             /* storage_thread/serving.rt: tell_workers */
   if
   :: told != NOBODY -> unpark(worker_words[told]); told = NOBODY
   :: else
@@ -190,7 +364,7 @@ proctype storage() {                               /* storage_thread/serving.rt:
         d_step { last = lane; counts[lane]++; done[lane] = counts[lane]; left-- };   /* exchange/storage.rt: take_named */
         reset(storage_word)
      :: found && !is_bye ->
-        last = lane; execute(); reset(storage_word)
+        last = lane; execute(); reset(storage_word)   /* storage_thread/side.rt: serve_next */
      :: !found -> turn(storage_word)               /* storage_thread/serving.rt: pass_turn */
      fi;
      d_step { found = false; is_bye = false; lane = 0 }
@@ -370,6 +544,8 @@ proctype worker(byte me) {                         /* worker/run.rt: run_worker 
 #endif
 }
 
+#endif
+
 #ifdef SOCKETS
 /* The listener and the clients. */
 
@@ -432,6 +608,9 @@ init {
   byte at;
   atomic {
     run storage();
+#ifdef BY_WORKERS
+    run quiet();
+#endif
 #ifdef SOCKETS
     run listener();
 #endif

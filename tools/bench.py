@@ -5,11 +5,10 @@
                    [--seconds S] [--program FILE] [--against FILE] [--tunables WORDS]
 
 memcached (of Debian) with 1, 2 and 4 threads stands beside `segcached serve` with 1, 2 and 3 workers. tools/speed.py measures how
-fast each is, by tools/load.c, which checks each answer; tools/beside_redis.py how many requests redis answers to a load of its own;
-then tools/misses.py measures misses at equal memory, and tools/hot_keys.py which keys in use are lost. --write puts the figures of
+fast each is, by tools/load.c, which checks each answer; then tools/misses.py measures misses at equal memory, and tools/hot_keys.py which keys in use are lost. --write puts the figures of
 all between the marks in docs/PERFORMANCE.md, pictures into docs/performance.svg and docs/misses.svg, and the tables of misses into
-out/bench.md. --quick runs each load once and briefly, with 2 workers. --only takes loads whose names have a WORD, and no misses,
-pauses or redis. --speed takes all but the misses, --misses these alone. In no other run are --segments, the misses of segcached by the
+out/bench.md. --quick runs each load once and briefly, with 2 workers. --only takes loads whose names have a WORD, and no misses
+or pauses. --speed takes all but the misses, --misses these alone. In no other run are --segments, the misses of segcached by the
 size of its segments, and --site, those of a site, which take two hours (or with --quick a minute). --program names another build to
 measure, --against one of segcached that takes memcached's place: a change for speed is judged by that, and ratios above 1 say that the
 program does more, or takes longer, than the one it is against. Loads with an option that the other build hasn't got are left out. --tunables gives the program that is measured another GLIBC_TUNABLES than the package.
@@ -23,7 +22,6 @@ import sys
 import tempfile
 import textwrap
 
-import beside_redis
 import hot_keys
 import misses
 import speed
@@ -96,7 +94,7 @@ def names_of(words):
 
 
 def speed_parts(load, words):
-    """The table of speed, two lines after it, and the table of redis; a whole run's picture with --write."""
+    """The table of speed, and two lines after it; a whole run's picture with --write."""
     called = names_of(words)
     names = list(called.values())
     runs = speed.Speed(load, list(called), words.rounds, words.seconds, say)
@@ -113,8 +111,6 @@ def speed_parts(load, words):
     parts = [speed.table(results, names)]
     if not words.only:
         parts.append([speed.pause_line(runs.pauses(), called), speed.idle_line(runs.idle(), called)])
-        if not words.against:
-            parts.append(beside_redis.table(beside_redis.rates(words.rounds, words.seconds, runs.shuffled), results))
     if words.write:
         speed.draw(results, names, f"{TOP}/docs/performance.svg")
     return parts
@@ -197,7 +193,7 @@ def read_words():
 
 def main():
     words = read_words()
-    missing = [it for it in ("memcached", "redis-server", "redis-benchmark", "gcc", "gnuplot") if not shutil.which(it)]
+    missing = [it for it in ("memcached", "gcc", "gnuplot") if not shutil.which(it)]
     if missing:
         sys.exit(f"bench: install {', '.join(missing)} first, as tools/bench.sh does")
     for program in (words.program, words.against):

@@ -2,7 +2,7 @@
 # Builds segcached and compares it with memcached of Debian. Words go to tools/bench.py: --quick for a look in a minute.
 set -eu
 cd "$(dirname "$0")/.."
-for package in memcached redis-server redis-tools gcc libc6-dev gnuplot-nox; do
+for package in memcached gcc libc6-dev gnuplot-nox; do
   dpkg -s "$package" >/dev/null 2>&1 || apt-get install -y --no-install-recommends "$package" >/dev/null
 done
 bash tools/build.sh

@@ -276,8 +276,12 @@ def filled(page, sources):
         return f"<!-- {keys} -->\n{textwrap.fill(f'*In {places}*', WIDTH)}\n\n```text\n{narrow(texts)}\n```\n"
 
     def contract(match):
-        clauses = "\n".join(sources.head_and_clauses(match[1])[1])
-        return f"<!-- contract {match[1]} -->\n```text\n{narrow(clauses)}\n```\n"
+        head, clauses, _ = sources.head_and_clauses(match[1])
+        first, _, rest = head.rstrip().partition("\n")
+        lines = [first, *textwrap.dedent(rest).splitlines()]
+        lines += [f"    {line}" for clause in clauses for line in clause.splitlines()]
+        text = "\n".join(lines)
+        return f"<!-- contract {match[1]} -->\n```text\n{narrow(text)}\n```\n"
 
     page = CONTRACT.sub(contract, ENTRY.sub(entry, page))
     counts = f"{counts_of(definitions)}, over {len(types)} types of the code."

@@ -15,7 +15,7 @@ version=$(python3 tools/proved.py package)
 work=$(mktemp -d)
 trap 'rm -rf "$work"' EXIT
 mkdir "$work/segcached"
-cp -r --parents debian docs examples packaging systemd tools $program crates/segcached/out/PROVED "$work/segcached"
+cp -r --parents CHANGELOG.md debian docs examples packaging systemd tools $program crates/segcached/out/PROVED "$work/segcached"
 maintainer=$(sed -n 's/^Maintainer: //p' debian/control)
 cat >"$work/segcached/debian/changelog" <<CHANGES
 segcached ($version) unstable; urgency=medium

@@ -1,5 +1,5 @@
 #!/usr/bin/env bash
-# The gate. `rt ci` proves every crate from nothing, and runs the tests and the programs. On the processors that it leaves idle each wrong body must be
+# The gate. `rt ci` proves every crate, but for what an earlier run on this machine proved of the same files, and runs the tests and the programs. On the processors that it leaves idle each wrong body must be
 # refused by the prover. Then each growth is refused in turn, and real sockets and real clients are tried against a served program, with nothing
 # beside. Each crate that is proved gets a line with the time so far; a table says what each crate cost, which is left in out/gate_minutes.tsv, too.
 # The last line is 'N passed, M failed'.
@@ -101,7 +101,7 @@ for file in tools/tests/test_*.py; do
   name=$(basename "$file" .py)
   [[ " ${untimed[*]} " == *" ${name#test_} "* ]] || part "$file" bash tools/tests.sh "$file"
 done
-part "hostile" python3 tools/hostile.py --program "$program" --late 10 \
+part "hostile" python3 tools/hostile.py --program "$program" --late 2 \
   --only fairness,unread,shared_counters,history,bad_peers,many_sessions,few_descriptors,refused_memory,little_memory,fuzz
 
 took="$(((SECONDS - began) / 60)) minutes on $(nproc) processors"

@@ -24,6 +24,7 @@ import traceback
 
 import served
 from served import OF_THE_PACKAGE, TOP, NotServing, Trouble, read_to_end, reset
+from standstills import Standstills
 
 PROGRAM = served.PROGRAM
 # The most seconds that six answers to the canary may take.
@@ -83,47 +84,6 @@ class Client:
             raise Trouble(f"after a value came {rest[:20]!r}")
         self.unread = rest[7:]
         return (value, int(words[4])) if verb == b"gets" else value
-
-
-class Standstills(multiprocessing.Process):
-    """Notes when a processor of the machine stood still, as a virtual one does while its host has other work: a thread of each processor
-    sleeps for a hundredth of a second again and again, and notes where it woke a tenth late."""
-
-    def __init__(self):
-        super().__init__(daemon=True)
-        self.is_over, (self.hears, self.says) = multiprocessing.Event(), multiprocessing.Pipe(False)
-        self.noted = []
-
-    def watch(self, processor):
-        os.sched_setaffinity(threading.get_native_id(), {processor})
-        while not self.is_over.is_set():
-            began = time.monotonic()
-            time.sleep(0.01)
-            ended = time.monotonic()
-            if ended - began > 0.11:
-                self.noted.append((began, ended))
-
-    def run(self):
-        threads = [threading.Thread(target=self.watch, args=(processor,)) for processor in os.sched_getaffinity(0)]
-        for thread in threads:
-            thread.start()
-        for thread in threads:
-            thread.join()
-        self.says.send(self.noted)
-
-    def stop(self):
-        self.is_over.set()
-        self.noted = sorted(self.hears.recv())
-        self.join()
-
-    def seconds_in(self, began, ended):
-        """For how long some processor stood still in this time."""
-        total, until = 0.0, began
-        for first, last in self.noted:
-            first, last = max(first, until), min(last, ended)
-            if last > first:
-                total, until = total + last - first, last
-        return total
 
 
 class Canary(multiprocessing.Process):

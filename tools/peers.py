@@ -32,9 +32,8 @@ OF_PYMEMCACHE = "/usr/lib/python3/dist-packages/pymemcache/test/test_integration
 OF_FAST = """big-value commands flush-all magic malformed namespace noreply nowait serialize utf8""".split()
 # The most seconds that one file of tests may take, and the test of a limit, which asks for two minutes.
 SECONDS, LIMIT_SECONDS = 120, 150
-# The most of 400 requests in two minutes that a limit of 100 a minute may let through: 100 for each of two counters of a minute, and those of the 11
-# seconds that are left then. The first counter lives 53 to 56 seconds, by how far its opening moment is rounded down, and the next one 56.
-MOST_PASSED = 237
+# Of 400 requests in two minutes a limit of 100 a minute lets so many through: 100 for each of two counters of a minute.
+PASSED = 200
 
 
 class Trouble(Exception):
@@ -151,7 +150,7 @@ def limits(program):
     with Server(program, *OF_THE_PACKAGE) as server:
         said = run(["/usr/bin/python3", "-B", f"{TOP}/tools/clients/limits_calls.py", str(server.port)], LIMIT_SECONDS).stdout
     print(f"limits: {said.strip()} of 400 requests passed")
-    return {"limits/100_a_minute": said.strip().isdigit() and 200 <= int(said) <= MOST_PASSED}
+    return {"limits/100_a_minute": said.strip() == str(PASSED)}
 
 
 def of_monitors(program):

@@ -18,7 +18,8 @@ import time
 TOP = os.path.dirname(os.path.dirname(os.path.abspath(__file__)))
 PROGRAM = f"{TOP}/crates/segcached/out/segcached"
 # The options of the package, but for the numbers of workers and segments.
-OF_THE_PACKAGE = ["--lenient", "--update-in-place", "--evict", "least-read", "--segment-size", "1048576"]
+OF_THE_PACKAGE = [
+    "--lenient", "--update-in-place", "--exact-ttls", "--evict", "least-read", "--storage", "workers", "--segment-size", "1048576"]
 
 
 class Trouble(Exception):

@@ -83,7 +83,8 @@ has_tight_units() {
   # (it also complains of units of this machine, which aren't the package's)
   systemd-analyze verify --man=no "$units"/* 2>&1 | grep -v '^/lib/systemd/system/' | tee "$work/complaints"
   [ ! -s "$work/complaints" ] || return 1
-  grep -qx 'EnvironmentFile=/etc/default/segcached-%i' "$units/segcached@one.service" || return 1
+  grep -qx 'EnvironmentFile=-/etc/default/segcached-%i' "$units/segcached@one.service" || return 1
+  grep -e LOCAL -e Assert "$units/segcached@one.service" && return 1
   for unit in "$units"/*; do
     systemd-analyze security --offline=true --threshold=20 "$unit" || return 1
   done
@@ -126,15 +127,17 @@ serves_as_its_user() {
   printf '#!/bin/sh\nexec chroot --userspec=segcached:segcached "%s" /usr/bin/segcached "$@"\n' "$root" \
     >"$work/installed"
   chmod +x "$work/installed"
-  options=$(sed -n 's/^OPTIONS=--listen 127.0.0.1:11211 //p' "$root/etc/default/segcached")
+  options=$(sed -n 's/^LOCAL=--listen 127.0.0.1:11211 //p' "$root/etc/default/segcached.local")
+  options+=" $(sed -n 's/^OPTIONS=//p' "$root/etc/default/segcached")"
   # shellcheck disable=SC2086  # (they are words)
-  [ -n "$options" ] && serve_on_free_port "$work/installed" $options || return 1
+  [[ $options == --workers*--lenient* ]] && serve_on_free_port "$work/installed" $options || return 1
   [ "$(stat -c %u "/proc/$server")" = "$(chroot "$root" id --user segcached)" ] || return 1
   exec 3<>"/dev/tcp/127.0.0.1/$port"
   printf 'set a 0 0 1\r\nx\r\nget a\r\nquit\r\n' >&3
   [ "$(cat <&3)" = $'STORED\r\nVALUE a 0 1\r\nx\r\nEND\r' ] || return 1
   exec 3>&-
   MAINPID=$server chroot "$root" /usr/lib/segcached/ready --listen "127.0.0.1:$port" || return 1
+  [ "$(chroot "$root" /usr/lib/segcached/taken --listen "0.0.0.0:$port")" = "127.0.0.1:$port" ] || return 1
   began=$(date +%s%N)
   kill -TERM "$server"
   wait "$server" || status=$?
@@ -183,17 +186,33 @@ leaves_nothing() {
   # (no unit takes options from this line)
   echo "# OPTIONS=--listen 127.0.0.1:11213" >"$options-none"
   chroot "$root" dpkg --remove segcached
-  [ ! -e "$root/usr/bin/segcached" ] && [ -e "$options" ] && [ -e "$options-one" ] && [ -e "$options-two-2" ] || return 1
+  [ ! -e "$root/usr/bin/segcached" ] || return 1
+  for kept in "$options" "$options.local" "$options-one" "$options-two-2"; do
+    [ -e "$kept" ] || return 1
+  done
   chroot "$root" dpkg --purge segcached
   list_files | diff "$work/before" - && ! ls "$root"/var/lib/dpkg/info/segcached*
+}
+
+# Each file that the container file takes stands below the prefix, from which it is built.
+has_what_a_container_takes() {
+  local file=$1/share/doc/segcached/examples/Containerfile taken
+  head -n 1 "$file" | grep -qF "docker build -f /opt/cache/share/doc/segcached/examples/Containerfile -t segcached /opt/cache" \
+    || return 1
+  taken=$(sed -n 's/^COPY \([^ ]*\) .*/\1/p' "$file")
+  [ "$(wc -l <<<"$taken")" -ge 2 ] || return 1
+  for part in $taken; do
+    [ -e "$1/$part" ] || return 1
+  done
 }
 
 installs_and_uninstalls() {
   local to=$work/to here=$work/to/opt/cache
   make install PREFIX=/opt/cache DESTDIR="$to" || return 1
   "$here/bin/segcached" --version
-  grep -q '^ExecStart=/opt/cache/bin/segcached ' "$here/lib/systemd/system/segcached.service" || return 1
+  grep -q '^ExecStart=/usr/bin/env [^ ]* /opt/cache/bin/segcached ' "$here/lib/systemd/system/segcached.service" || return 1
   grep -q '^ExecStartPost=/opt/cache/lib/segcached/ready ' "$here/lib/systemd/system/segcached.service" || return 1
+  has_what_a_container_takes "$here" || return 1
   man --warnings --local-file "$here/share/man/man1/segcached.1" 2>&1 >/dev/null | grep . && return 1
   printf 'stats\r\n' | "$here/share/doc/segcached/examples/script_of.py" refused - | grep '1 refused of 1' || return 1
   make uninstall PREFIX=/opt/cache DESTDIR="$to" || return 1
@@ -224,7 +243,10 @@ complete_words() {
 completes_words() {
   . packaging/segcached.bash
   [ "$(complete_words s)" = serve ] && [ "$(complete_words serve --seg)" = "--segment-size --segments" ] \
-    && [ "$(complete_words replay --fa)" = --fail-give ]
+    && [ "$(complete_words replay --fa)" = --fail-give ] \
+    && [ "$(complete_words serve --evict '')" = "oldest least-read" ] \
+    && [ "$(complete_words serve --evict = le)" = least-read ] && [ "$(complete_words serve --ex)" = --exact-ttls ] \
+    && [ -z "$(complete_words serve --workers '')" ]
 }
 
 [ $# -eq 0 ] || part python3 tools/proved.py write --log "$1"

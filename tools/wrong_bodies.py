@@ -108,10 +108,12 @@ class Said:
         words, errors = self.of(crate, path), self.errors_in(path)
         if not words:
             return Verdict(UNTRIED, f"the check has no line for {path}")
+        real = [it for it in errors if not LOST_NAME.search(it)]
+        if errors and not real and not PROVED.match(words):
+            return Verdict(LOST, errors[0])
         if not OPEN.match(words):
             return Verdict(MISSED, words)
-        real = [it for it in errors if not LOST_NAME.search(it)]
-        return Verdict(LOST, errors[0]) if errors and not real else Verdict(REFUSED, (real or [words])[0])
+        return Verdict(REFUSED, (real or [words])[0])
 
 
 def words_of(crate, asked):

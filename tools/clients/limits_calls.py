@@ -1,7 +1,7 @@
 #!/usr/bin/python3
 """limits, on which Flask-Limiter stands, against a server: a limit of 100 a minute, asked 400 times in two minutes. Usage: limits_calls.py PORT.
 
-It prints how many were let through: 200 by an exact clock, and some more since a counter of a minute ends a few seconds early.
+It prints how many were let through: 200 if a counter of a minute lasts one, and some more if it ends early.
 """
 import sys
 import time

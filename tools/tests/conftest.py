@@ -44,6 +44,12 @@ def serve(program):
         yield lambda *words, **named: servers.enter_context(served.Server(program, *words, **named))
 
 
+@pytest.fixture(params=["thread", "workers"])
+def storage(request):
+    """The words by which these threads execute requests."""
+    return "--storage", request.param
+
+
 @pytest.fixture
 def say(request):
     """Says a line after all tests."""

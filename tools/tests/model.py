@@ -7,7 +7,7 @@ import collections
 import itertools
 
 LASTING = 1024  # the bucket of what has no deadline
-VERSION = b"VERSION 1.6.0-segcached-0.6.0\r\n"
+VERSION = b"VERSION 1.6.0-segcached-0.7.0\r\n"
 BUCKETS = 1025
 # Lines that are answered without a look at the cache or at the clock.
 LOCAL = (b"version", b"verbosity")
@@ -61,6 +61,15 @@ def may_be_given(has, asked, now):
     return now < has <= asked and has + 2 * width > now + life
 
 
+def suits(has, own, now):
+    """Whether an item with a deadline of its own goes into a segment with another one: that is little earlier, or the same, and may have come."""
+    if None in (has, own):
+        return has is own
+    life = min(own - now, 8388608)
+    width, _ = width_and_lower_end(bucket_of(life))
+    return now < own and has <= own and (has + 2 * width > now + life or own - has <= (own - now) // 8)
+
+
 def may_stand_for(has, asked, now):
     """Whether an item with one deadline may stay where another is asked for: a write might have given it, or no more than an eighth of its life
     is missing."""
@@ -82,30 +91,35 @@ class Segment:
     def used(self):
         return sum(it.size for it in self.items)
 
-    def is_over(self, now):
-        return self.deadline is not None and self.deadline <= now
-
 
 class Item:
     def __init__(self, key, value, flags, cas, segment=None):
         self.key, self.value, self.flags, self.cas = key, value, flags, cas
-        self.reads, self.segment = 0, segment
+        self.reads, self.segment, self.own = 0, segment, None
         self.size = (24 + len(key) + len(value) + 7) // 8 * 8
+
+    @property
+    def deadline(self):
+        """Its own, or that of its segment."""
+        return self.segment.deadline if self.own is None else self.own
+
+    def is_over(self, now):
+        return self.deadline is not None and self.deadline <= now
 
 
 class Cache:
     """The cache, by lists: `order` are the segments of chains, as they were opened, but for those that merges moved."""
 
-    def __init__(self, segment_size, segments, is_least_read=False, is_in_place=False):
+    def __init__(self, segment_size, segments, is_least_read=False, is_in_place=False, is_exact=False):
         self.segment_size, self.free, self.order, self.cursor = segment_size, segments, [], 0
         self.segments, self.opens, self.is_least_read, self.is_in_place = segments, 0, is_least_read, is_in_place
-        self.current, self.cas, self.pending = {}, 0, None
+        self.current, self.cas, self.pending, self.is_exact = {}, 0, None, is_exact
         self.merges = self.clearings = self.given_back = 0
         self.counts = collections.Counter()
 
     def find(self, key, now):
         item = self.current.get(key)
-        return None if item is None or item.segment.is_over(now) else item
+        return None if item is None or item.is_over(now) else item
 
     def is_live(self, item, now):
         return self.find(item.key, now) is item
@@ -209,22 +223,26 @@ class Cache:
     def rewrite(self, item, value, now):
         """The item has this value from now on: where it stands, with its reads, if that is on and the size stays; else it is written anew."""
         if not self.is_in_place or Item(item.key, value, 0, 0).size != item.size:
-            return self.write(item.key, value, item.flags, life_of(item.segment.deadline, now), now)
+            return self.write(item.key, value, item.flags, life_of(item.deadline, now), now)
         self.cas += 1
         item.value, item.cas = value, self.cas
         item.segment.hits += 1
 
     def goes_over(self, item, ttl, now):
-        """Whether the item goes over the one of its key, and if so puts it there: by the rule of the least read, if both take as many bytes, and the
-        deadline there may be given."""
+        """Whether the item goes over the one of its key, and if so puts it there: by the rule of the least read, or where items have their own
+        deadlines, if both take as many bytes, and the item may have the deadline of that segment, or goes in there with its own."""
         there, asked = self.find(item.key, now), None if ttl is None else now + ttl
-        if not (self.is_least_read and there and there.size == item.size and may_be_given(there.segment.deadline, asked, now)):
+        if not ((self.is_least_read or self.is_exact) and there and there.size == item.size):
             return False
-        there.value, there.flags, there.cas = item.value, item.flags, item.cas
+        shared = there.segment.deadline
+        if not (may_be_given(shared, asked, now) or (self.is_exact and suits(shared, asked, now))):
+            return False
+        there.value, there.flags, there.cas, there.own = item.value, item.flags, item.cas, item.own
         there.segment.hits += 1
         return True
 
     def store(self, item, ttl, now):
+        item.own = now + ttl if self.is_exact and ttl is not None and now + ttl < 2**48 else None
         if self.goes_over(item, ttl, now):
             return
         key, bucket = item.key, bucket_of(ttl)
@@ -237,7 +255,7 @@ class Cache:
         self.current[key] = item
 
     def forget_expired(self, now):
-        for key in [key for key, item in self.current.items() if item.segment.is_over(now)]:
+        for key in [key for key, item in self.current.items() if item.is_over(now)]:
             del self.current[key]
             self.counts["reclaimed"] += 1
 
@@ -320,13 +338,14 @@ class Cache:
         return b"STORED\r\n"
 
     def touch(self, key, exptime, now):
-        """The item gets the deadline that is asked for, and stays where it is if its own may stand for that one."""
+        """The item gets the deadline that is asked for, and stays as it is if its own may stand for that one: where items have their own, only the
+        same one."""
         item, deadline = self.find(key, now), deadline_of(exptime, now)
         if item is None:
             return b"NOT_FOUND\r\n"
         if deadline is not None and deadline <= now:
             del self.current[key]
-        elif may_stand_for(item.segment.deadline, deadline, now):
+        elif item.deadline == deadline if self.is_exact else may_stand_for(item.deadline, deadline, now):
             item.segment.hits += 1
         else:
             self.store(Item(key, item.value, item.flags, item.cas), life_of(deadline, now), now)

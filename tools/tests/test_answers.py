@@ -9,6 +9,7 @@ import time
 
 import pytest
 import served
+import tries
 from asking import ask, hit
 from served import read_exactly
 
@@ -159,18 +160,39 @@ class Clients:
             thread.join()
 
 
+# How long the others may wait on a quiet machine, and how long they wait there if nobody asks for much, in seconds.
+MOST_WAIT, QUIET = 0.060, 0.015
+# On a busy machine, so many times as long as if nobody asks for much.
+ROOM = 8
+
+
+def longest_wait(server, ask_for_much):
+    """The longest that six others waited meanwhile."""
+    with Clients(server) as clients:
+        ask_for_much()
+    assert len(clients.waits) == 6
+    return max(clients.waits)
+
+
 def test_a_get_of_sixteen_thousand_large_values_costs_little(serve, say):
     """Of 1,988 MiB and 7.9 seconds, if all its hits were written. memcached lets six others wait for 45 ms."""
     line = b"get" + b" k" * 16_000 + b"\r\n"
     assert len(line) == 32_005
     server = serve("--lenient", "--segment-size", "1048576", "--segments", "64")
+
+    def ask_five_times():
+        for _ in range(5):
+            ask(stream, line, OUT_OF_MEMORY)
+
+    def attempt():
+        quiet, waited = longest_wait(server, lambda: time.sleep(0.2)), longest_wait(server, ask_five_times)
+        most = MOST_WAIT if quiet <= QUIET else ROOM * quiet
+        return waited <= most, f"the others waited {waited * 1e3:.0f} ms at most, and without it {quiet * 1e3:.0f}"
+
     with server.connect() as stream:
         ask(stream, b"set k 0 0 130000\r\n" + b"k" * 130_000 + b"\r\n", b"STORED\r\n")
-        with Clients(server) as clients:
-            for _ in range(5):
-                ask(stream, line, OUT_OF_MEMORY)
+        said = tries.in_two_of_three(attempt)
     mebibytes = server.kilobytes("VmHWM") / 1024
-    say(f"at most {mebibytes:.0f} MiB resident, the others waited {max(clients.waits) * 1e3:.0f} ms at most")
-    # (one of its 64 segments is resident; on a busy machine the others wait for longer than the 60 ms of a quiet one)
-    assert len(clients.waits) == 6 and max(clients.waits) < 2
+    say(f"at most {mebibytes:.0f} MiB resident, {said}")
+    # (one of its 64 segments is resident)
     assert mebibytes < 100

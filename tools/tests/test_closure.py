@@ -139,7 +139,8 @@ none yet
 FILLED = """# Page
 <!-- contract high/src/call.rt:other -->
 ```text
-requires { IsSmall n }
+fn other(n: u64)
+    requires { IsSmall n }
 ```
 It is small.
 <!-- low.Kinds.IsSmall low.Kinds.most -->
@@ -199,7 +200,7 @@ def test_with_several_contracts_what_the_first_rests_on_is_counted_too(tree):
 
 def test_the_headlines_page_has_what_its_contracts_rest_on():
     page = closure.read(f"{TOP}/{closure.PAGE}")
-    assert len(closure.contracts_of(page)) == 7
+    assert len(closure.contracts_of(page)) == 8
     now, wrong = closure.filled(page, closure.Sources(TOP))
     assert wrong == []
     assert now == page

@@ -45,6 +45,16 @@ def test_no_line_but_a_tables_is_wider_than_100_columns(page):
 @pytest.mark.parametrize("page", ["PROOFS", "ARCHITECTURE"])
 def test_what_is_quoted_stands_in_the_crates(page):
     sources = [it for it in FILES if re.search(r"/crates/\w+/(src|specs)/.*\.", it)]
-    known = re.findall(r"\w+", " ".join([*map(read, sources), *FILES]))
+    known = re.findall(r"\w+", " ".join([*map(read, [*sources, f"{TOP}/crates.txt"]), *FILES]))
     quoted = re.findall(r"\w\w+", " ".join(re.findall(r"`[^`]*`", prose(f"{TOP}/docs/{page}.md"))))
     assert set(quoted) - set(known) == set()
+
+
+def test_the_trusted_crates_are_those_that_no_crate_of_the_repository_is():
+    """The crates that crates.txt names as stood on, and that PROOFS lists as trusted."""
+    lines = [line.split(":") for line in read(f"{TOP}/crates.txt").splitlines() if re.match(r"\w", line)]
+    own = {name.split()[0] for name, _ in lines}
+    stood_on = {word for _, words in lines for word in words.split()} - own
+    said = re.search(r"and its crates (.*?)\. ", prose(f"{TOP}/docs/PROOFS.md").replace("\n", " "))[1]
+    listed = re.findall(r"`(\w+)`", said)
+    assert sorted(listed) == sorted(stood_on)

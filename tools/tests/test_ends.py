@@ -10,6 +10,7 @@ import time
 
 import pytest
 import served
+import tries
 from asking import ask, hit
 from served import read_exactly, read_till_closed, read_to_end
 
@@ -51,9 +52,9 @@ def half_closed(server, number, storing):
     return stream, requests, answers
 
 
-def test_a_client_that_sends_no_more_gets_all_answers_of_a_process_that_stood_still(serve):
+def test_a_client_that_sends_no_more_gets_all_answers_of_a_process_that_stood_still(serve, storage):
     """Some of them closed their sending half before the process stopped, and some while it stood still."""
-    server = serve("--workers", "2")
+    server = serve("--workers", "2", *storage)
     clients = [half_closed(server, number, storing=number % 2 == 0) for number in range(8)]
     for number, (stream, requests, _) in enumerate(clients):
         stream.sendall(b"".join(requests if number < 4 else requests[:1000]))
@@ -129,29 +130,44 @@ def descriptors(server):
     return len(os.listdir(f"/proc/{server.process.pid}/fd"))
 
 
-def test_one_that_quits_and_neither_closes_nor_sends_is_closed_after_two_seconds(serve):
-    server = serve("--workers", "1")
+def seconds_until_closed(server):
+    """How long a session that quits is held, whose client neither closes nor sends."""
     with server.connect() as stream:
         stream.sendall(b"get a\r\nquit\r\n")
         assert read_to_end(stream) == b"END\r\n"
         began, held = time.monotonic(), descriptors(server)
-        while descriptors(server) == held:
-            assert time.monotonic() - began < 10
-            time.sleep(0.05)
-        assert descriptors(server) == held - 1 and time.monotonic() - began > 1
+        while descriptors(server) == held and time.monotonic() - began < 10:
+            time.sleep(0.02)
+        took = time.monotonic() - began
+        assert descriptors(server) == held - 1 and took > 1
+        return took
+
+
+def test_one_that_quits_and_neither_closes_nor_sends_is_closed_after_two_seconds(serve):
+    server = serve("--workers", "1")
+    tries.all_in_time(lambda: seconds_until_closed(server), 2.4)
+
+
+def seconds_of_sending(server, say):
+    """How long one that quits and goes on is read."""
+    sent, piece = 0, bytes(1 << 16)
+    with server.connect() as stream:
+        stream.sendall(b"quit\r\n")
+        assert stream.recv(1) == b""
+        began = time.monotonic()
+        with contextlib.suppress(ConnectionResetError, BrokenPipeError):
+            while sent < 256 << 20:
+                sent += stream.send(piece)
+        took = time.monotonic() - began
+    say(f"{sent >> 20} MiB were sent")
+    assert sent < 128 << 20
+    return took
 
 
 def test_of_one_that_quits_and_goes_on_at_most_16_mib_are_read(serve, say):
     """And what waits in the system's buffers, tens of MB at most. After two seconds it is closed, however little came."""
-    sent, piece = 0, bytes(1 << 16)
-    with serve("--workers", "1").connect() as stream:
-        stream.sendall(b"quit\r\n")
-        assert stream.recv(1) == b""
-        with contextlib.suppress(ConnectionResetError, BrokenPipeError):
-            while sent < 256 << 20:
-                sent += stream.send(piece)
-    say(f"{sent >> 20} MiB were sent")
-    assert sent < 128 << 20
+    server = serve("--workers", "1")
+    tries.all_in_time(lambda: seconds_of_sending(server, say), 2.4)
 
 
 def test_each_of_twenty_that_send_too_much_sees_why_it_is_shut(serve):

@@ -6,6 +6,7 @@ import struct
 import threading
 import time
 
+import tries
 from asking import ask, hit
 from served import read_exactly, read_till_closed
 
@@ -146,12 +147,12 @@ def try_all(serve):
 
 
 def test_who_is_silent_or_reads_nothing_is_closed_and_no_one_else(serve):
-    """A busy machine may delay a client for as long as a silent one may be silent, so all is tried up to three times."""
-    for _ in range(3):
+    """A busy machine may delay a client for as long as a silent one may be silent, so two of three tries must succeed."""
+    def attempt():
         troubles = try_all(serve)
-        if not troubles:
-            return
-    raise troubles[0]
+        return not troubles, troubles
+
+    tries.in_two_of_three(attempt)
 
 
 # ---- what is owed to those that wait for longer than the limit

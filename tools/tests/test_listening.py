@@ -1,5 +1,6 @@
 """Where `segcached serve` listens: its first lines, its end after a number of sessions, and each refusal in its words."""
 import contextlib
+import ctypes
 import os
 import re
 import resource
@@ -21,8 +22,16 @@ def ended(program, *words, **streams):
     return done.returncode, done.stdout, done.stderr
 
 
-def cannot_listen(address):
-    return 1, b"", f"fault: cannot listen on {address}\n".encode()
+NO_ADDRESS = "not an IP address and a port"
+TAKEN = "the port is taken"
+DENIED = "permission denied"
+OTHER_MACHINE = "the address is not of this machine"
+FEW_DESCRIPTORS = "too few descriptors"
+
+
+def cannot_listen(address, cause):
+    """Status 2 says that the options are wrong, and 3 that the address can't be had."""
+    return 2 if cause == NO_ADDRESS else 3, b"", f"fault: cannot listen on {address}: {cause}\n".encode()
 
 
 def test_it_prints_its_real_port_and_ends_after_its_sessions(serve):
@@ -37,8 +46,10 @@ def test_it_prints_its_real_port_and_ends_after_its_sessions(serve):
 
 @pytest.mark.parametrize("words, in_force", [
     ("", "--workers 2 --segment-size 65536 --segments 64"),
-    ("--segments 9 --lenient --spin 0 --update-in-place --idle 60 --sessions 3 --segment-size 4096 --workers 3",
-     "--workers 3 --segment-size 4096 --segments 9 --sessions 3 --idle 60 --spin 0 --lenient --update-in-place"),
+    ("--segments 9 --lenient --spin 0 --storage workers --update-in-place --exact-ttls --idle 60 --sessions 3 --connections 65536 "
+     "--segment-size 4096 --workers 3",
+     "--workers 3 --segment-size 4096 --segments 9 --connections 65536 --sessions 3 --idle 60 --spin 0 --storage workers --exact-ttls "
+     "--lenient --update-in-place"),
 ], ids=["the least options", "all options"])
 def test_it_says_on_standard_error_first_which_options_are_in_force(serve, words, in_force):
     errors = serve(*words.split()).process.stderr
@@ -95,6 +106,103 @@ def test_those_that_wait_for_a_full_worker_are_served_after_the_last_one_was_acc
     assert server.wait() == 0
 
 
+TOO_MANY = b"ERROR Too many open connections\r\n"
+# How many connections one worker serves, how many wait for it, and how many probes get in beside these.
+SERVED, WAITING, PROBES = 1024, 64, 4
+
+
+@pytest.fixture
+def full(serve):
+    """A server whose worker serves all that it can, these connections, and how to open more."""
+    server = serve("--lenient", "--workers", "1")
+    with contextlib.ExitStack() as streams:
+        connect = lambda: streams.enter_context(server.connect())
+        opened = [connect() for _ in range(SERVED)]
+        for stream in opened:
+            ask(stream, b"get a\r\n", b"END\r\n")
+        yield server, opened, connect
+
+
+def are_silent(streams):
+    """Whether nothing comes of these for a while. (`select` takes no number of a descriptor above 1,023)"""
+    poll = select.poll()
+    for stream in streams:
+        poll.register(stream, select.POLLIN)
+    return not poll.poll(300)
+
+
+def test_one_for_which_there_is_no_room_is_told_so(full):
+    """Also one that has sent a request already. Those that wait are served in their turn."""
+    _, opened, connect = full
+    waiting = [connect() for _ in range(WAITING)]
+    refused = [connect() for _ in range(10)]
+    for stream in refused[5:]:
+        stream.sendall(b"get a\r\n" * 100)
+    began = time.monotonic()
+    assert [read_to_end(stream) for stream in refused] == [TOO_MANY] * 10
+    assert time.monotonic() - began < 3
+    for stream in waiting:
+        stream.sendall(b"get a\r\n")
+    assert are_silent(waiting)
+    for stream in opened[:WAITING]:
+        stream.close()
+    for stream in waiting:
+        assert stream.recv(5) == b"END\r\n"
+
+
+@pytest.mark.parametrize("request_line, answer", [
+    (b"get health\r\n", b"END\r\n"), (b"version\r\n", b"VERSION "), (b"stats\r\n", b"STAT "),
+], ids=["get health", "version", "stats"])
+def test_probes_get_in_while_it_is_full(full, request_line, answer):
+    """Once as many have come as there are places for, a further one gets in when one of these has gone."""
+    *_, connect = full
+    # (they connect, and ask later)
+    probes = [connect() for _ in range(PROBES + 1)]
+    time.sleep(0.2)
+    for stream in probes[:PROBES]:
+        stream.sendall(request_line)
+        assert stream.recv(len(answer)) == answer
+    probes[PROBES].sendall(request_line)
+    assert are_silent([probes[PROBES]])
+    probes[0].close()
+    assert probes[PROBES].recv(len(answer)) == answer
+
+
+@pytest.mark.parametrize("connections, workers", [(3, 1), (3, 2), (1500, 1)])
+def test_a_worker_serves_as_many_connections_as_it_is_told(serve, connections, workers):
+    server = serve("--connections", str(connections), "--workers", str(workers))
+    with contextlib.ExitStack() as streams:
+        opened = [streams.enter_context(server.connect()) for _ in range(connections * workers)]
+        for stream in opened:
+            ask(stream, b"get a\r\n", b"END\r\n")
+        with server.connect() as waiting:
+            waiting.sendall(b"get a\r\n")
+            assert are_silent([waiting])
+            opened[-1].close()
+            assert waiting.recv(5) == b"END\r\n"
+
+
+def test_another_request_gets_in_no_sooner(full):
+    *_, connect = full
+    for _ in range(WAITING):
+        connect()
+    stream = connect()
+    stream.sendall(b"get healt\r\nstats\r\nget health\r\n")
+    assert read_to_end(stream) == TOO_MANY
+
+
+def test_the_probe_passes_a_full_server(full):
+    """Also while connections beyond those that wait come without end."""
+    server, _, connect = full
+    probe = [f"{served.TOP}/examples/probe.sh", "127.0.0.1", str(server.port)]
+    for _ in range(WAITING):
+        connect()
+    assert subprocess.run(probe, timeout=20).returncode == 0
+    for _ in range(300):
+        connect()
+    assert subprocess.run(probe, timeout=20).returncode == 0
+
+
 def test_standard_error_that_nobody_reads_stops_nothing(program):
     """What it has to say there, of connections that it can't accept too, finds a pipe that is full."""
     reading, writing = os.pipe()
@@ -128,40 +236,57 @@ def test_it_serves_over_ipv6(serve):
     "127.0.0.1:0 ", ":0", "[::1:0", "",
 ])
 def test_what_is_no_address_with_a_port_is_refused(program, address):
-    assert ended(program, "--listen", address) == cannot_listen(address)
+    assert ended(program, "--listen", address) == cannot_listen(address, NO_ADDRESS)
 
 
 # (the first is of a network for examples, which no machine has)
 @pytest.mark.parametrize("address", ["192.0.2.1:0", "[2001:db8::1]:0"])
 def test_an_address_of_another_machine_is_refused(program, address):
-    assert ended(program, "--listen", address) == cannot_listen(address)
+    assert ended(program, "--listen", address) == cannot_listen(address, OTHER_MACHINE)
 
 
 def test_a_port_that_another_server_has_is_refused(program, serve):
     address = f"127.0.0.1:{serve().port}"
-    assert ended(program, "--listen", address) == cannot_listen(address)
+    assert ended(program, "--listen", address) == cannot_listen(address, TAKEN)
 
 
 def test_a_port_that_another_program_has_is_refused(program):
     with socket.create_server(("127.0.0.1", 0)) as other:
         address = f"127.0.0.1:{other.getsockname()[1]}"
-        assert ended(program, "--listen", address) == cannot_listen(address)
+        assert ended(program, "--listen", address) == cannot_listen(address, TAKEN)
+
+
+PR_CAPBSET_DROP, CAP_NET_BIND_SERVICE = 24, 10
+
+
+def without_low_ports():
+    """What is executed from here on may not bind ports that the system keeps for the privileged."""
+    dropped = ctypes.CDLL(None).prctl(PR_CAPBSET_DROP, CAP_NET_BIND_SERVICE, 0, 0, 0)
+    assert dropped == 0 or os.geteuid() != 0
+
+
+def test_a_port_that_it_may_not_use_is_refused(program):
+    with open("/proc/sys/net/ipv4/ip_unprivileged_port_start", encoding="ascii") as file:
+        if int(file.read()) < 2:
+            pytest.skip("anybody may use any port here")
+    found = ended(program, "--listen", "127.0.0.1:1", preexec_fn=without_low_ports)
+    assert found == cannot_listen("127.0.0.1:1", DENIED)
 
 
 # (three are the standard streams; the listener has a socket and its poll, and each of two workers a poll and a pair of sockets)
 @pytest.mark.parametrize("descriptors", range(4, 11))
 def test_without_descriptors_for_all_that_listens_it_is_refused(program, descriptors):
     limit = lambda: resource.setrlimit(resource.RLIMIT_NOFILE, (descriptors, descriptors))
-    assert ended(program, "--listen", "127.0.0.1:0", preexec_fn=limit) == cannot_listen("127.0.0.1:0")
+    assert ended(program, "--listen", "127.0.0.1:0", preexec_fn=limit) == cannot_listen("127.0.0.1:0", FEW_DESCRIPTORS)
 
 
 def test_a_line_feed_in_the_address_is_shown_as_two_characters(program):
-    assert ended(program, "--listen", "127.0.0.1\n:0") == cannot_listen("127.0.0.1\\n:0")
+    assert ended(program, "--listen", "127.0.0.1\n:0") == cannot_listen("127.0.0.1\\n:0", NO_ADDRESS)
 
 
 def test_a_bad_geometry_is_told_before_a_bad_address(program):
     for address in ("127.0.0.1:0", "nothing"):
-        assert ended(program, "--listen", address, "--segment-size", "5000") == (1, b"", b"fault: bad geometry\n")
+        assert ended(program, "--listen", address, "--segment-size", "5000") == (2, b"", b"fault: bad geometry\n")
 
 
 def test_where_the_first_line_cannot_be_written_it_ends(program):

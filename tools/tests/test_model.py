@@ -3,7 +3,8 @@
 Each answer is the same byte for byte, and a `stats` is told what the model counted. Long runs over small pools give back, merge and clear
 all the time, and a tick between requests lets entries expire. Short ones are chosen by hypothesis, which shortens what fails. Some of
 either kind are in the lenient dialect, with spaces before the ends of lines, and with what that dialect alone takes; the long ones in the
-strict dialect have such requests too, which are refused. Half evict the least read segment, and half change values in place.
+strict dialect have such requests too, which are refused. Half evict the least read segment, half change values in place, and some of each
+kind keep deadlines to the second.
 """
 import concurrent.futures
 import itertools
@@ -102,20 +103,20 @@ RUNS = (
     (4096, 23, 1, 1500, (0, 0, 0, 50, 200, 400), []),
 )
 REQUESTS = 40_000
-LEAST_READ, IN_PLACE = ["--evict", "least-read"], ["--update-in-place"]
+LEAST_READ, IN_PLACE, EXACT = ["--evict", "least-read"], ["--update-in-place"], ["--exact-ttls"]
 
 
 def long_run(program, number):
     """How often the model merged, cleared and gave back segments."""
     segment_size, segments, tick, keys, ttls, dialect = RUNS[number % len(RUNS)]
-    is_least_read, is_in_place = number % 2 == 1, number // 2 % 2 == 1
-    chance, cache = random.Random(number), Cache(segment_size, segments, is_least_read, is_in_place)
+    is_least_read, is_in_place, is_exact = number % 2 == 1, number // 2 % 2 == 1, number % 3 == 1
+    chance, cache = random.Random(number), Cache(segment_size, segments, is_least_read, is_in_place, is_exact)
     requests = (random_request(chance, keys, ttls) for _ in range(REQUESTS))
     # (a lenient one ends with a `stats`)
     requests = itertools.chain(requests, [(b"stats",)] * bool(dialect))
     sent, wanted = spelled(cache, requests, tick, bool(dialect))
     sent = with_spaces(sent) if dialect else sent
-    options = dialect + LEAST_READ * is_least_read + IN_PLACE * is_in_place
+    options = dialect + LEAST_READ * is_least_read + IN_PLACE * is_in_place + EXACT * is_exact
     must_be_answered_as(wanted, replay_over(program, sent, segment_size, segments, tick, *options), sent)
     return cache.merges, cache.clearings, cache.given_back
 
@@ -185,15 +186,15 @@ def lenient_form(request):
 
 
 @settings(max_examples=100)
-@given(SIZES, st.sampled_from([0, 1, 3, 40]), SCRIPTS, st.booleans(), st.booleans(), st.booleans())
-def test_any_requests_are_answered_as_by_the_model(program, sizes, tick, parts, is_lenient, is_least_read, is_in_place):
+@given(SIZES, st.sampled_from([0, 1, 3, 40]), SCRIPTS, st.booleans(), st.booleans(), st.booleans(), st.booleans())
+def test_any_requests_are_answered_as_by_the_model(program, sizes, tick, parts, is_lenient, is_least_read, is_in_place, is_exact):
     # (the last one shows all that is left)
     requests = sum(parts, []) + reads(0, ALL_KEYS)
-    cache = Cache(*sizes, is_least_read, is_in_place)
+    cache = Cache(*sizes, is_least_read, is_in_place, is_exact)
     if is_lenient:
         sent, wanted = spelled(cache, [*map(lenient_form, requests), (b"stats",)], tick, True)
         sent, dialect = with_spaces(sent), ["--lenient"]
     else:
         (sent, wanted), dialect = spelled(cache, requests, tick, False), []
-    options = dialect + LEAST_READ * is_least_read + IN_PLACE * is_in_place
+    options = dialect + LEAST_READ * is_least_read + IN_PLACE * is_in_place + EXACT * is_exact
     must_be_answered_as(wanted, replay_over(program, sent, *sizes, tick, *options), sent)

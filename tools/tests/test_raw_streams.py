@@ -10,11 +10,12 @@ import re
 TOP = os.path.dirname(os.path.dirname(os.path.dirname(os.path.abspath(__file__))))
 SOURCES = f"{TOP}/crates/net/src"
 
-# The calls of each type that has a raw stream, or makes one. A served stream's bytes are logged by `read` and `write`.
+# The calls of each type that has a raw stream, or makes one. A served stream's bytes are logged by `read` and `write`. Of a new one the first
+# bytes are looked at, which leaves them there; or it is refused, and closed.
 CALLS = {
     "sockets.rt": {
         "Acceptor": {"bind", "register", "accept"},
-        "NewStream": {"serve"},
+        "NewStream": {"serve", "has_probe", "refuse"},
         "EndedStream": {"of", "drain"},
     },
     "sockets/logged_stream.rt": {"LoggedStream": {"new", "into_stream", "read", "write"}},

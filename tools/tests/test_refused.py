@@ -53,6 +53,15 @@ def test_a_refused_request_for_memory_changes_nothing_that_is_written(refuse, sa
     assert number > 1
 
 
+def test_if_a_thread_is_refused_none_of_its_group_begins(refuse):
+    """Of refused_growth, whose ports and clocks count how often they are asked. It runs a group of three threads twice."""
+    with open(f"{REFUSED_GROWTH}/stdout", "rb") as file:
+        wanted = file.read()
+    for number, _, ran in refuse("REFUSE_THREAD", f"{REFUSED_GROWTH}/out/refused_growth"):
+        assert (ran.returncode, ran.stdout) == (0, wanted), f"thread {number}"
+    assert number - 1 == 6
+
+
 def beginnings(lines):
     """The first two words of each line: a session's bytes may be others if memory was refused."""
     return [line.split(b" ")[:2] for line in lines.splitlines()]

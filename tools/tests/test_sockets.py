@@ -18,8 +18,8 @@ def pipeline(stream, request, times):
 # ---- many at once
 
 @pytest.mark.parametrize("workers", [1, 2])
-def test_a_burst_of_a_thousand_is_served(serve, workers):
-    server = serve("--workers", str(workers))
+def test_a_burst_of_a_thousand_is_served(serve, workers, storage):
+    server = serve("--workers", str(workers), *storage)
     streams = []
     for _ in range(1000):
         stream = socket.socket()
@@ -52,11 +52,11 @@ def test_the_next_session_waits_until_one_of_1024_ends(serve):
     answer = hit(b"key7", b"x")
     assert read_exactly(late, len(answer)) == answer
     ask_set_and_get(streams[6], b"key6")
-    # 64 wait for the worker; the next one is closed after a while.
+    # 64 wait for the worker; the next one is told that there are too many, and closed after a while.
     waiting = [server.connect() for _ in range(64)]
     too_many = server.connect()
     began = time.monotonic()
-    assert read_to_end(too_many) == b""
+    assert read_to_end(too_many) == b"ERROR Too many open connections\r\n"
     assert time.monotonic() - began < 10
     for stream in [*waiting, *streams, late, too_many]:
         stream.close()
@@ -74,9 +74,9 @@ def test_a_request_may_come_one_byte_at_a_time(serve):
         assert read_exactly(stream, len(answer)) == answer
 
 
-def test_sixty_thousand_in_a_pipeline_are_answered_where_the_reader_stops_meanwhile(serve):
+def test_sixty_thousand_in_a_pipeline_are_answered_where_the_reader_stops_meanwhile(serve, storage):
     times = 60_000
-    with serve("--workers", "1").connect(receive_buffer=8192) as stream:
+    with serve("--workers", "1", *storage).connect(receive_buffer=8192) as stream:
         ask(stream, b"set a 0 0 100\r\n" + b"v" * 100 + b"\r\n", b"STORED\r\n")
         answer = hit(b"a", b"v" * 100)
         sender = pipeline(stream, b"get a\r\n", times)
@@ -165,9 +165,9 @@ def test_a_thousand_resets_in_the_middle_of_a_request_harm_nobody(serve):
 
 # ---- waiting
 
-def test_a_lone_client_is_answered_soon_after_a_pause(serve, say):
+def test_a_lone_client_is_answered_soon_after_a_pause(serve, say, storage):
     """In some 100 microseconds, on a quiet machine; a storage thread that nobody wakes sleeps for 100 milliseconds."""
-    with serve("--workers", "2").connect() as stream:
+    with serve("--workers", "2", *storage).connect() as stream:
         took = []
         for _ in range(100):
             time.sleep(0.01)
@@ -180,8 +180,8 @@ def test_a_lone_client_is_answered_soon_after_a_pause(serve, say):
     assert took[25] < 0.05
 
 
-def test_an_idle_server_takes_no_processor_time(serve, say):
-    server = serve("--workers", "4")
+def test_an_idle_server_takes_no_processor_time(serve, say, storage):
+    server = serve("--workers", "4", *storage)
     with server.connect() as stream:
         ask_set_and_get(stream, b"a")
         time.sleep(0.2)

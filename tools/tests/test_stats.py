@@ -12,6 +12,7 @@ import memcache
 import pytest
 from asking import ask
 from pymemcache.client.base import Client
+from stats_of import told, wait_for
 
 TOO_LARGE = b"SERVER_ERROR object too large for cache\r\n"
 BAD_LINE = b"CLIENT_ERROR bad command line format\r\n"
@@ -21,19 +22,6 @@ NEEDED = """pid uptime time version pointer_size curr_connections total_connecti
     touch_hits touch_misses bytes_read bytes_written limit_maxbytes bytes curr_items total_items evictions reclaimed""".split()
 KINDS = "get gets set add replace append prepend cas delete incr decr touch".split()
 TURNS = 400
-
-
-def told(stream):
-    """What a `stats` is told, by name."""
-    stream.sendall(b"stats\r\n")
-    got = b""
-    while not got.endswith(b"END\r\n"):
-        got += stream.recv(65536)
-    lines = [line.split(b" ") for line in got.split(b"\r\n")[:-2]]
-    assert all(len(it) == 3 and it[0] == b"STAT" for it in lines)
-    names = [it[1].decode() for it in lines]
-    assert len(set(names)) == len(names)
-    return {name: it[2].decode() for name, it in zip(names, lines)}
 
 
 class Counting:
@@ -124,8 +112,8 @@ class Counting:
 
 
 @pytest.mark.parametrize("workers", ["1", "3"])
-def test_counts_are_those_of_all_connections(serve, workers):
-    server = serve("--lenient", "--workers", workers, "--segment-size", "1048576")
+def test_counts_are_those_of_all_connections(serve, workers, storage):
+    server = serve("--lenient", "--workers", workers, "--segment-size", "1048576", *storage)
     clients = [Counting(server, number) for number in range(6)]
     threads = [threading.Thread(target=it.run) for it in clients]
     for it in threads:
@@ -159,17 +147,6 @@ def test_what_is_evicted_is_counted(serve):
 
 # ---- gauges
 
-def wait_for(stream, **wanted):
-    """Asks until these gauges are told: what another worker did last may not be told yet."""
-    until = time.monotonic() + 10
-    while True:
-        found = told(stream)
-        if all(found[name] == str(it) for name, it in wanted.items()) or time.monotonic() > until:
-            assert {name: found[name] for name in wanted} == {name: str(it) for name, it in wanted.items()}
-            return found
-        time.sleep(0.05)
-
-
 def wait_for_output(stream, size):
     """Asks until so many bytes of output wait for all clients together."""
     until = time.monotonic() + 10
@@ -184,7 +161,7 @@ def test_connections_are_told(serve):
         opened = [others.enter_context(server.connect()) for _ in range(6)]
         for it in opened:
             ask(it, b"get none\r\n", b"END\r\n")
-        found = wait_for(stream, curr_connections=7, total_connections=7, connections_left=2 * 16777216 - 7)
+        found = wait_for(stream, curr_connections=7, total_connections=7, max_connections=2 * 1024, accepting_conns=1)
         assert int(found["curr_connections_0"]) + int(found["curr_connections_1"]) == 7 and "curr_connections_2" not in found
         assert int(found["pid"]) == server.process.pid and found["requests_in_flight"] == "1"
         for it in opened[:4]:
@@ -193,7 +170,7 @@ def test_connections_are_told(serve):
 
 
 def test_full_workers_are_told(serve):
-    """Of 74 connections beside the 1,024 of one worker 64 wait for it, and the others are closed after a second."""
+    """Of 74 connections beside the 1,024 of one worker 64 wait for it, and the others are refused after a second."""
     server = serve("--lenient", "--workers", "1")
     with contextlib.ExitStack() as streams:
         opened = [streams.enter_context(server.connect()) for _ in range(1024)]
@@ -287,14 +264,18 @@ def test_what_is_refused_is_told(serve):
         "unknown_commands": "2", "bad_lines": "2", "store_too_large": "2"}
 
 
-def test_busy_times_are_told(serve):
-    server = serve("--lenient", "--workers", "2")
+def test_storage_is_busy_as_long_as_it_executes(serve, storage):
+    """Each request looks up sixteen thousand keys, and comes when all threads wait."""
+    server, asked = serve("--lenient", "--workers", "1", *storage), b"get" + b" a" * 16_000 + b"\r\n"
     with server.connect() as stream:
-        first = {name: int(it) for name, it in told(stream).items() if "_busy_us" in name}
-        time.sleep(1)
-        second = {name: int(it) for name, it in told(stream).items() if "_busy_us" in name}
-    assert set(first) == {"storage_busy_us", "worker_busy_us_0", "worker_busy_us_1"}
-    assert all(0 <= second[name] - first[name] < 300_000 for name in first)
+        before, took = int(told(stream)["storage_busy_us"]), 0.0
+        for _ in range(100):
+            time.sleep(0.003)
+            start = time.monotonic()
+            ask(stream, asked, b"END\r\n")
+            took += time.monotonic() - start
+        busy = (int(told(stream)["storage_busy_us"]) - before) / 1e6
+    assert took / 20 < busy <= took * 1.2, (busy, took)
 
 
 ROWS = {

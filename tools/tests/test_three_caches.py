@@ -47,21 +47,25 @@ class PymemcacheHash:
 
 
 class LibmemcachedKetama:
-    """libmemcached's ketama: a cache that has failed is left out, and its keys go to the others."""
+    """libmemcached's ketama: a cache that has failed once is left out for a while, and its keys go to the others."""
 
     def __init__(self, ports):
-        behaviors = {"ketama": True, "remove_failed": 1, "retry_timeout": 1, "connect_timeout": 10000}
+        behaviors = {"ketama": True, "remove_failed": 1, "failure_limit": 1, "dead_timeout": 60, "connect_timeout": 10000}
         self.client = pylibmc.Client([f"127.0.0.1:{port}" for port in ports], behaviors=behaviors)
 
     def set(self, key, value):
-        return self.client.set(key, value)
+        return self.repeat(lambda: self.client.set(key, value))
 
     def get(self, key):
+        return self.repeat(lambda: self.client.get(key))
+
+    @staticmethod
+    def repeat(call):
         # (the first calls after the cache has gone raise, until it is left out)
-        for _ in range(5):
+        for _ in range(4):
             with contextlib.suppress(pylibmc.Error):
-                return self.client.get(key)
-        return None
+                return call()
+        return call()
 
 
 @pytest.mark.parametrize("spread", [PymemcacheHash, LibmemcachedKetama])
@@ -79,6 +83,8 @@ def test_a_client_that_spreads_keys_loses_those_of_a_stopped_cache_alone(caches,
     lost = {key for key, value in got.items() if value is None}
     assert all(value == wanted[key] for key, value in got.items() if key not in lost)
     assert lost and lost <= shares[1]
+    assert all(client.set(key, wanted[key]) for key in lost)
+    assert {key: client.get(key) for key in wanted} == wanted
     say(f"shares of {[len(it) for it in shares[:3]]}; a fourth cache moves {100 * moved // len(wanted)} of 100 keys; "
         f"one stopped: {len(lost)} of its {len(shares[1])} keys are missed, and none of the others'")
 

@@ -1,5 +1,6 @@
 """What docs/CLIENTS.md and docs/OPERATIONS.md say of a served program, sentence by sentence."""
 import os
+import re
 import signal
 import socket
 import subprocess
@@ -158,8 +159,35 @@ def test_a_service_counts_as_started_once_it_answers(serve, listen):
 def test_a_service_that_has_ended_is_not_started_where_another_server_has_its_port(program, serve):
     address = f"127.0.0.1:{serve().port}"
     with served.Process([program, "serve", "--listen", address]) as second:
-        assert second.process.wait(10) == 1
+        assert second.process.wait(10) == 3
         assert not is_ready(second, "--listen", address)
+
+
+def test_a_taken_port_is_seen_before_a_start(serve):
+    taken = [f"{served.TOP}/packaging/taken.sh", "--workers", "2", "--listen"]
+    address = f"127.0.0.1:{serve().port}"
+    done = subprocess.run([*taken, address], stdout=subprocess.PIPE, text=True, timeout=20)
+    assert (done.returncode, done.stdout) == (0, f"{address}\n")
+    for free in (f"127.0.0.1:{served.free_port()}", "127.0.0.1:0"):
+        assert subprocess.run([*taken, free], timeout=20).returncode == 1
+
+
+def ignored_signals(file):
+    """The words before the program by which a unit or a container file has it ignore signals."""
+    with open(f"{served.TOP}/{file}", encoding="utf-8") as text:
+        return re.search(r"(/usr/bin/env)\W+(--ignore-signal=[A-Z0-9,]+)\W+/usr/(?:local/)?bin/segcached\b", text.read()).groups()
+
+
+@pytest.mark.parametrize("file", ["systemd/segcached.service", "examples/Containerfile"])
+def test_started_as_a_service_it_ignores_what_nobody_expects_to_end_it(program, file):
+    with served.Process([*ignored_signals(file), program, "serve", "--listen", "127.0.0.1:0"]) as server:
+        port = int(server.process.stdout.readline().rpartition(":")[2])
+        for number in (signal.SIGHUP, signal.SIGUSR1, signal.SIGUSR2):
+            server.process.send_signal(number)
+        with socket.create_connection(("127.0.0.1", port), 20) as stream:
+            ask(stream, b"get a\r\n", b"END\r\n")
+        server.process.terminate()
+        assert server.process.wait(1) == -signal.SIGTERM
 
 
 @pytest.mark.parametrize("number", [signal.SIGHUP, signal.SIGINT, signal.SIGTERM])

@@ -6,11 +6,13 @@ import pytest
 from served import TOP
 
 MODEL = f"{TOP}/models/waking.pml"
-# Two workers over ports that are no sockets; one worker over sockets, with a listener and a client.
+# Two workers over ports that are no sockets; two that execute requests; one worker over sockets, with a listener and a client.
 LANES = ("-DWORKERS=2", "-DREQUESTS=2")
+BY_WORKERS = ("-DWORKERS=2", "-DREQUESTS=1", "-DBY_WORKERS")
 SOCKETS = ("-DWORKERS=1", "-DREQUESTS=3", "-DSOCKETS")
 SLEEPS = "invalid end state"
 TELLS_LATE = "assertion violated (untold<2)"
+UNSERVED = "assertion violated (posted[at]==done[at])"
 # Each wrong protocol, where it is tried, and what spin says of it.
 WRONG = {
     "NO_SECOND_LOOK": (LANES, SLEEPS),
@@ -20,6 +22,14 @@ WRONG = {
     "BYE_WITHOUT_WAKE": (LANES, SLEEPS),
     "UNPARK_BEFORE_TELL": (LANES, SLEEPS),
     "TELLS_EIGHTHS_ALONE": (LANES, TELLS_LATE),
+    "NO_LAST_LOOK": (BY_WORKERS, SLEEPS),
+    "LOOKS_BEFORE_IT_PUTS_BACK": (BY_WORKERS, SLEEPS),
+    "TRIES_ONCE": (BY_WORKERS, SLEEPS),
+    "TAKES_BACK_LATE": (BY_WORKERS, SLEEPS),
+    "LEAVES_UNTOLD": (BY_WORKERS, SLEEPS),
+    "ENDS_UNTOLD": (BY_WORKERS, SLEEPS),
+    "PARKS_HOLDING": (BY_WORKERS, SLEEPS),
+    "PARKS_WITHOUT_A_LOOK": (BY_WORKERS, UNSERVED),
     "NO_EIGHTH": (SOCKETS, TELLS_LATE),
     "WAITS_OVER_UNSENT": (SOCKETS, SLEEPS),
     "OFFER_WITHOUT_WAKE": (SOCKETS, SLEEPS),
@@ -36,7 +46,7 @@ def searched(*words):
     return ran.returncode == 0, ran.stdout
 
 
-@pytest.mark.parametrize("world", [LANES, SOCKETS], ids=["lanes", "sockets"])
+@pytest.mark.parametrize("world", [LANES, BY_WORKERS, SOCKETS], ids=["lanes", "by workers", "sockets"])
 def test_no_thread_sleeps_over_work_and_each_run_ends(world, say):
     is_right, said = searched(*world)
     say(f"{int(re.search('([0-9]+) states, stored', said)[1]):,} states")
@@ -54,7 +64,7 @@ def test_a_wrong_protocol_is_refused(name):
 def test_the_wrong_protocols_are_those_of_the_model():
     with open(MODEL, encoding="ascii") as file:
         named = set(re.findall(r"^#ifn?def ([A-Z_]+)", file.read(), re.MULTILINE))
-    assert named - {"WORKERS", "REQUESTS", "WINDOW", "SOCKETS"} == set(WRONG)
+    assert named - {"WORKERS", "REQUESTS", "WINDOW", "SOCKETS", "BY_WORKERS"} == set(WRONG)
 
 
 def test_the_code_beside_the_steps_is_there():

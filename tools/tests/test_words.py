@@ -38,10 +38,17 @@ BAD = [
     "replay a --lenient yes",
     "replay a --evict newest",
     "serve --listen 127.0.0.1:0 --evict",
+    "replay a --storage main",
+    "replay a --storage Workers",
+    "serve --listen 127.0.0.1:0 --storage",
     "serve --listen 127.0.0.1:0 --lenient=yes",
     "serve --listen 127.0.0.1:0 --update-in-place=yes",
+    "serve --listen 127.0.0.1:0 --exact-ttls=yes",
+    "replay a --exact-ttls 1",
     "serve --listen 127.0.0.1:0 --spin -1",
     "serve --listen 127.0.0.1:0 --spin 1000001",
+    "serve --listen 127.0.0.1:0 --connections 0",
+    "serve --listen 127.0.0.1:0 --connections 65537",
     "serve --listen 127.0.0.1:0 --idle 0",
     "serve --listen 127.0.0.1:0 --idle 4294967296",
     "serve --listen 127.0.0.1:0 --sessions 0",
@@ -67,6 +74,16 @@ OUT_OF_RANGE = {
     "serve --listen 127.0.0.1:0 --spin 1000001":
         b"error: invalid value '1000001' for '--spin <MICROSECONDS>': 1000001 is not in 0..=1000000\n",
 }
+# Words with a value that the option doesn't have, and the text that names it.
+NO_SUCH_VALUE = {
+    "replay a --storage main": b"error: invalid value 'main' for '--storage <THREADS>'\n  [possible values: thread, workers]\n",
+}
+
+
+@pytest.mark.parametrize("words", NO_SUCH_VALUE)
+def test_a_value_that_an_option_does_not_have_is_named(program, words):
+    status, out, said = ended(program, words.split())
+    assert (status, out) == (2, b"") and said.startswith(NO_SUCH_VALUE[words])
 
 
 def test_a_number_out_of_its_range_is_named(program):

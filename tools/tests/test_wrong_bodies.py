@@ -245,10 +245,15 @@ def test_what_cannot_be_placed_fails(low, capsys):
     ("fn low::f: not proved; it stands on `x`, which antt refuses; it calls `low::g`, which is not proved", "refused"),
     ("fn low::f: no proof: expected answers in ./proofs/f/Answers.antt; `search` did not prove `returns`", "refused"),
     ("fn low::f: no proof: it calls `low::g`, which is not proved", "NOT REFUSED"),
+    ("fn low::f: not proved; it calls `low::g`, `low::h`, which are not proved", "NOT REFUSED"),
     ("fn low::f: depends on a hole in `x`", "NOT REFUSED"),
     ("fn low::f: some words of another kit", "NOT REFUSED"),
     ("fn low::g: not proved", "NOT TRIED"),
     ("./proofs/f/Answers.antt:1:2: error: `r`: record `R` (nearest: .b)\n  has no field `a`\nfn low::f: not proved", "refused by a lost name"),
+    ("./proofs/f/A.antt:1:2: error: `r`: has no field `a`\nfn low::f: not proved; it calls `low::g`, `low::h`, which are not proved",
+     "refused by a lost name"),
+    ("./proofs/f/A.antt:1:2: error: `r`: has no field `a`\nfn low::f: no proof: it calls `low::g`, which is not proved", "refused by a lost name"),
+    ("./proofs/f/A.antt:1:2: error: `r`: has no field `a`\nfn low::f: depends on a hole in `x`", "NOT REFUSED"),
     ("./proofs/f/A.antt:1:2: error: `r`: has no field `a`\n./proofs/f/A.antt:3:2: error: `s`: the types differ\nfn low::f: not proved", "refused"),
 ])
 def test_what_a_check_says_is_read(low, said, verdict):

@@ -1,0 +1,225 @@
+"""The values of `stats` that no clause speaks of, beside the clock, the machine and what was done."""
+import contextlib
+import os
+import resource
+import struct
+import threading
+import time
+
+import tries
+from asking import ask
+from stats_of import told, wait_for
+
+TOO_LARGE = b"SERVER_ERROR object too large for cache\r\n"
+
+
+def numbers(stream):
+    return {name: int(it) for name, it in told(stream).items() if it.isdigit()}
+
+
+# ---- the process
+
+def test_clock_and_machine_are_told(serve):
+    started = time.monotonic()
+    server = serve("--lenient")
+    with server.connect() as stream:
+        told(stream)
+        served = time.monotonic()
+        for pause in (0, 1.2, 1.1):
+            time.sleep(pause)
+            earliest, least = int(time.time()), int(time.monotonic() - served)
+            found = numbers(stream)
+            # (the program reads the system's clock once, and then counts on by another clock)
+            assert earliest - 1 <= found["time"] <= time.time() + 1
+            assert least <= found["uptime"] <= time.monotonic() - started
+            assert found["pointer_size"] == 8 * struct.calcsize("P")
+
+
+def test_each_thread_has_a_name_of_its_own(serve):
+    workers = {f"worker {number}" for number in range(8)}
+    server = serve("--workers", "8")
+    with server.connect() as stream:
+        ask(stream, b"get a\r\n", b"END\r\n")
+        until = time.monotonic() + 10
+        while not workers <= server.threads().keys() and time.monotonic() < until:
+            time.sleep(0.01)
+    names = []
+    for task in os.listdir(f"/proc/{server.process.pid}/task"):
+        with open(f"/proc/{server.process.pid}/task/{task}/comm", encoding="ascii") as file:
+            names.append(file.read().strip())
+    # (the first thread has the program's name)
+    assert {*workers, "storage", "listener"} < set(names) and len(names) == 11 == len(set(names))
+
+
+# ---- busy times
+
+class Flood:
+    """A client that sends requests faster than they are answered, and reads the answers."""
+
+    def __init__(self, stream, requests):
+        self.stream, self.requests, self.is_ended = stream, requests, threading.Event()
+        self.threads = [threading.Thread(target=it, daemon=True) for it in (self.send, self.read)]
+
+    def send(self):
+        with contextlib.suppress(OSError):
+            while not self.is_ended.is_set():
+                self.stream.sendall(self.requests)
+
+    def read(self):
+        with contextlib.suppress(OSError):
+            while self.stream.recv(1 << 20):
+                pass
+
+    def __enter__(self):
+        for it in self.threads:
+            it.start()
+        time.sleep(0.2)
+
+    def __exit__(self, *_):
+        self.is_ended.set()
+        self.stream.close()
+
+
+def busy_shares(stream, seconds=1.0):
+    """The least and the most share of the next seconds in which each thread can have been busy."""
+    asked = time.monotonic()
+    first = numbers(stream)
+    began = time.monotonic()
+    time.sleep(seconds)
+    ended = time.monotonic()
+    second = numbers(stream)
+    longest, shortest = time.monotonic() - asked, ended - began
+    spent = {it: second[it] - first[it] for it in first if "_busy_us" in it}
+    assert min(spent.values()) >= 0
+    return {it: (n / 1e6 / longest, n / 1e6 / shortest) for it, n in spent.items()}
+
+
+def shares_beside(serve, requests=None):
+    """The busy shares of storage and of both workers, of which one is asked for them, while a client of the other
+    one sends these requests. It may send none."""
+    server = serve("--lenient", "--workers", "2")
+    with server.connect() as stream, server.connect() as other:
+        wait_for(stream, curr_connections_0=1, curr_connections_1=1)
+        with Flood(other, requests) if requests else contextlib.nullcontext():
+            shares = busy_shares(stream)
+    names = {"storage_busy_us", "worker_busy_us_0", "worker_busy_us_1"}
+    assert shares.keys() == names
+    return shares.pop("storage_busy_us"), sorted(shares.values())
+
+
+def is_at_rest(share):
+    """It waited for at least nine tenths."""
+    return share[1] < 0.1
+
+
+def test_a_busy_worker_is_told_so_and_one_that_waits_is_not(serve):
+    """The worker answers these lines alone. (A busy machine may keep the client from sending enough.)"""
+    def attempt():
+        storage, (quiet, busy) = shares_beside(serve, b"x\r\n" * 100_000)
+        is_fine = is_at_rest(storage) and is_at_rest(quiet) and busy[0] >= 0.5
+        return is_fine, (storage, quiet, busy)
+
+    tries.in_two_of_three(attempt)
+
+
+def test_a_busy_storage_thread_is_told_so(serve):
+    """It looks each of the keys up."""
+    def attempt():
+        storage, (quiet, _) = shares_beside(serve, (b"get" + b" k" * 200 + b"\r\n") * 1000)
+        return is_at_rest(quiet) and storage[0] >= 0.2, (storage, quiet)
+
+    tries.in_two_of_three(attempt)
+
+
+def test_threads_that_wait_are_told_so(serve):
+    def attempt():
+        storage, workers = shares_beside(serve)
+        return all(is_at_rest(it) for it in (storage, *workers)), (storage, workers)
+
+    tries.in_two_of_three(attempt)
+
+
+# ---- what was done
+
+def test_the_longest_merge_is_kept(serve):
+    """Merges of many small items take longer than those of few large ones, which come after them."""
+    server, longest = serve("--lenient", "--segments", "8"), [0]
+    with server.connect() as stream:
+        for round_ in range(60):
+            size, count = (10, 500) if round_ < 40 else (6000, 20)
+            line = b"set key-%d-%d 0 0 %d noreply\r\n%b\r\n"
+            sets = [line % (round_, at, size, b"v" * size) for at in range(count)]
+            ask(stream, b"".join(sets) + b"get none\r\n", b"END\r\n")
+            found = numbers(stream)
+            longest.append(found["merge_us_max"])
+    assert found["merges"] > 10 and longest == sorted(longest)
+    assert 0 < longest[-1] < 10_000_000
+
+
+def test_failed_accepts_are_no_rejected_connections(serve):
+    """A process of 64 descriptors can't accept 150 connections, which wait in the system's queue."""
+    server = serve("--lenient", limits={resource.RLIMIT_NOFILE: 64})
+    folder = f"/proc/{server.process.pid}/fd"
+    with server.connect() as stream, contextlib.ExitStack() as others:
+        ask(stream, b"get none\r\n", b"END\r\n")
+        for _ in range(150):
+            others.enter_context(server.connect())
+        until = time.monotonic() + 10
+        while len(os.listdir(folder)) < 64 and time.monotonic() < until:
+            time.sleep(0.01)
+        # (the next tries come a hundredth of a second after each other)
+        time.sleep(0.2)
+        found = numbers(stream)
+        assert 30 < found["curr_connections"] < 64
+        assert (found["rejected_connections"], found["listen_disabled_num"]) == (0, 0)
+    assert "connections can't be accepted" in stopped_errors(server)
+
+
+def stopped_errors(server):
+    """What a server wrote to standard error, which is ended for it."""
+    server.process.kill()
+    server.was_stopped = True
+    return server.errors()
+
+
+def test_what_is_not_stored_as_too_large_is_counted_and_nothing_else(serve):
+    """An item has 24 bytes beside key and value, and 8,192 at most."""
+    def block(verb, size, words=b""):
+        return b"%b a 0 0 %d%b\r\n%b\r\n" % (verb, size, words, b"v" * size)
+
+    with serve("--lenient").connect() as stream:
+        stored, quiet = b"STORED\r\n", b" noreply"
+        # (stored, not stored for another cause, or no storage command)
+        ask(stream, block(b"set", 8167) + block(b"set", 8167, quiet) + block(b"add", 1), stored + b"NOT_STORED\r\n")
+        ask(stream, block(b"cas", 1, b" 0") + b"append b 0 0 1\r\nx\r\n", b"EXISTS\r\nNOT_STORED\r\n")
+        ask(stream, b"x" * 9000 + b"\r\nincr b 1\r\n", b"ERROR\r\nNOT_FOUND\r\n")
+        assert numbers(stream)["store_too_large"] == 0
+        # (by one byte, in each way, as a block, and as one that is dropped as it comes)
+        for count, requests in enumerate((
+            block(b"set", 8168), block(b"add", 8168), block(b"replace", 8168), block(b"set", 8168, quiet),
+            block(b"set", 140_000), block(b"set", 140_000, quiet),
+        ), 1):
+            ask(stream, requests + b"get b\r\n", TOO_LARGE * (quiet not in requests) + b"END\r\n")
+            assert numbers(stream)["store_too_large"] == count
+        ask(stream, block(b"set", 8167), stored)
+        for count, requests in enumerate((block(b"append", 1), block(b"prepend", 1, quiet)), 7):
+            ask(stream, requests + b"get b\r\n", TOO_LARGE * (quiet not in requests) + b"END\r\n")
+            assert numbers(stream)["store_too_large"] == count
+
+
+def test_connections_closed_for_unread_output_are_told(serve):
+    """Of forty replies of 7.8 MB a worker keeps no more than 64 MiB, and each socket some four MB."""
+    server = serve("--lenient", "--workers", "1", "--segment-size", "1048576")
+    with contextlib.ExitStack() as streams:
+        stream = streams.enter_context(server.connect())
+        ask(stream, b"set large 0 0 130000\r\n%b\r\n" % (b"v" * 130_000), b"STORED\r\n")
+        assert numbers(stream)["closed_unread"] == 0
+        for _ in range(40):
+            slow = streams.enter_context(server.connect(receive_buffer=65536))
+            slow.sendall(b"get" + b" large" * 60 + b"\r\n")
+        until = time.monotonic() + 20
+        while numbers(stream)["closed_unread"] < 10 and time.monotonic() < until:
+            time.sleep(0.05)
+        found = numbers(stream)
+        assert 10 <= found["closed_unread"] < 40
+        assert found["curr_connections"] == 41 - found["closed_unread"]

@@ -1,0 +1,148 @@
+"""When the ports of a served program hear of connections, by the time that this takes: of new ones, of those that wait for room, and of those that
+were shut and are read a little longer."""
+import contextlib
+import os
+import time
+
+import pytest
+import tries
+from asking import ask
+from served import read_exactly
+from stats_of import wait_for
+
+# How long a session that was shut is read, in seconds.
+LINGERING = 2
+
+
+def descriptors(server):
+    return len(os.listdir(f"/proc/{server.process.pid}/fd"))
+
+
+# ---- new ones
+
+def median_wait_of_newcomers(server):
+    """From before they connect to their first answers. (Each finds the worker asleep.)"""
+    took = []
+    for _ in range(15):
+        time.sleep(0.005)
+        began = time.monotonic()
+        with server.connect() as stream:
+            ask(stream, b"get none\r\n", b"END\r\n")
+        took.append(time.monotonic() - began)
+    return sorted(took)[7]
+
+
+@pytest.mark.parametrize("before", [0, 3000], ids=["at first", "after many"])
+def test_a_worker_that_sleeps_is_woken_for_newcomers(serve, before):
+    """One that isn't hears of them a tenth of a second later. So does one that never reads the bytes by which it is woken, once
+    some hundreds of them fill its waker."""
+    server = serve("--workers", "1")
+    for _ in range(before):
+        server.connect().close()
+    tries.all_in_time(lambda: median_wait_of_newcomers(server), 0.05)
+
+
+# ---- those that wait for room
+
+@contextlib.contextmanager
+def full_worker(serve):
+    """A worker with all the sessions that it takes, and 74 streams that wait, of which ten are closed after a second."""
+    server = serve("--lenient", "--workers", "1")
+    with contextlib.ExitStack() as streams:
+        opened = [streams.enter_context(server.connect()) for _ in range(1024)]
+        for it in opened:
+            ask(it, b"get none\r\n", b"END\r\n")
+        for _ in range(74):
+            streams.enter_context(server.connect())
+        wait_for(opened[0], rejected_connections=10, connections_waiting=64)
+        yield server, opened
+
+
+def first_bytes(stream, count):
+    """This number of bytes, or those that came before it was closed."""
+    with contextlib.suppress(ConnectionResetError):
+        return read_exactly(stream, count)
+    return b""
+
+
+def is_served_late(serve):
+    """Whether one that comes after some were closed waits until there is room."""
+    with full_worker(serve) as (server, opened), server.connect() as late:
+        late.sendall(b"get none\r\n")
+        time.sleep(0.2)
+        for it in opened[1:101]:
+            it.close()
+        is_served = first_bytes(late, 5) == b"END\r\n"
+        if is_served:
+            wait_for(opened[0], rejected_connections=10)
+        server.must_run()
+        return is_served
+
+
+def test_after_some_were_closed_others_wait_for_room_again(serve):
+    """It would be closed at once if streams went on to be closed. (It waits for a second at most.)"""
+    tries.in_two_of_three(lambda: (is_served_late(serve), "it was closed"))
+
+
+# ---- those that were shut
+
+def time_until_closed(server):
+    """How long the stream of a session that was shut stays open once its peer has closed it."""
+    held = descriptors(server)
+    with server.connect() as stream:
+        stream.sendall(b"quit\r\n")
+        assert stream.recv(1) == b""
+        # (until nothing of it is left to be read)
+        time.sleep(0.2)
+    began = time.monotonic()
+    while descriptors(server) > held and time.monotonic() - began < 10:
+        time.sleep(0.005)
+    return time.monotonic() - began
+
+
+def test_a_session_that_was_shut_is_heard_to_be_closed(serve):
+    server = serve("--workers", "1")
+    with server.connect() as stream:
+        ask(stream, b"get none\r\n", b"END\r\n")
+        tries.all_in_time(lambda: time_until_closed(server), LINGERING / 2)
+
+
+def time_to_send_after_the_end(server, count):
+    """How long a client takes to send so many bytes that nobody wants, after its session was shut."""
+    with server.connect() as stream:
+        stream.sendall(b"quit\r\n")
+        assert stream.recv(1) == b""
+        began = time.monotonic()
+        try:
+            stream.sendall(bytes(count))
+        except OSError:
+            return float("inf")
+        return time.monotonic() - began
+
+
+def test_what_comes_of_a_session_that_was_shut_is_heard(serve):
+    """More than the system's buffers hold, and less than is read of it."""
+    server = serve("--workers", "1")
+    tries.all_in_time(lambda: time_to_send_after_the_end(server, 14 << 20), LINGERING)
+
+
+def most_held(server, clients):
+    """How many more streams are open at once while so many sessions are shut, whose clients stay; None if that takes long."""
+    with contextlib.ExitStack() as streams:
+        ask(streams.enter_context(server.connect()), b"get none\r\n", b"END\r\n")
+        held, began, most = descriptors(server), time.monotonic(), 0
+        for _ in range(clients):
+            stream = streams.enter_context(server.connect())
+            stream.sendall(b"quit\r\n")
+            assert stream.recv(1) == b""
+            most = max(most, descriptors(server) - held)
+        return most if time.monotonic() - began < LINGERING else None
+
+
+def test_at_most_64_sessions_that_were_shut_are_read(serve):
+    """Of more the oldest one is closed at once. (The one shut last may count beside 64 for a moment.)"""
+    for _ in range(10):
+        most = most_held(serve("--workers", "1"), 100)
+        if most is not None:
+            break
+    assert most in (64, 65)

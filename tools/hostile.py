@@ -23,6 +23,7 @@ import time
 import traceback
 
 import served
+import waits
 from served import OF_THE_PACKAGE, TOP, NotServing, Trouble, read_to_end, reset
 from standstills import Standstills
 
@@ -601,23 +602,14 @@ def history(is_long):
     return f"{count} operations of 8 clients on {keys} keys, {at_once} of them beside another on their key: one order for each"
 
 
-def fairness(_):
-    """Clients that send or read as fast as they can keep no other waiting; tools/fairness.py."""
-    import fairness as beside_memcached
-
-    return beside_memcached.check(PROGRAM)
-
-
-def unread(_):
-    """Clients that ask for the longest answers and read nothing take little memory, and keep no other waiting; tools/unread.py."""
-    import unread as clients
-
-    return clients.check(PROGRAM)
+def beside(name):
+    """What others wait beside clients that take much: a part of tools/waits.py."""
+    return lambda _: getattr(waits, name)(PROGRAM)
 
 
 PARTS = {
-    "fairness": fairness,
-    "unread": unread,
+    "fairness": beside("fairness"),
+    "unread": beside("unread"),
     "shared_counters": shared_counters,
     "bad_peers": bad_peers,
     "many_sessions": many_sessions,

@@ -17,9 +17,19 @@ import time
 
 TOP = os.path.dirname(os.path.dirname(os.path.abspath(__file__)))
 PROGRAM = f"{TOP}/crates/segcached/out/segcached"
-# The options of the package, but for the numbers of workers and segments.
-OF_THE_PACKAGE = [
-    "--lenient", "--update-in-place", "--exact-ttls", "--evict", "least-read", "--storage", "workers", "--segment-size", "1048576"]
+
+
+def words_of(file, name):
+    """The words of a file's line NAME=WORDS."""
+    with open(f"{TOP}/{file}", encoding="utf-8") as lines:
+        return re.search(rf"^{name}=(.*)$", lines.read(), re.MULTILINE)[1].split()
+
+
+# What the package sets: its options, those with the size of a segment, and the settings of the C library.
+OPTIONS = words_of("packaging/segcached.default", "OPTIONS")
+LOCAL = words_of("packaging/segcached.local", "LOCAL")
+OF_THE_PACKAGE = [*OPTIONS, "--segment-size", LOCAL[LOCAL.index("--segment-size") + 1]]
+TUNABLES = words_of("systemd/segcached.service", "Environment=GLIBC_TUNABLES")[0]
 
 
 class Trouble(Exception):
@@ -151,10 +161,26 @@ class OnPort(Process):
         raise Trouble(f"{words[0]} doesn't listen on port {port}")
 
 
+class Memcached(OnPort):
+    """Debian's memcached, with so many threads and MiB."""
+
+    def __init__(self, threads=4, megabytes=64, environment=None):
+        port = free_port()
+        words = ["-u", "nobody", "-l", "127.0.0.1", "-p", port, "-t", threads, "-m", megabytes, "-c", 4096]
+        super().__init__(port, ["memcached", *map(str, words)], environment)
+
+
 def free_port():
     with socket.socket() as it:
         it.bind(("127.0.0.1", 0))
         return it.getsockname()[1]
+
+
+def install(*packages):
+    """Has these packages of Debian."""
+    if subprocess.run(["dpkg", "-s", *packages], capture_output=True, check=False).returncode:
+        for words in (["update"], ["install", "-y", "--no-install-recommends", *packages]):
+            subprocess.run(["apt-get", *words], check=True, stdout=subprocess.DEVNULL)
 
 
 def read_exactly(stream, count):

@@ -48,7 +48,6 @@ import threading
 import time
 
 import edited_copies
-import gate_times
 import kept_verdicts
 import machine
 import prove
@@ -150,7 +149,7 @@ class Tries:
         """One check: what it said, and the folder that it read."""
         if self.interrupted.is_set():
             raise concurrent.futures.CancelledError
-        with tempfile.TemporaryDirectory(prefix=gate_times.EDITED) as folder:
+        with tempfile.TemporaryDirectory(prefix="wrong-bodies-") as folder:
             room = edited_copies.Room(self.crate, tried, control, folder)
             said = checked(room)
         edited_copies.write(f"{LOGS}/{label}.log", said.text)

@@ -296,8 +296,8 @@ def test_what_changed_during_its_check_is_not_kept(low, kept):
 def test_the_sum_of_the_tools_has_each_that_decides():
     imported = {word for it in kept_verdicts.TOOLS for word in re.findall(r"^import (\w+)$", edited_copies.read(f"{TOP}/tools/{it}.py"), re.MULTILINE)}
     of_tools = {word for word in imported if os.path.exists(f"{TOP}/tools/{word}.py")}
-    # (the others say how many checks run side by side, and what they cost)
-    assert of_tools - {"machine", "gate_times"} <= set(kept_verdicts.TOOLS)
+    # (the other one says how many checks run side by side)
+    assert of_tools - {"machine"} <= set(kept_verdicts.TOOLS)
 
 
 def test_each_edit_of_the_repository_can_be_placed():

@@ -34,7 +34,6 @@ each_file() {
     "$1" 644 docs/$picture.svg "$documents/$picture.svg"
   done
   "$1" 755 tools/script_of.py "$documents/examples/script_of.py"
-  "$1" 644 tools/refused_lines.py "$documents/examples/refused_lines.py"
   "$1" 755 examples/probe.sh "$documents/examples/probe.sh"
   "$1" 644 "$made/Containerfile" "$documents/examples/Containerfile"
   for example in kubernetes.yaml twemproxy/three_caches.yml; do

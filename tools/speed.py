@@ -4,7 +4,8 @@ says the words.
 In each round the servers are started anew and filled, and run each load one after the other, in
 shuffled turns. segcached has the package's options; at loads where those make a difference it runs
 with its default options, too. A ratio is one of two runs of the same round. Tables have the median
-of the rounds' ratios and their quartiles, and '≈' if these have 1 between them.
+of the rounds' ratios, for the main figure and the processor time with their quartiles, and '≈' if
+these have 1 between them.
 """
 import dataclasses
 import os
@@ -295,7 +296,11 @@ class Speed:
     def cells(self, load, rounds):
         """The cells of a load with one number of workers."""
         pairs, main = [self.pair(it) for it in rounds], "p50" if load.has_rate() else "rate"
-        found = [shown(ratio(it, figure) for it in pairs) for figure in FIGURES]
+        found = []
+        for figure in FIGURES:
+            ratios = [ratio(it, figure) for it in pairs]
+            is_main = figure in (main, "processor")
+            found.append(shown(ratios) if is_main else f"{statistics.median(ratios):.2f}")
         found[0] = "" if load.has_rate() else found[0]
         if load.default:
             pairs = [self.pair(it, "default") for it in rounds]

@@ -180,7 +180,8 @@ def install(*packages):
     """Has these packages of Debian."""
     if subprocess.run(["dpkg", "-s", *packages], capture_output=True, check=False).returncode:
         for words in (["update"], ["install", "-y", "--no-install-recommends", *packages]):
-            subprocess.run(["apt-get", *words], check=True, stdout=subprocess.DEVNULL)
+            quiet = {**os.environ, "DEBIAN_FRONTEND": "noninteractive"}
+            subprocess.run(["apt-get", *words], check=True, stdout=subprocess.DEVNULL, env=quiet)
 
 
 def read_exactly(stream, count):

@@ -7,6 +7,6 @@ bash tools/build.sh
 # A worker has up to 1,024 sessions, each with a descriptor.
 ulimit -n "$(ulimit -Hn)"
 # As the package's unit sets them, which says why.
-tunables=$(sed -n 's/^Environment=GLIBC_TUNABLES=//p' systemd/segcached.service)
+tunables=$(sed -n 's/^Environment=GLIBC_TUNABLES=//p' packaging/systemd/segcached.service)
 export GLIBC_TUNABLES="${GLIBC_TUNABLES:-$tunables}"
 exec crates/segcached/out/segcached serve --listen "${1:-127.0.0.1:11211}" "${@:2}"

@@ -29,7 +29,7 @@ def words_of(file, name):
 OPTIONS = words_of("packaging/segcached.default", "OPTIONS")
 LOCAL = words_of("packaging/segcached.local", "LOCAL")
 OF_THE_PACKAGE = [*OPTIONS, "--segment-size", LOCAL[LOCAL.index("--segment-size") + 1]]
-TUNABLES = words_of("systemd/segcached.service", "Environment=GLIBC_TUNABLES")[0]
+TUNABLES = words_of("packaging/systemd/segcached.service", "Environment=GLIBC_TUNABLES")[0]
 
 
 class Trouble(Exception):

@@ -194,7 +194,7 @@ def test_another_request_gets_in_no_sooner(full):
 def test_the_probe_passes_a_full_server(full):
     """Also while connections beyond those that wait come without end."""
     server, _, connect = full
-    probe = [f"{served.TOP}/examples/probe.sh", "127.0.0.1", str(server.port)]
+    probe = [f"{served.TOP}/packaging/examples/probe.sh", "127.0.0.1", str(server.port)]
     for _ in range(WAITING):
         connect()
     assert subprocess.run(probe, timeout=20).returncode == 0

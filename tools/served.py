@@ -19,6 +19,12 @@ TOP = os.path.dirname(os.path.dirname(os.path.abspath(__file__)))
 PROGRAM = f"{TOP}/crates/segcached/out/segcached"
 
 
+def version():
+    """The version of the sources."""
+    with open(f"{TOP}/crates/proto/src/version.rt", encoding="utf-8") as file:
+        return re.search(r'VERSION: &str = "([0-9]+\.[0-9]+\.[0-9]+)";', file.read())[1]
+
+
 def words_of(file, name):
     """The words of a file's line NAME=WORDS."""
     with open(f"{TOP}/{file}", encoding="utf-8") as lines:

@@ -8,6 +8,7 @@ import os
 import re
 
 import pytest
+import served
 
 TOP = os.path.dirname(os.path.dirname(os.path.dirname(os.path.abspath(__file__))))
 PAGES = sorted(glob.glob(f"{TOP}/*.md") + glob.glob(f"{TOP}/docs/*.md"))
@@ -48,6 +49,11 @@ def test_what_is_quoted_stands_in_the_crates(page):
     known = re.findall(r"\w+", " ".join([*map(read, [*sources, f"{TOP}/crates.txt"]), *FILES]))
     quoted = re.findall(r"\w\w+", " ".join(re.findall(r"`[^`]*`", prose(f"{TOP}/docs/{page}.md"))))
     assert set(quoted) - set(known) == set()
+
+
+def test_the_newest_version_of_the_changelog_is_that_of_the_sources():
+    newest = re.search(r"^## (\S+)$", read(f"{TOP}/CHANGELOG.md"), re.MULTILINE)[1]
+    assert newest == served.version()
 
 
 def test_the_trusted_crates_are_those_that_no_crate_of_the_repository_is():

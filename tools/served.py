@@ -96,6 +96,11 @@ class Process:
                 found[file.read().strip()] = int(task)
         return found
 
+    def sleeps(self, thread):
+        """How often one of its threads has gone to sleep."""
+        with open(f"/proc/{thread}/status", encoding="ascii") as file:
+            return int(re.search(r"^voluntary_ctxt_switches:\s+(\d+)", file.read(), re.MULTILINE)[1])
+
     def processor_seconds(self):
         """What all its threads have run (the kernel counts nanoseconds there, and ticks elsewhere)."""
         spent, folder = 0, f"/proc/{self.process.pid}/task"

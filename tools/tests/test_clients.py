@@ -98,7 +98,9 @@ PACKAGES = """python3-django python3-memcache python3-binary-memcached php-cli p
     libcache-memcached-perl libcache-memcached-fast-perl libmemcached-libmemcached-perl ruby ruby-dalli nginx-light
     php-symfony-http-foundation simplesamlphp freeradius-memcached python3-tooz python3-celery python3-limits python3-swift
     php-laravel-framework python3-flask-limiter postfix""".split()
+GATE_CALLS = [(sys.executable, "pymemcache_calls.py")]
 CALLS = [
+    *GATE_CALLS,
     *[(sys.executable, f"{name}_calls.py") for name in ("pylibmc", "python_memcached", "binary_memcached", "django", "nginx")],
     *[("php", f"{name}_calls.php") for name in ("php_memcached", "php_memcache")],
     *[("perl", "perl_calls.pl", name) for name in
@@ -145,6 +147,10 @@ def test_each_call_of_each_client_works_or_fails_as_expected(program, all_client
         assert said_by(calls, server) == expected_of(expected)
 
 
-def test_with_lenient_lines_applications_work_as_expected(serve):
-    wanted = [line for line in expected_of("expected_lenient") if line.startswith(("MediaWiki ", "cachelib "))]
-    assert len(wanted) == 4 and said_by(GATE_APPLICATIONS, serve("--lenient")) == wanted
+@pytest.mark.parametrize("words, calls, names, expected", [
+    ([], GATE_CALLS, ("pymemcache ",), "expected"),
+    (served.OF_THE_PACKAGE, GATE_CALLS + GATE_APPLICATIONS, ("pymemcache ", "MediaWiki ", "cachelib "), "expected_lenient"),
+], ids=["strict", "package"])
+def test_what_the_gate_has_works_as_expected(serve, words, calls, names, expected):
+    wanted = [line for line in expected_of(expected) if line.startswith(names)]
+    assert len(wanted) == 2 * len(names) and said_by(calls, serve(*words)) == wanted

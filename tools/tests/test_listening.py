@@ -57,20 +57,12 @@ def test_it_says_on_standard_error_first_which_options_are_in_force(serve, words
     assert errors.readline() == f"segcached: --listen 127.0.0.1:0 {in_force}\n"
 
 
-def names_of_threads(server):
-    folder, names = f"/proc/{server.process.pid}/task", []
-    for task in os.listdir(folder):
-        with open(f"{folder}/{task}/comm", encoding="ascii") as file:
-            names.append(file.read().strip())
-    return sorted(names)
-
-
 def test_its_threads_have_names(serve):
     server, wanted = serve("--workers", "3"), ["listener", "segcached", "storage", "worker 0", "worker 1", "worker 2"]
     until = time.monotonic() + 5
-    while names_of_threads(server) != wanted and time.monotonic() < until:
+    while sorted(server.threads()) != wanted and time.monotonic() < until:
         time.sleep(0.01)
-    assert names_of_threads(server) == wanted
+    assert sorted(server.threads()) == wanted
 
 
 def test_with_few_descriptors_it_serves_all_of_its_sessions_and_then_ends(serve):

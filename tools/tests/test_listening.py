@@ -57,14 +57,6 @@ def test_it_says_on_standard_error_first_which_options_are_in_force(serve, words
     assert errors.readline() == f"segcached: --listen 127.0.0.1:0 {in_force}\n"
 
 
-def test_its_threads_have_names(serve):
-    server, wanted = serve("--workers", "3"), ["listener", "segcached", "storage", "worker 0", "worker 1", "worker 2"]
-    until = time.monotonic() + 5
-    while sorted(server.threads()) != wanted and time.monotonic() < until:
-        time.sleep(0.01)
-    assert sorted(server.threads()) == wanted
-
-
 def test_with_few_descriptors_it_serves_all_of_its_sessions_and_then_ends(serve):
     """A connection that couldn't be accepted yet doesn't count."""
     server = serve("--workers", "1", "--sessions", "200", limits={resource.RLIMIT_NOFILE: 40})

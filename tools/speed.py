@@ -35,14 +35,13 @@ BESIDE = (*BESIDE_KEYS, "--connections", 1, "--many", 83)
 
 @dataclasses.dataclass(frozen=True)
 class Load:
-    """A load's name and words, and the bytes of a value; whether server and load have processors of
-    their own; whether it also runs with default options, what segcached has in place of the
-    package's options, and whether large replies are asked for beside it."""
+    """A load's name and words, and the bytes of a value; whether it also runs with default options,
+    what segcached has in place of the package's options, and whether large replies are asked for
+    beside it."""
 
     name: str
     words: tuple = ()
     value: int = 100
-    apart: bool = False
     default: bool = False
     options: tuple | None = None
     beside: bool = False
@@ -65,7 +64,6 @@ SPIN = ("--spin", "100")
 # Those that write come last of their group, as what they write makes segcached merge segments.
 LOADS = (
     Load("one connection", ONE, default=True),
-    Load("one connection, processors apart", (*ONE, "--threads", 1), apart=True),
     Load("one connection, --storage thread --spin 100", ONE, options=SPIN),
     Load("one connection, pipeline 16", (*PIPELINE, *ONE), default=True),
     Load("pipeline 1", default=True),
@@ -73,7 +71,6 @@ LOADS = (
     Load("pipeline 64", ("--pipeline", 64), default=True),
     Load("1,000 connections", ("--connections", 1000)),
     Load("get of 16 keys", ("--many", 16)),
-    Load("keys by Zipf's law, pipeline 16", (*PIPELINE, "--zipf", 0.99)),
     Load("first answer after a pause of 10 ms", (*ONE, "--rate", 100), default=True),
     Load("1,000 a second", ("--rate", 1000), default=True),
     Load("20,000 a second", ("--rate", 20_000), default=True),
@@ -81,7 +78,6 @@ LOADS = (
     Load("80,000 a second", ("--rate", 80_000), default=True),
     Load("20,000 a second beside replies of 8 MB", ("--connections", 8, "--rate", 20_000),
          default=True, beside=True),
-    Load("one set in ten, pipeline 16", (*PIPELINE, "--sets", 10)),
     Load("sets, pipeline 16", (*PIPELINE, "--sets", 100), default=True),
     Load("1,000-byte values, pipeline 16", PIPELINE, 1000),
     Load("10 kB values", (), 10_000),
@@ -110,16 +106,14 @@ class LoadProgram:
         words = ["gcc", "-O2", "-pthread", "-o", self.path, f"{TOP}/tools/load.c", "-lm"]
         subprocess.run(words, check=True)
 
-    def started(self, server, *words, processors=None):
-        pinned = (lambda: os.sched_setaffinity(0, processors)) if processors else None
-        words = [self.path, "127.0.0.1", str(server.port), *map(str, words)]
-        pipe = subprocess.PIPE
-        return subprocess.Popen(words, stdout=pipe, stderr=pipe, text=True, preexec_fn=pinned)
+    def started(self, server, *words):
+        words, pipe = [self.path, "127.0.0.1", str(server.port), *map(str, words)], subprocess.PIPE
+        return subprocess.Popen(words, stdout=pipe, stderr=pipe, text=True)
 
-    def run(self, server, *words, seconds=None, processors=None):
+    def run(self, server, *words, seconds=None):
         """The figures of its last line, and the server's processor microseconds a request."""
         before = server.processor_seconds()
-        with self.started(server, *words, processors=processors) as load:
+        with self.started(server, *words) as load:
             try:
                 said, faults = load.communicate(timeout=seconds)
             except subprocess.TimeoutExpired:
@@ -181,8 +175,8 @@ class Speed:
         words = ["--workers", workers, *sizes, *options]
         return Server(kind, *map(str, words), environment=tuned)
 
-    def run(self, server, *words, processors=None):
-        return self.load.run(server, *words, seconds=120, processors=processors)
+    def run(self, server, *words):
+        return self.load.run(server, *words, seconds=120)
 
     def run_load(self, server, load):
         """One run, for a second at least if it has a rate."""
@@ -195,15 +189,7 @@ class Speed:
                 if beside.wait(120):
                     raise Trouble(f"{load.name}: the large replies aren't read")
             return figures
-        if not load.apart:
-            return self.run(server, *words)
-        every = sorted(os.sched_getaffinity(0))
-        half = (len(every) + 1) // 2
-        keep_on(server, every[:half])
-        try:
-            return self.run(server, *words, processors=every[half:] or every)
-        finally:
-            keep_on(server, every)
+        return self.run(server, *words)
 
     def sides(self, loads):
         """What is started for a group: each kind, and for default options, which are the name's
@@ -313,12 +299,6 @@ MARKS = {
     "(1)": "(1) In one of these runs the load's own threads were busy for over 90% of the time.",
     "(2)": "(2) In one of these runs more than one key in a thousand was missed.",
 }
-
-
-def keep_on(server, processors):
-    """All threads of a server run on these processors."""
-    for task in os.listdir(f"/proc/{server.process.pid}/task"):
-        os.sched_setaffinity(int(task), processors)
 
 
 def idle_share(server, seconds=1):

@@ -33,7 +33,6 @@ import concurrent.futures
 import contextlib
 import os
 import re
-import shutil
 import signal
 import socket
 import subprocess
@@ -314,9 +313,13 @@ class Refusals:
 
 
 def found_program():
-    """The program of the path, or else that of the repository."""
-    here = os.path.dirname(os.path.dirname(os.path.abspath(__file__)))
-    return shutil.which("segcached") or f"{here}/crates/segcached/out/segcached"
+    """That of the repository or of the installation to which this tool belongs, or of the path."""
+    here = os.path.dirname(os.path.abspath(__file__))
+    for place in ("../crates/segcached/out/segcached", "../../../../bin/segcached"):
+        path = os.path.normpath(f"{here}/{place}")
+        if os.path.exists(path):
+            return path
+    return "segcached"
 
 
 def run_proxy(words, observer):

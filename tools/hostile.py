@@ -291,31 +291,6 @@ def bad_peers(is_long):
         return f"20 that read nothing, 100 silent, {storm} that came and went, 300 reset, 20 half-closed; {said}"
 
 
-def many_sessions(_):
-    """More sessions than a worker has room for: those beyond wait, and are served once others have gone."""
-    with serve("--workers", "1") as server:
-        clients = []
-        for number in range(1024):
-            clients.append(Client(server))
-            if clients[-1].set(b"many-%d" % number, b"%d" % number) != b"STORED":
-                raise Trouble(f"session {number} wasn't served")
-        late = server.connect(1)
-        late.sendall(b"get many-7\r\n")
-        late.settimeout(0.3)
-        try:
-            raise Trouble(f"the 1,025th session got {late.recv(100)!r}")
-        except TimeoutError:
-            pass
-        clients[0].close()
-        late.settimeout(10)
-        if late.recv(100) != b"VALUE many-7 0 1\r\n7\r\nEND\r\n":
-            raise Trouble("the 1,025th session wasn't served once another had gone")
-        for number, client in enumerate(clients[1:], 1):
-            if client.get(b"many-%d" % number) != b"%d" % number:
-                raise Trouble(f"session {number} lost its key")
-        return "1,024 sessions of one worker served, the next one once another had gone"
-
-
 def few_descriptors(_):
     """A limit on open files: those beyond aren't served, and the server serves again once there are some."""
     with serve("--workers", "2", limits={resource.RLIMIT_NOFILE: 64}) as server:
@@ -612,7 +587,6 @@ PARTS = {
     "unread": beside("unread"),
     "shared_counters": shared_counters,
     "bad_peers": bad_peers,
-    "many_sessions": many_sessions,
     "few_descriptors": few_descriptors,
     "history": history,
     "little_memory": little_memory,

@@ -96,6 +96,10 @@ class Process:
                 found[file.read().strip()] = int(task)
         return found
 
+    def descriptors(self):
+        """How many it has open."""
+        return len(os.listdir(f"/proc/{self.process.pid}/fd"))
+
     def sleeps(self, thread):
         """How often one of its threads has gone to sleep."""
         with open(f"/proc/{thread}/status", encoding="ascii") as file:

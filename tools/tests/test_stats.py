@@ -169,18 +169,6 @@ def test_connections_are_told(serve):
         wait_for(stream, curr_connections=3, total_connections=7, rejected_connections=0, listen_disabled_num=0, connections_waiting=0)
 
 
-def test_full_workers_are_told(serve):
-    """Of 74 connections beside the 1,024 of one worker 64 wait for it, and the others are refused after a second."""
-    server = serve("--lenient", "--workers", "1")
-    with contextlib.ExitStack() as streams:
-        opened = [streams.enter_context(server.connect()) for _ in range(1024)]
-        for it in opened:
-            ask(it, b"get none\r\n", b"END\r\n")
-        for _ in range(74):
-            streams.enter_context(server.connect())
-        wait_for(opened[0], rejected_connections=10, listen_disabled_num=1, curr_connections=1024, connections_waiting=64)
-
-
 def test_bytes_are_told(serve):
     value = b"set a 0 0 100000\r\n%b\r\n" % (b"v" * 100_000)
     with serve("--lenient", "--segment-size", "1048576").connect() as stream:

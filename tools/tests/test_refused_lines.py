@@ -135,7 +135,7 @@ def test_the_binary_protocol_is_named():
 
 # What a client sends, and by which errors its lines are refused.
 STREAMS = {
-    b"set a 0 0 6\r\nget  \r\n\r\nincr a 1\r\n": [],
+    b"set a 0 0 7\r\nget  \r\n\r\nincr a 1\r\n": [],
     b"set a 0 0 200000 noreply\r\n" + bytes(200_000) + b"\r\nget a\r\n": [TOO_LARGE],
     b"set a 0 0 131048 noreply\r\n" + bytes(131_048) + b"\r\nget a\r\n": [TOO_LARGE],
     b"gat 5 a\r\nget a\n": [UNKNOWN, BAD_FORM],

@@ -40,9 +40,9 @@ $lock = fn() => $store->lock('la-lock', 9)->get();
 $store->put('la-value', 'x', 9);
 $held = [$lock()];
 $kept = $passed = 0;
-// (300 calls in seven and a half seconds, and what others see of the lock and the value meanwhile)
+// (300 calls in six seconds, and what others see of the lock and the value meanwhile)
 for ($turn = 0; $turn < 300; $turn++) {
-    usleep(25000);
+    usleep(20000);
     $passed += !$limiter->tooManyAttempts('la-limit', 100);
     $limiter->hit('la-limit', 60);
     if ($turn % 30 === 29) {
@@ -50,7 +50,7 @@ for ($turn = 0; $turn < 300; $turn++) {
         $kept += $store->get('la-value') === 'x';
     }
 }
-sleep(2);
+sleep(5);
 report('Laravel', [
     'lock_of_9_seconds' => $held === [true, ...array_fill(0, 10, false)] && $lock(),
     'value_of_9_seconds' => $kept === 10 && $store->get('la-value') === null,

@@ -3,7 +3,7 @@
 the same machine in the same run.
 
     tools/bench.py [--parts PART,..] [--quick] [--write] [--only WORD,..] [--rounds N] [--seconds S]
-                   [--program FILE] [--against FILE] [--tunables WORDS]
+                   [--program FILE] [--against FILE]
 
 memcached (of Debian) with 1, 2 and 4 threads stands beside `segcached serve` with 1, 2 and 3
 workers. The parts, of which the first two are measured unless others are named, or `all`:
@@ -19,8 +19,7 @@ and docs/misses.svg, and the tables of misses into out/bench.md. --quick runs ea
 briefly, with 2 workers. --only takes loads whose names have a WORD, and no pauses. --program names
 another build to measure, --against one of segcached that takes memcached's place, with those of the
 package's options that it has: a change for speed is judged by that, and ratios above 1 say that the
-program does more, or takes longer. --tunables gives the program that is measured other settings of
-the C library.
+program does more, or takes longer.
 """
 import argparse
 import datetime
@@ -99,8 +98,6 @@ def speed_parts(load, words):
               words.program: "now" if words.against else "segcached"}
     names = list(called.values())
     runs = speed.Speed(load, list(called), words.rounds, words.seconds, say)
-    if words.tunables:
-        runs.tunables[words.program] = words.tunables
     asked = words.only.split(",")
     loads = [it for it in speed.LOADS if any(word in it.name for word in asked)]
     if words.against:
@@ -175,7 +172,6 @@ def read_words():
     parser.add_argument("--seconds", type=float)
     parser.add_argument("--program", default=PROGRAM)
     parser.add_argument("--against")
-    parser.add_argument("--tunables")
     words = parser.parse_args()
     words.rounds = words.rounds or (1 if words.quick else 7)
     words.seconds = words.seconds or (0.5 if words.quick else 0.8)
@@ -184,7 +180,7 @@ def read_words():
     if not set(asked) <= set(PARTS):
         parser.error(f"the parts are {', '.join(PARTS)}, all")
     words.parts = asked
-    is_other = words.quick or words.only or words.against or words.tunables
+    is_other = words.quick or words.only or words.against
     if words.write and (is_other or words.program != PROGRAM):
         parser.error("--write is for a whole run of the program in crates/segcached/out")
     if words.against and os.path.realpath(words.against) == os.path.realpath(words.program):

@@ -1,11 +1,11 @@
 #!/usr/bin/env python3
 """Hostile use of a served segcached: bad bytes, bad peers, refused memory, much data, shared counters.
 
-    tools/hostile.py [--long] [--only NAME,..] [--program FILE] [--late SECONDS] [--fuzz-seconds SECONDS]
+    tools/hostile.py [--long] [--only NAME,..] [--program FILE] [--late SECONDS]
 
 Each part serves the program on a free port, does its worst beside a canary (a client whose every answer is checked and timed),
-and says a line. Without --long the parts take about three minutes in all; with it the fuzz alone takes half an hour, unless
---fuzz-seconds says otherwise. Ends with status 0 if nothing was wrong, lost or late.
+and says a line. Without --long the parts take about three minutes in all; with it the fuzz alone takes half an hour.
+Ends with status 0 if nothing was wrong, lost or late.
 """
 import argparse
 import multiprocessing
@@ -30,8 +30,6 @@ from standstills import Standstills
 PROGRAM = served.PROGRAM
 # The most seconds that six answers to the canary may take.
 LATE = 1.0
-# (in place of a minute, or of half an hour)
-FUZZ_SECONDS = None
 
 
 def serve(*words, **named):
@@ -225,7 +223,7 @@ class Crowd:
 
 def fuzz(is_long):
     """Bad bytes on up to 1,000 connections, beside the canary."""
-    seconds = FUZZ_SECONDS or (1800 if is_long else 60)
+    seconds = 1800 if is_long else 60
     chance = random.Random(20260101)
     with serve("--workers", "2") as server:
         canary, crowd, sent = Canary(server), Crowd(server, 1000 if is_long else 300), 0
@@ -602,9 +600,8 @@ def main():
     parser.add_argument("--only", default=",".join(PARTS))
     parser.add_argument("--program", default=PROGRAM)
     parser.add_argument("--late", type=float, default=LATE)
-    parser.add_argument("--fuzz-seconds", type=float)
     words = parser.parse_args()
-    globals().update(PROGRAM=words.program, LATE=words.late, FUZZ_SECONDS=words.fuzz_seconds)
+    globals().update(PROGRAM=words.program, LATE=words.late)
     _, hard = resource.getrlimit(resource.RLIMIT_NOFILE)
     resource.setrlimit(resource.RLIMIT_NOFILE, (min(hard, 8192), hard))
     failed = 0

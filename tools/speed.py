@@ -155,7 +155,6 @@ class Speed:
     def __init__(self, load, kinds, rounds, seconds, say):
         self.load, self.kinds, self.say = load, kinds, say
         self.rounds, self.seconds = rounds, seconds
-        self.tunables = dict.fromkeys(kinds, TUNABLES)
         self.options = {it: known_to(it, OPTIONS) for it in kinds if it != "memcached"}
         # (always the same turns)
         self.turns = random.Random(1)
@@ -167,7 +166,7 @@ class Speed:
 
     def started(self, kind, workers, megabytes, segment_size=MIB, options=None):
         """A server with these options, or the package's."""
-        tuned = {**os.environ, "GLIBC_TUNABLES": self.tunables[kind]}
+        tuned = {**os.environ, "GLIBC_TUNABLES": TUNABLES}
         if kind == "memcached":
             return Memcached(THREADS[workers], megabytes, tuned)
         sizes = ["--segment-size", segment_size, "--segments", megabytes * MIB // segment_size]

@@ -6,6 +6,7 @@ mod hand;
 mod interval;
 mod lingering;
 mod listener;
+mod notices;
 mod open_stream;
 mod polls;
 mod port;
@@ -15,6 +16,7 @@ mod streams;
 
 pub use fault::{NetFault, Refusal};
 pub use hand::{Hand, StreamSender};
-pub use listener::{ListenReport, Listener, Notices};
+pub use listener::{ListenReport, Listener};
+pub use notices::{Notices, ProcessorTimes};
 pub use port::MioPort;
 pub use streams::Owner;

@@ -5,6 +5,7 @@ mod fault;
 mod operator;
 mod seed;
 mod service;
+mod usage;
 
 pub use fault::Fault;
 pub use seed::seed_of;

@@ -1,9 +1,11 @@
 //! What an operator is told while it serves.
 
+use crate::usage::processor_times;
 use mio::unix::SourceFd;
 use mio::{Events, Interest, Poll, Token};
-use net::Notices;
+use net::{Notices, ProcessorTimes};
 use std::alloc::Global;
+use std::fs::Files;
 use std::io::Eprint;
 use std::net::Net;
 use std::os::fd::RawFd;
@@ -84,7 +86,7 @@ impl<H: Eprint + Drop> Operator<H> {
     }
 }
 
-impl<H: Eprint + Drop> Notices for Operator<H> {
+impl<H: Eprint + Files + Drop> Notices for Operator<H> {
     fn workers_are_full(&mut self, waiting: usize, closed: u64) {
         if self.can_write() {
             let _ = eprintln!(self.rt;
@@ -99,5 +101,9 @@ impl<H: Eprint + Drop> Notices for Operator<H> {
                 "connections can't be accepted, {failed} times so far: descriptors or memory are missing"
             );
         }
+    }
+
+    fn processor_times(&mut self) -> Option<ProcessorTimes> {
+        processor_times(&self.rt)
     }
 }

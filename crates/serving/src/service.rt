@@ -18,6 +18,7 @@ use net::{Hand, ListenReport, Listener, MioPort, NetFault, Owner, StreamSender};
 use proto::{Geometry, Storage, SystemClock, Terms};
 use segcache::Store;
 use std::alloc::Global;
+use std::fs::Files;
 use std::io::{Eprint, Write};
 use std::net::Net;
 use std::sync::Wait;
@@ -26,9 +27,9 @@ use std::time;
 use worker::OpenGate;
 
 /// What serving asks of the system.
-pub trait System: Runtime + Net + Eprint + Copy + Drop + Send + 'static {}
+pub trait System: Runtime + Net + Files + Eprint + Copy + Drop + Send + 'static {}
 
-impl<H: Runtime + Net + Eprint + Copy + Drop + Send + 'static> System for H {}
+impl<H: Runtime + Net + Files + Eprint + Copy + Drop + Send + 'static> System for H {}
 
 /// What a served group leaves.
 pub type Report<H> = GroupReport<MioPort<H>, SystemClock<H>>;

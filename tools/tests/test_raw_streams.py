@@ -3,6 +3,7 @@ that nothing reads from a stream or writes to it beside its log, nor by its desc
 
     python3 -m pytest tools/tests/test_raw_streams.py
 """
+import collections
 import glob
 import os
 import re
@@ -10,7 +11,7 @@ import re
 TOP = os.path.dirname(os.path.dirname(os.path.dirname(os.path.abspath(__file__))))
 SOURCES = f"{TOP}/crates/net/src"
 
-# The calls of each type that has a raw stream, or makes one. A served stream's bytes are logged by `read` and `write`. Of a new one the first
+# The calls of each type that has a raw stream, or makes one. A served stream's bytes are logged by `read` and `write`; `peer` asks the system for an address. Of a new one the first
 # bytes are looked at, which leaves them there; or it is refused, and closed.
 CALLS = {
     "sockets.rt": {
@@ -18,7 +19,7 @@ CALLS = {
         "NewStream": {"serve", "has_probe", "refuse"},
         "EndedStream": {"of", "drain"},
     },
-    "sockets/logged_stream.rt": {"LoggedStream": {"new", "into_stream", "read", "write"}},
+    "sockets/logged_stream.rt": {"LoggedStream": {"new", "into_stream", "read", "write", "peer"}},
 }
 
 # Libraries whose safe calls take any descriptor by its number. Of `os` and of `libc` the product uses these calls alone, which take none.
@@ -61,7 +62,10 @@ def test_they_have_these_calls_alone():
     for name, types in CALLS.items():
         text = read(f"{SOURCES}/{name}")
         blocks = re.findall(r"^impl(?:<[^{]*>)? (\w+)[^{]*\{(.*?)^\}", text, re.DOTALL | re.MULTILINE)
-        found = {it: set(re.findall(r"\bfn (\w+)", block)) for it, block in blocks if "fn " in block}
+        found = collections.defaultdict(set)
+        for it, block in blocks:
+            found[it].update(re.findall(r"\bfn (\w+)", block))
+        found = {it: calls for it, calls in found.items() if calls}
         assert found == types, name
         assert len(re.findall(r"\bfn ", text)) == sum(map(len, types.values())), name
         assert set(re.findall(r"pub\(super\) fn (\w+)", text)) == PRIVATE.get(name, set()), name

@@ -24,6 +24,8 @@ pub(crate) const EXACT_TTLS: &str = "exact-ttls";
 
 pub(crate) const STORAGE: &str = "storage";
 
+pub(crate) const QUIET: &str = "quiet";
+
 /// The values of `--storage`.
 const BY_THREAD: &str = "thread";
 
@@ -45,6 +47,9 @@ const EXACT_TTLS_HELP: &str =
 
 const STORAGE_HELP: &str =
     "Who executes requests: the storage thread, or the workers, which then wake no thread";
+
+const QUIET_HELP: &str =
+    "Write no line on standard error for connections that are closed for what they sent, for silence or for memory";
 
 const EVICT_HELP: &str =
     "Which segments are merged or evicted: the oldest, or of the first quarter those whose items were read least";
@@ -145,6 +150,7 @@ fn serve<'a>(alloc: Global) -> Result<Command<'a>, AllocError> {
         .override_usage("segcached serve [OPTIONS] --listen <ADDR>")
         .after_help(SERVE_HELP);
     let command = command.arg(listen)?.arg(workers(alloc, &["2"]))?;
+    let command = command.arg(flag(alloc, QUIET, QUIET_HELP))?;
     with_options(alloc, command, &SERVE_OPTIONS)
 }
 

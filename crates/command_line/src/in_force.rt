@@ -1,7 +1,7 @@
 //! The options with which a server runs, as words.
 
 use crate::commands::{
-    BY_WORKERS, EVICT, EXACT_TTLS, LEAST_READ, LENIENT, LISTEN, STORAGE, UPDATE_IN_PLACE,
+    BY_WORKERS, EVICT, EXACT_TTLS, LEAST_READ, LENIENT, LISTEN, QUIET, STORAGE, UPDATE_IN_PLACE,
 };
 use crate::number_option::{
     CONNECTIONS, IDLE, NumberOption, SEGMENT_SIZE, SEGMENTS, SESSIONS, SPIN, WORKERS,
@@ -71,6 +71,7 @@ fn push_rules(line: &mut String, options: &ServeOptions) -> Result<(), AllocErro
     if options.storage == Storage::Workers {
         push_value(line, STORAGE, BY_WORKERS)?;
     }
+    push_flag(line, QUIET, options.quiet)?;
     push_flag(line, EXACT_TTLS, options.exact_ttls)?;
     push_flag(line, LENIENT, options.dialect == Dialect::Lenient)?;
     push_flag(line, UPDATE_IN_PLACE, options.update_in_place)

@@ -47,6 +47,8 @@ pub struct ServeOptions {
     /// For how many microseconds a thread looks for work before it sleeps, 0 to 1,000,000; None leaves it to each
     /// thread. It does nothing if workers execute requests.
     pub spin: Option<u32>,
+    /// Whether no line is written for connections that are closed.
+    pub quiet: bool,
     /// The bytes of a segment, 4,096 to 1,048,576. Whether it is a power of two is tested later.
     pub segment_size: u64,
     /// The number of segments, 8 to 65,536.

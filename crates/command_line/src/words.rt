@@ -9,8 +9,8 @@ ghost use Rattle.command_line.specs.declared.words.WordsFault.TheVariants as wor
 ghost use Rattle.command_line.specs.Words.{IsJob, IsReplayInRange, IsServeInRange, IsInRange};
 
 use crate::commands::{
-    BY_WORKERS, EVICT, EXACT_TTLS, FILE, LEAST_READ, LENIENT, LISTEN, STORAGE, UPDATE_IN_PLACE,
-    command,
+    BY_WORKERS, EVICT, EXACT_TTLS, FILE, LEAST_READ, LENIENT, LISTEN, QUIET, STORAGE,
+    UPDATE_IN_PLACE, command,
 };
 use crate::number_option::{
     ACCEPT, CONNECTIONS, FAIL_GIVE, IDLE, NOW, NumberOption, SEGMENT_SIZE, SEGMENTS, SESSIONS,
@@ -133,6 +133,7 @@ fn serve_options(alloc: Global, matches: &ArgMatches<'_>) -> Result<ServeOptions
         sessions: number_or_none(alloc, matches, &SESSIONS)?,
         idle: number_or_none(alloc, matches, &IDLE)?,
         spin: number_or_none(alloc, matches, &SPIN)?.map(|micros| micros as u32),
+        quiet: matches.get_flag(QUIET),
         segment_size: number(alloc, matches, &SEGMENT_SIZE)?,
         segments: number(alloc, matches, &SEGMENTS)?,
         dialect: dialect(matches),

@@ -1,6 +1,7 @@
 //! `segcached serve`, and the seed of the hash of its keys.
 #![tactic(auto)]
 
+mod closing_text;
 mod fault;
 mod operator;
 mod seed;

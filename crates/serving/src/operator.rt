@@ -1,9 +1,10 @@
 //! What an operator is told while it serves.
 
+use crate::closing_text::ClosingText;
 use crate::usage::processor_times;
 use mio::unix::SourceFd;
 use mio::{Events, Interest, Poll, Token};
-use net::{Notices, ProcessorTimes};
+use net::{Closing, Notices, ProcessorTimes};
 use std::alloc::Global;
 use std::fs::Files;
 use std::io::Eprint;
@@ -54,12 +55,18 @@ impl Watch {
 pub(crate) struct Operator<H: Drop> {
     pub(crate) rt: H,
     pub(crate) watch: Option<Watch>,
+    /// Tells of no connections that were closed.
+    pub(crate) is_quiet: bool,
 }
 
 impl<H: Eprint + Net + Drop> Operator<H> {
     pub(crate) fn new(rt: H, alloc: Global) -> Operator<H> {
         let watch = Watch::new(&rt, alloc);
-        Operator { rt, watch }
+        Operator {
+            rt,
+            watch,
+            is_quiet: false,
+        }
     }
 }
 
@@ -100,6 +107,13 @@ impl<H: Eprint + Files + Drop> Notices for Operator<H> {
             let _ = eprintln!(self.rt;
                 "connections can't be accepted, {failed} times so far: descriptors or memory are missing"
             );
+        }
+    }
+
+    fn connection_closed(&mut self, closing: &Closing, more: u64) {
+        if !self.is_quiet && self.can_write() {
+            let text = ClosingText { closing, more };
+            let _ = eprintln!(self.rt; "{text}");
         }
     }
 

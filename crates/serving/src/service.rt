@@ -247,10 +247,14 @@ fn announce_and_listen<H: System, W: Write>(
 {
     announce(rt, alloc, options, listener.port(), out)?;
     let watch = Watch::new(&rt, alloc);
-    let limit = options.sessions;
+    let (limit, is_quiet) = (options.sessions, options.quiet);
     thread::spawn(&rt, move || {
         os::set_thread_name(b"listener");
-        let mut operator = Operator { rt, watch };
+        let mut operator = Operator {
+            rt,
+            watch,
+            is_quiet,
+        };
         listener.run_heard(&rt, hands.as_mut_slice(), limit, &mut operator)
     })
     .map_err(|_| Fault::NoThread)

@@ -9,6 +9,7 @@ ghost use Rattle.exchange.specs.Beginnings.{StartsWith};
 ghost use Rattle.worker_port.specs.Giving.{MayBeSent, by_system_clock, sent_for};
 ghost use Rattle.std.specs.Io.KnownBytes.{ReadConsumes, WriteAppends};
 
+use crate::peer::Peer;
 use crate::streams::Owner;
 use exchange::{ExchangeName, WorkerBatch};
 use mio::net::TcpStream;
@@ -41,6 +42,16 @@ pub(crate) struct LoggedStream<S: Drop> {
     pub(crate) sent: Trace<u8>,
     /// A read of no bytes came: no more come.
     pub(crate) has_ended: bool,
+}
+
+impl LoggedStream<TcpStream> {
+    /// Who has the other end.
+    pub(crate) fn peer(&self) -> Peer {
+        match self.stream.peer_addr() {
+            Ok(address) => Peer::Address(address),
+            Err(_) => Peer::Unknown,
+        }
+    }
 }
 
 impl<S: Read + Write + Drop> LoggedStream<S> {

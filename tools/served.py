@@ -95,23 +95,23 @@ class Server(Process):
     def __init__(self, program, *words, listen="127.0.0.1:0", environment=None, limits=None, stderr=subprocess.PIPE):
         super().__init__([program, "serve", "--listen", listen, *words], environment, limits, stderr)
         self.first_line = self.process.stdout.readline()
-        found = re.fullmatch(r"listening on (.+):([1-9][0-9]*)\n", self.first_line)
+        found = re.fullmatch(r"listening on (?:unix:(?P<path>.+)|(?P<host>.+):(?P<port>[1-9][0-9]*))\n", self.first_line)
         if not found:
             if self.first_line:
                 self.process.kill()
             status, fault = self.process.wait(30), self.errors()
             self.stop()
             raise NotServing(status, self.first_line + fault)
-        self.host, self.port = found[1].strip("[]"), int(found[2])
+        self.path, self.host, self.port = found["path"], (found["host"] or "").strip("[]"), int(found["port"] or 0)
 
     def connect(self, seconds=20, receive_buffer=None):
         """A connection whose calls wait for at most this number of seconds."""
-        stream = socket.socket(socket.AF_INET6 if ":" in self.host else socket.AF_INET)
+        stream = socket.socket(socket.AF_UNIX if self.path else socket.AF_INET6 if ":" in self.host else socket.AF_INET)
         if receive_buffer:
             stream.setsockopt(socket.SOL_SOCKET, socket.SO_RCVBUF, receive_buffer)
         stream.settimeout(seconds)
         try:
-            stream.connect((self.host, self.port))
+            stream.connect(self.path or (self.host, self.port))
         except OSError:
             stream.close()
             raise

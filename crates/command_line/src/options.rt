@@ -34,8 +34,12 @@ pub struct Options {
 /// What `segcached serve` is told.
 #[derive(Drop)]
 pub struct ServeOptions {
-    /// The address: an IP address and a port.
+    /// The first address: an IP address and a port, or `unix:` and the path of a socket.
     pub listen: String,
+    /// Up to seven further ones.
+    pub also: Vec<String>,
+    /// The mode of the files of sockets, 0 to 0o777.
+    pub socket_mode: u32,
     /// How many workers run, 1 to 8.
     pub workers: u64,
     /// How many connections each worker serves at a time, 1 to 65,536; None is 1,024.

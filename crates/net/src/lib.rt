@@ -1,6 +1,7 @@
 //! Sockets: a listener that hands streams to workers, and a worker's port over such streams.
 #![tactic(auto)]
 
+mod address;
 mod closings;
 mod fault;
 mod hand;
@@ -16,6 +17,7 @@ mod probes;
 mod sockets;
 mod streams;
 
+pub use address::is_path;
 pub use closings::Closing;
 pub use fault::{NetFault, Refusal};
 pub use hand::{Hand, StreamSender};

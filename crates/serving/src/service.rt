@@ -14,7 +14,7 @@ use crate::operator::{Operator, Watch};
 use command_line::{ServeOptions, on_one_line, options_in_force};
 use exchange::Exchange;
 use group::{Config, GroupReport, Runtime, run_group};
-use net::{Hand, ListenReport, Listener, MioPort, NetFault, Owner, StreamSender};
+use net::{Hand, ListenReport, Listener, MioPort, NetFault, Owner, StreamSender, is_path};
 use proto::{Geometry, Storage, SystemClock, Terms};
 use segcache::Store;
 use std::alloc::Global;
@@ -34,12 +34,12 @@ impl<H: Runtime + Net + Files + Eprint + Copy + Drop + Send + 'static> System fo
 /// What a served group leaves.
 pub type Report<H> = GroupReport<MioPort<H>, SystemClock<H>>;
 
-/// That it can't listen, for this reason.
-fn cannot_listen(alloc: Global, options: &ServeOptions, fault: NetFault) -> Fault {
+/// That it can't listen at the address, for this reason.
+fn cannot_listen(alloc: Global, addr: &str, fault: NetFault) -> Fault {
     if matches!(fault, NetFault::NoMemory) {
         return Fault::NoMemory;
     }
-    match on_one_line(alloc, options.listen.as_str()) {
+    match on_one_line(alloc, addr) {
         Ok(addr) => Fault::CannotListen(addr, fault),
         Err(_) => Fault::NoMemory,
     }
@@ -111,14 +111,20 @@ fn make_ports<H: Wait + Net + time::Clock + Copy + Drop>(
     Ok((hands, ports))
 }
 
-/// The line of the options' address, with the real port after its last colon.
+/// The line of the options' first address: a path, or an address with the real port after its last colon.
 fn listening_line(alloc: Global, options: &ServeOptions, port: u16) -> Result<String, Fault>
     ensures { IfOk result (λ line. IsListeningLine (string_bytes options.entry.now.listen) port (string_bytes line)) }
 {
-    let Some((host, _)) = options.listen.rsplit_once(':') else {
-        return Err(cannot_listen(alloc, options, NetFault::BadAddress));
-    };
+    let listen = options.listen.as_str();
     let mut line = String::from_str(alloc, "listening on ")?;
+    if is_path(listen) {
+        line.push_str(listen)?;
+        line.push_str("\n")?;
+        return Ok(line);
+    }
+    let Some((host, _)) = listen.rsplit_once(':') else {
+        return Err(cannot_listen(alloc, listen, NetFault::BadAddress));
+    };
     line.push_str(host)?;
     line.push_str(":")?;
     line.push_str(port.to_string(alloc)?.as_str())?;
@@ -168,8 +174,27 @@ struct Opened<H: Drop> {
     store: Store,
 }
 
-/// Listens on the options' address, and makes the rest.
-fn open<H: Wait + Net + time::Clock + Copy + Drop>(
+/// Listens on the options' addresses.
+fn listen<H: Net + Files>(
+    rt: &H,
+    alloc: Global,
+    options: &ServeOptions,
+) -> Result<Listener, Fault> {
+    let (first, mode) = (options.listen.as_str(), options.socket_mode);
+    let mut listener = match Listener::bind(rt, alloc, first, mode) {
+        Ok(listener) => listener,
+        Err(fault) => return Err(cannot_listen(alloc, first, fault)),
+    };
+    for addr in &options.also {
+        if let Err(fault) = listener.also(rt, addr.as_str(), mode) {
+            return Err(cannot_listen(alloc, addr.as_str(), fault));
+        }
+    }
+    Ok(listener)
+}
+
+/// Listens on the options' addresses, and makes the rest.
+fn open<H: Wait + Net + Files + time::Clock + Copy + Drop>(
     rt: H,
     alloc: Global,
     options: &ServeOptions,
@@ -179,14 +204,11 @@ fn open<H: Wait + Net + time::Clock + Copy + Drop>(
     ensures { IfOk result (λ opened. IsSetUp geometry seed options.entry.now opened.exchange opened.ports.items
         opened.store) }
 {
-    let listener = match Listener::bind(&rt, alloc, options.listen.as_str()) {
-        Ok(listener) => listener,
-        Err(fault) => return Err(cannot_listen(alloc, options, fault)),
-    };
+    let listener = listen(&rt, alloc, options)?;
     let exchange = Exchange::new(alloc, options.workers as usize, terms_of(geometry))?;
     let (hands, ports) = match make_ports(rt, alloc, geometry, &exchange, options) {
         Ok(made) => made,
-        Err(fault) => return Err(cannot_listen(alloc, options, fault)),
+        Err(fault) => return Err(cannot_listen(alloc, options.listen.as_str(), fault)),
     };
     let store = Store::seeded(
         alloc,

@@ -63,9 +63,9 @@ class Process:
         self.stop()
 
     def errors(self):
-        """What it wrote to standard error, up to its end, if that is a pipe of ours; without the line of a server's options."""
+        """What it wrote to standard error, up to its end, if that is a pipe of ours; without the first lines of a server."""
         said = self.process.stderr.read() if self.process.stderr else ""
-        return re.sub(r"\Asegcached: --listen .*\n", "", said)
+        return re.sub(r"\A(segcached: (--listen|takes|warning:) .*\n)+", "", said)
 
     def kilobytes(self, what):
         """A line of the process's status: VmRSS is what is resident."""

@@ -3,6 +3,7 @@
 
 mod closing_text;
 mod fault;
+mod memory;
 mod operator;
 mod seed;
 mod service;

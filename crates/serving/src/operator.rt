@@ -1,6 +1,7 @@
 //! What an operator is told while it serves.
 
 use crate::closing_text::ClosingText;
+use crate::memory::mebibytes;
 use crate::usage::processor_times;
 use mio::unix::SourceFd;
 use mio::{Events, Interest, Poll, Token};
@@ -82,6 +83,22 @@ impl<H: Eprint + Drop> Operator<H> {
     pub(crate) fn serves_with(&mut self, options: &str) {
         if self.can_write() {
             let _ = eprintln!(self.rt; "segcached: {options}");
+        }
+    }
+
+    /// Tells how much memory it may take at most, and warns if its control group has a limit below that.
+    pub(crate) fn may_take(&mut self, most: u64, limit: Option<u64>) {
+        let most_mebibytes = mebibytes(most);
+        if self.can_write() {
+            let _ = eprintln!(self.rt; "segcached: takes {most_mebibytes} MiB of memory at most");
+        }
+        if let Some(limit) = limit {
+            if limit < most && self.can_write() {
+                let limit = mebibytes(limit);
+                let _ = eprintln!(self.rt;
+                    "segcached: warning: its control group may have {limit} MiB, so the kernel may kill it"
+                );
+            }
         }
     }
 

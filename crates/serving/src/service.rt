@@ -10,6 +10,7 @@ ghost use Rattle.net.specs.Traces.{trace_of, IsNew};
 ghost use Rattle.serving.specs.Runs.{AreNewPorts, IsSetUp, IsServed};
 
 use crate::fault::Fault;
+use crate::memory::{group_limit, most_bytes};
 use crate::operator::{Operator, Watch};
 use command_line::{ServeOptions, on_one_line, options_in_force};
 use exchange::Exchange;
@@ -132,11 +133,12 @@ fn listening_line(alloc: Global, options: &ServeOptions, port: u16) -> Result<St
     Ok(line)
 }
 
-/// Tells the operator the options in force, and prints that it listens, with the real port.
-fn announce<H: Eprint + Net + Drop, W: Write>(
+/// Tells the operator the options in force and the memory that they may take, and prints that it listens, with the real port.
+fn announce<H: Eprint + Net + Files + Drop, W: Write>(
     rt: H,
     alloc: Global,
     options: &ServeOptions,
+    geometry: Geometry,
     port: u16,
     out: &mut W,
 ) -> Result<(), Fault>
@@ -144,7 +146,10 @@ fn announce<H: Eprint + Net + Drop, W: Write>(
         × Appends (W.contents out.old) (W.contents out.new) line) }
 {
     let in_force = options_in_force(alloc, options)?;
-    Operator::new(rt, alloc).serves_with(in_force.as_str());
+    let limit = group_limit(&rt, alloc);
+    let mut operator = Operator::new(rt, alloc);
+    operator.serves_with(in_force.as_str());
+    operator.may_take(most_bytes(options, geometry), limit);
     let line = listening_line(alloc, options, port)?;
     if out.write_all(line.as_bytes()).is_err() || out.flush().is_err() {
         return Err(Fault::CannotWrite);
@@ -262,12 +267,13 @@ fn announce_and_listen<H: System, W: Write>(
     mut listener: Listener,
     mut hands: Vec<StreamSender>,
     options: &ServeOptions,
+    geometry: Geometry,
     out: &mut W,
 ) -> Result<JoinHandle<ListenReport>, Fault>
     ensures { OnOk result (IsAnnounced (string_bytes options.entry.now.listen)
         (W.contents out.old) (W.contents out.new)) }
 {
-    announce(rt, alloc, options, listener.port(), out)?;
+    announce(rt, alloc, options, geometry, listener.port(), out)?;
     let watch = Watch::new(&rt, alloc);
     let (limit, is_quiet) = (options.sessions, options.quiet);
     thread::spawn(&rt, move || {
@@ -312,7 +318,7 @@ pub fn serve<H: System, W: Write>(
         ports,
         store,
     } = open(rt, alloc, options, geometry, seed)?;
-    let listening = announce_and_listen(rt, alloc, listener, hands, options, out)?;
+    let listening = announce_and_listen(rt, alloc, listener, hands, options, geometry, out)?;
     let report = run_workers(rt, alloc, ports, exchange, store, geometry, seed, options)?;
     listening.join(&rt);
     Operator::new(rt, alloc).has_ended();

@@ -26,7 +26,7 @@ SECONDS = 20
 # Of each plugin of munin, how many values it shows.
 OF_MUNIN = {"bytes": 2, "counters": 3, "rates": 6}
 # How many series collectd shows of memcached, and those that have no field here.
-SERIES, MISSING = 24, {"ps_cputime", "memcached_command-meta"}
+SERIES, MISSING = 24, {"memcached_command-meta"}
 # How many charts netdata shows, beside the one of its own time.
 CHARTS = 14
 TOOL = "/usr/share/memcached/scripts/memcached-tool"

@@ -79,9 +79,9 @@ class Process:
         self.stop()
 
     def errors(self):
-        """What it wrote to standard error, up to its end, if that is a pipe of ours; without the line of a server's options."""
+        """What it wrote to standard error, up to its end, if that is a pipe of ours; without the first lines of a server."""
         said = self.process.stderr.read() if self.process.stderr else ""
-        return re.sub(r"\Asegcached: --listen .*\n", "", said)
+        return re.sub(r"\A(segcached: (--listen|takes|warning:) .*\n)+", "", said)
 
     def kilobytes(self, what):
         """A line of the process's status: VmRSS is what is resident."""
@@ -120,23 +120,23 @@ class Server(Process):
     def __init__(self, program, *words, listen="127.0.0.1:0", environment=None, limits=None, stderr=subprocess.PIPE):
         super().__init__([program, "serve", "--listen", listen, *words], environment, limits, stderr)
         self.first_line = self.process.stdout.readline()
-        found = re.fullmatch(r"listening on (.+):([1-9][0-9]*)\n", self.first_line)
+        found = re.fullmatch(r"listening on (?:unix:(?P<path>.+)|(?P<host>.+):(?P<port>[1-9][0-9]*))\n", self.first_line)
         if not found:
             if self.first_line:
                 self.process.kill()
             status, fault = self.process.wait(30), self.errors()
             self.stop()
             raise NotServing(status, self.first_line + fault)
-        self.host, self.port = found[1].strip("[]"), int(found[2])
+        self.path, self.host, self.port = found["path"], (found["host"] or "").strip("[]"), int(found["port"] or 0)
 
     def connect(self, seconds=20, receive_buffer=None):
         """A connection whose calls wait for at most this number of seconds."""
-        stream = socket.socket(socket.AF_INET6 if ":" in self.host else socket.AF_INET)
+        stream = socket.socket(socket.AF_UNIX if self.path else socket.AF_INET6 if ":" in self.host else socket.AF_INET)
         if receive_buffer:
             stream.setsockopt(socket.SOL_SOCKET, socket.SO_RCVBUF, receive_buffer)
         stream.settimeout(seconds)
         try:
-            stream.connect((self.host, self.port))
+            stream.connect(self.path or (self.host, self.port))
         except OSError:
             stream.close()
             raise

@@ -1,6 +1,7 @@
 """The values of `stats` that no clause speaks of, beside the clock, the machine and what was done."""
 import contextlib
 import os
+import re
 import resource
 import struct
 import threading
@@ -49,6 +50,28 @@ def test_each_thread_has_a_name_of_its_own(serve):
             names.append(file.read().strip())
     # (the first thread has the program's name)
     assert {*workers, "storage", "listener"} < set(names) and len(names) == 11 == len(set(names))
+
+
+def processor_times(process):
+    """The process's own times in user mode and in the system, in seconds, as the system tells them."""
+    with open(f"/proc/{process.pid}/stat", encoding="ascii") as file:
+        words = file.read().rpartition(")")[2].split()
+    return tuple(int(it) / os.sysconf("SC_CLK_TCK") for it in words[11:13])
+
+
+def test_processor_times_are_told(serve):
+    """They are at most 1.1 seconds old, so two seconds after the last work they are those of then."""
+    server = serve("--lenient")
+    with server.connect() as stream:
+        for _ in range(20):
+            ask(stream, (b"get" + b" k" * 15_000 + b"\r\n") * 10, b"END\r\n" * 10)
+        until = time.monotonic() + 60
+        while sum(processor_times(server.process)) < 0.1 and time.monotonic() < until:
+            ask(stream, (b"get" + b" k" * 15_000 + b"\r\n") * 10, b"END\r\n" * 10)
+        time.sleep(2)
+        found, real = told(stream), processor_times(server.process)
+    for name, it in zip(("rusage_user", "rusage_system"), real):
+        assert re.fullmatch(r"[0-9]+\.[0-9]{6}", found[name]) and abs(float(found[name]) - it) <= 0.05, (found[name], it)
 
 
 # ---- busy times
@@ -154,6 +177,17 @@ def test_the_longest_merge_is_kept(serve):
             longest.append(found["merge_us_max"])
     assert found["merges"] > 10 and longest == sorted(longest)
     assert 0 < longest[-1] < 10_000_000
+
+
+def test_lookups_of_expired_items_are_counted(serve):
+    """Those of items that are alive and of keys that never had one are not."""
+    with serve("--lenient", "--exact-ttls").connect() as stream:
+        ask(stream, b"set a 0 1 1\r\nx\r\nset b 0 0 1\r\nx\r\nget b c\r\n", b"STORED\r\nSTORED\r\nVALUE b 0 1\r\nx\r\nEND\r\n")
+        assert numbers(stream)["get_expired"] == 0
+        time.sleep(2.1)
+        ask(stream, b"get a\r\nget a b\r\n", b"END\r\nVALUE b 0 1\r\nx\r\nEND\r\n")
+        found = numbers(stream)
+    assert (found["get_expired"], found["get_misses"]) == (2, 3)
 
 
 def test_failed_accepts_are_no_rejected_connections(serve):

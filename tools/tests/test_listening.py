@@ -46,10 +46,10 @@ def test_it_prints_its_real_port_and_ends_after_its_sessions(serve):
 
 @pytest.mark.parametrize("words, in_force", [
     ("", "--workers 2 --segment-size 65536 --segments 64"),
-    ("--segments 9 --lenient --spin 0 --storage workers --update-in-place --exact-ttls --idle 60 --sessions 3 --connections 65536 "
+    ("--segments 9 --quiet --lenient --spin 0 --storage workers --update-in-place --exact-ttls --idle 60 --sessions 3 --connections 65536 "
      "--segment-size 4096 --workers 3",
-     "--workers 3 --segment-size 4096 --segments 9 --connections 65536 --sessions 3 --idle 60 --spin 0 --storage workers --exact-ttls "
-     "--lenient --update-in-place"),
+     "--workers 3 --segment-size 4096 --segments 9 --connections 65536 --sessions 3 --idle 60 --spin 0 --storage workers --quiet "
+     "--exact-ttls --lenient --update-in-place"),
 ], ids=["the least options", "all options"])
 def test_it_says_on_standard_error_first_which_options_are_in_force(serve, words, in_force):
     errors = serve(*words.split()).process.stderr

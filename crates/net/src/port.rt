@@ -10,11 +10,14 @@ ghost use Rattle.worker_port.specs.Giving.{HasAskedOnly};
 ghost use Rattle.net.specs.Shown.{shown_stream};
 ghost use Rattle.net.specs.Ties.{OpenAgrees, BytesAgree, SocketsAgree};
 
+use crate::closings::Closing;
 use crate::fault::{NetFault, Refusal};
 use crate::hand::Hand;
 use crate::interval::Interval;
+use crate::peer::Peer;
 use crate::polls::Polls;
 use crate::streams::{Owner, Streams};
+use bytes::Bytes;
 use exchange::{ExchangeName, WorkerBatch};
 use mio::{Events, Poll};
 use proto::{Gauge, Gauges};
@@ -23,7 +26,7 @@ use std::mem;
 use std::net::Net;
 use std::sync::Wait;
 use std::time::Clock;
-use worker_port::{Gone, Port, PortEvent, ToldHistory};
+use worker_port::{CloseReason, Gone, Port, PortEvent, ToldHistory};
 
 /// Events of one poll.
 const EVENTS: usize = 256;
@@ -36,6 +39,7 @@ const LOOK_MILLIS: u64 = 125;
 #[derive(Drop)]
 pub struct MioPort<R: Drop> {
     rt: R,
+    alloc: Global,
     hand: Hand,
     poll: Poll,
     events: Events,
@@ -71,6 +75,7 @@ impl<R: Wait + Clock + Net + Drop> MioPort<R> {
         hand.register(&poll).map_err(|error| Refusal::of(&error))?;
         Ok(MioPort {
             rt,
+            alloc,
             hand,
             poll,
             events: Events::with_capacity(alloc, EVENTS)?,
@@ -142,6 +147,7 @@ impl<R: Wait + Clock + Drop> MioPort<R> {
         if self.has_idle {
             if let Some(event) = self.served.end_idle() {
                 self.idle_kicks = self.idle_kicks.saturating_add(1);
+                self.tell_closing(self.served.idle_peer, CloseReason::Idle, b"");
                 return event;
             }
             self.has_idle = false;
@@ -190,6 +196,14 @@ impl<R: Wait + Clock + Drop> MioPort<R> {
             }
         }
         true
+    }
+
+    /// Leaves word of a connection that is closed, unless memory is missing.
+    fn tell_closing(&self, peer: Peer, reason: CloseReason, line: &[u8]) {
+        if let Ok(line) = Bytes::copy_from_slice(self.alloc, line) {
+            let closing = Closing { peer, reason, line };
+            self.hand.explain(&self.rt, closing);
+        }
     }
 
     /// Opens a session for the next stream that waits in the hand and can be served.
@@ -255,6 +269,12 @@ impl<R: Wait + Clock + Drop> Port for MioPort<R> {
 
     fn shut(&mut self, session: u64) {
         self.served.shut(&self.rt, session);
+    }
+
+    fn explain(&self, session: u64, reason: CloseReason, line: &[u8]) {
+        if let Some(open) = self.served.open.get(&session) {
+            self.tell_closing(open.stream.peer(), reason, line);
+        }
     }
 
     fn set_gauges(&self, gauges: &Gauges) {

@@ -12,6 +12,7 @@ ghost use Rattle.net.specs.Ties.{Ties, SocketTies};
 use crate::hand::WAKER;
 use crate::lingering::LingeringStreams;
 use crate::open_stream::{Heard, OpenStream, Reading};
+use crate::peer::Peer;
 use crate::sockets::{EndedStream, NewStream, SocketNote};
 use exchange::{ExchangeName, WorkerBatch};
 use mio::{Events, Poll};
@@ -49,6 +50,8 @@ pub(crate) struct Streams {
     pub(crate) last: u64,
     /// How often idle sessions were looked for.
     pub(crate) looks: u64,
+    /// The peer of the session that was ended last as idle.
+    pub(crate) idle_peer: Peer,
     pub(crate) told: Trace<PortRecord>,
     /// The end was told.
     pub(crate) has_ended: bool,
@@ -85,6 +88,7 @@ impl Streams {
             scratch: Vec::from_elem(alloc, 0u8, MAX_PIECE)?,
             last: 0,
             looks: 0,
+            idle_peer: Peer::Unknown,
             told: Trace::new(),
             has_ended: false,
             owner,
@@ -218,7 +222,8 @@ impl Streams {
         let mut entries = self.open.iter();
         let idle = entries.find(|(_, open)| open.is_idle(self.looks));
         let session = idle.map(|(session, _)| *session)?;
-        let _ = self.open.remove(&session)?;
+        let ended = self.open.remove(&session)?;
+        self.idle_peer = ended.stream.peer();
         self.told.note_as(&PortNote::Gone(session));
         Some(PortEvent::Gone(session))
     }

@@ -14,6 +14,7 @@ ghost use Rattle.std.specs.Map.{lookup};
 ghost use Rattle.session_book.specs.BookInside.{ChangesAt};
 
 use crate::causes::{EndCause, OpenFault, Received, Settled, Unsettled};
+use crate::fault_line::FaultLine;
 use crate::load::Load;
 use crate::ready_queues::Task;
 use crate::session::{MAX_WAITING, Offer, Session};
@@ -344,6 +345,14 @@ impl Book {
     /// Whether the session that was asked last can be read further.
     pub fn reads_on(&self) -> bool {
         self.upkeep.reads_on
+    }
+
+    /// The line of the fatal message that ended the session, if it was asked last and that was read then.
+    pub fn fault(&self, session: u64) -> Option<&FaultLine> {
+        if self.upkeep.asked != session {
+            return None;
+        }
+        self.upkeep.fault.as_ref()
     }
 
     /// Takes out the next session that is to be asked. One that was put off comes if no other is to be asked, or once as many

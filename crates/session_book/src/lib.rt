@@ -5,6 +5,7 @@
 mod book;
 mod buffer;
 mod causes;
+mod fault_line;
 mod input;
 pub mod laws;
 mod load;
@@ -14,4 +15,5 @@ mod upkeep;
 
 pub use book::Book;
 pub use causes::{EndCause, OpenFault, Received, Settled};
+pub use fault_line::FaultLine;
 pub use ready_queues::Task;

@@ -11,6 +11,7 @@ ghost use Rattle.proto.specs.Reading.{asks};
 
 use crate::buffer::{Buffer, Use};
 use crate::causes::{EndCause, Received, Unsettled};
+use crate::fault_line::FaultLine;
 use crate::input::{Found, Input};
 use crate::load::Load;
 use crate::ready_queues::{ReadyQueues, Task, Tickets};
@@ -175,6 +176,7 @@ impl Session {
             Found::Nothing => Ok(None),
             Found::Copied(message, length) => {
                 put_behind(&mut self.queue, &mut self.output, &message, upkeep)?;
+                upkeep.fault = FaultLine::copied(self.alloc, &message, self.input.kept());
                 self.input.take(length, &mut upkeep.spares);
                 upkeep.load.read(&message, length);
                 self.ended = cause_of(&message);
@@ -204,6 +206,7 @@ impl Session {
     {
         // This read is for the proof: with it is known that the queue begins with a request.
         let _ = &self.alloc;
+        upkeep.fault = None;
         while let Some(message) = self.next_message(unsettled, looks, upkeep)? {
             if let Message::Ask(request, _) = message {
                 return Ok(Some(request));
@@ -224,6 +227,7 @@ impl Session {
             ready.add(Task::Give, session, &mut self.tickets.give);
         }
         upkeep.reads_on = self.is_ready();
+        upkeep.asked = session;
     }
 
     /// Whether the parser is to be called.

@@ -3,6 +3,7 @@
 ghost use Rattle.std.specs.Prelude.{◌≡◌};
 
 use crate::buffer::{LARGE_MESSAGE, SpareBuffers, Use};
+use crate::fault_line::FaultLine;
 use crate::load::Load;
 use crate::ready_queues::ReadyQueues;
 use proto::{Answered, Reply, Request, SpareBuffer};
@@ -15,6 +16,9 @@ pub(crate) struct Upkeep {
     pub(crate) ready: ReadyQueues,
     /// Whether the session that was asked last can be read further.
     pub(crate) reads_on: bool,
+    /// The session that was asked last, and the line of the fatal message that was read of it then.
+    pub(crate) asked: u64,
+    pub(crate) fault: Option<FaultLine>,
     pub(crate) load: Load,
     pub(crate) spares: SpareBuffers,
 }
@@ -24,6 +28,8 @@ impl Upkeep {
         Upkeep {
             ready: ReadyQueues::new(alloc),
             reads_on: false,
+            asked: 0,
+            fault: None,
             load: Load::default(),
             spares: SpareBuffers::new(alloc),
         }

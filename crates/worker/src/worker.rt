@@ -19,7 +19,7 @@ use proto::{Dialect, Posted, Request};
 use session_book::{Book, EndCause, Received, Settled, Task};
 use std::alloc::Global;
 use std::marker::Model;
-use worker_port::{Gone, Port, PortEvent};
+use worker_port::{CloseReason, Gone, Port, PortEvent};
 
 /// What asking a session brought.
 #[derive(Clone, Copy)]
@@ -72,8 +72,29 @@ impl<P: Port> WorkerState<P> {
         ensures shuts { Shuts P.told self.old self.new session cause }
         ensures leads { P.leads_to self.old.port self.new.port }
     {
+        self.explain(session, cause);
         self.port.shut(session);
         self.close(session, cause);
+    }
+
+    /// Tells the port of a session that is closed for want of memory.
+    fn explain(&self, session: u64, cause: EndCause) {
+        match cause {
+            EndCause::NoMemory => self.port.explain(session, CloseReason::Memory, b""),
+            EndCause::Drained
+            | EndCause::EndOfInput
+            | EndCause::Quit
+            | EndCause::Fatal
+            | EndCause::Gone => {}
+        }
+    }
+
+    /// Tells the port of a session that was asked, and is to be closed for what it sent.
+    fn explain_fault(&self, session: u64) {
+        if let Some(fault) = self.book.fault(session) {
+            let reason = CloseReason::Sent(fault.kind);
+            self.port.explain(session, reason, fault.line.as_slice());
+        }
     }
 
     /// Opens a session in the book, and writes its entry in the report; or shuts it, as there is no room for it.
@@ -85,6 +106,7 @@ impl<P: Port> WorkerState<P> {
         ensures admits { Admits P.told self.old self.new session ⊎ Refuses P.told self.old self.new session }
     {
         if self.book.open(session).is_err() {
+            self.explain(session, EndCause::NoMemory);
             self.port.shut(session);
             self.unopened = self.unopened.saturating_add(1);
             return;
@@ -258,7 +280,10 @@ impl<P: Port> Worker<P> {
                     reads_on: self.state.book.reads_on(),
                 }
             }
-            Ok(None) => Asked::Nothing,
+            Ok(None) => {
+                self.state.explain_fault(session);
+                Asked::Nothing
+            }
             Err(_) => {
                 self.state.shut(session, EndCause::NoMemory);
                 Asked::Nothing

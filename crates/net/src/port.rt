@@ -19,7 +19,6 @@ use exchange::{ExchangeName, WorkerBatch};
 use mio::{Events, Poll};
 use proto::{Gauge, Gauges};
 use std::alloc::Global;
-use std::mem;
 use std::net::Net;
 use std::sync::Wait;
 use std::time::Clock;
@@ -231,7 +230,7 @@ impl<R: Wait + Clock + Drop> Port for MioPort<R> {
             return PortEvent::Idle;
         }
         let event = self.next_event(sender);
-        if mem::take(&mut self.served.has_room) || !matches!(event, PortEvent::Idle) {
+        if !matches!(event, PortEvent::Idle) {
             self.polls.restart();
         }
         event
@@ -255,6 +254,10 @@ impl<R: Wait + Clock + Drop> Port for MioPort<R> {
 
     fn shut(&mut self, session: u64) {
         self.served.shut(&self.rt, session);
+    }
+
+    fn rooms(&self) -> Option<u64> {
+        Some(self.served.rooms.wrapping_add(self.served.looks))
     }
 
     fn set_gauges(&self, gauges: &Gauges) {

@@ -13,5 +13,5 @@ mod session;
 mod upkeep;
 
 pub use book::Book;
-pub use causes::{EndCause, OpenFault, Received, Settled};
+pub use causes::{EndCause, OpenFault, Received, Settled, Unasked};
 pub use ready_queues::Task;

@@ -3,6 +3,7 @@ use Rattle.std.proofs.Common.{◌≡◌, ℕ, ◌+◌, ◌<◌, List, [], ◌∷
 use Rattle.std.proofs.Common.{Some, None, Result, Ok, Err, refl, sym, ap, subst, ◌∙◌, arith, add-zero, length-append}
 use Rattle.std.proofs.lemmas.List.{append-nil}
 use Rattle.proto.specs.declared.message.Request.{Request}
+use Rattle.session_book.specs.declared.causes.Unasked.{Unasked}
 use Rattle.session_book.specs.declared.causes.Unsettled.{Unsettled}
 use Rattle.proto.specs.declared.limits.TheConstants.{WINDOW}
 use Rattle.proto.specs.declared.limits.TheConstants.{MAX_POSTS}

@@ -9,6 +9,7 @@ use Rattle.proto.specs.declared.message.Message.{Message}
 use Rattle.proto.specs.declared.message.Message.TheVariants.{Ask, Local, Quit, Fatal}
 use Rattle.proto.specs.declared.dialect.Dialect.{Dialect}
 use Rattle.proto.specs.Grammar.{Spells}
+use Rattle.session_book.specs.declared.causes.Unasked.{Unasked}
 use Rattle.session_book.specs.Input.{InputState, Begins}
 use Rattle.proto.specs.Needs.{IsUnfinished}
 use Rattle.proto.specs.Reading.{asks}

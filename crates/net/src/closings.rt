@@ -11,7 +11,7 @@ use std::sync::atomic::{AtomicU64, Ordering};
 use worker_port::CloseReason;
 
 /// How many reasons there are.
-pub(crate) const REASONS: usize = 7;
+pub(crate) const REASONS: usize = 8;
 
 /// A connection that is closed.
 #[derive(Drop)]
@@ -32,6 +32,7 @@ fn number_of(reason: CloseReason) -> usize {
         CloseReason::Sent(FatalKind::Binary) => 4,
         CloseReason::Idle => 5,
         CloseReason::Memory => 6,
+        CloseReason::Unread => 7,
     }
 }
 

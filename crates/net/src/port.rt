@@ -22,7 +22,6 @@ use exchange::{ExchangeName, WorkerBatch};
 use mio::{Events, Poll};
 use proto::{Gauge, Gauges};
 use std::alloc::Global;
-use std::mem;
 use std::net::Net;
 use std::sync::Wait;
 use std::time::Clock;
@@ -245,7 +244,7 @@ impl<R: Wait + Clock + Drop> Port for MioPort<R> {
             return PortEvent::Idle;
         }
         let event = self.next_event(sender);
-        if mem::take(&mut self.served.has_room) || !matches!(event, PortEvent::Idle) {
+        if !matches!(event, PortEvent::Idle) {
             self.polls.restart();
         }
         event
@@ -275,6 +274,10 @@ impl<R: Wait + Clock + Drop> Port for MioPort<R> {
         if let Some(open) = self.served.open.get(&session) {
             self.tell_closing(open.stream.peer(), reason, line);
         }
+    }
+
+    fn rooms(&self) -> Option<u64> {
+        Some(self.served.rooms.wrapping_add(self.served.looks))
     }
 
     fn set_gauges(&self, gauges: &Gauges) {

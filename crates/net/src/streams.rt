@@ -42,8 +42,8 @@ pub(crate) struct Streams {
     pub(crate) open: HashMap<u64, OpenStream>,
     /// The sessions whose streams are to be read.
     pub(crate) ready: VecDeque<u64>,
-    /// A stream has room that had none.
-    pub(crate) has_room: bool,
+    /// How often a stream had room that had none.
+    pub(crate) rooms: u64,
     pub(crate) lingering: LingeringStreams,
     scratch: Vec<u8>,
     /// The number of the session that was opened last.
@@ -83,7 +83,7 @@ impl Streams {
             alloc,
             open: HashMap::with_capacity(alloc, OPEN_SESSIONS)?,
             ready: VecDeque::with_capacity(alloc, OPEN_SESSIONS)?,
-            has_room: false,
+            rooms: 0,
             lingering: LingeringStreams::new(alloc)?,
             scratch: Vec::from_elem(alloc, 0u8, MAX_PIECE)?,
             last: 0,
@@ -147,7 +147,7 @@ impl Streams {
                 continue;
             };
             let has_room = open.hear(heard, self.looks, &mut self.ready);
-            self.has_room = self.has_room || has_room;
+            self.rooms = self.rooms.wrapping_add(u64::from(has_room));
         }
         was_woken
     }

@@ -35,7 +35,8 @@ fn reason_text(reason: CloseReason) -> &'static str {
         CloseReason::Sent(FatalKind::TooLarge) => "data block too large",
         CloseReason::Sent(FatalKind::Binary) => "binary protocol",
         CloseReason::Idle => "idle",
-        CloseReason::Memory => "out of memory, or too much output unread",
+        CloseReason::Memory => "out of memory",
+        CloseReason::Unread => "output unread",
     }
 }
 

@@ -14,6 +14,6 @@ mod session;
 mod upkeep;
 
 pub use book::Book;
-pub use causes::{EndCause, OpenFault, Received, Settled};
+pub use causes::{EndCause, OpenFault, Received, Settled, Unasked};
 pub use fault_line::FaultLine;
 pub use ready_queues::Task;

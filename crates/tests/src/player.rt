@@ -3,7 +3,7 @@
 use crate::made::values;
 use bytes::Bytes;
 use proto::{Answered, ByteString, ClockAnswers, Dialect, NoMemory, Posted, Reply, Request};
-use session_book::{Book, Received, Settled};
+use session_book::{Book, Received, Settled, Unasked};
 use std::alloc::Global;
 use std::test::Fail;
 
@@ -69,7 +69,7 @@ impl Player {
     }
 
     /// The number of the session's next request, which is kept.
-    pub fn ask(&mut self, session: u64) -> Result<Option<u64>, NoMemory> {
+    pub fn ask(&mut self, session: u64) -> Result<Option<u64>, Unasked> {
         let Some((request, number)) = self.book.next_ask(session)? else {
             return Ok(None);
         };

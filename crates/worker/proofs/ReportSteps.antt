@@ -382,7 +382,7 @@ reported v end unopened h numbered back all none emptied = record {
           first = subst (λ x. StartsWith (asks messages) x) (sym qa) k.first;
           begins = subst (λ x. StartsWith (said messages x) (given s v.events)) (sym qh) k.beginning;
         };
-        complete = λ not_gone enough. let w = k.complete not_gone enough in (qa ∙ w.0, w.1 ∙ ap (said messages) (sym qh));
+        complete = λ not_gone enough was_read. let w = k.complete not_gone enough was_read in (qa ∙ w.0, w.1 ∙ ap (said messages) (sym qh));
         caused = k.caused;
       };
 }

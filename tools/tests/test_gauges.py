@@ -242,7 +242,8 @@ def test_what_is_not_stored_as_too_large_is_counted_and_nothing_else(serve):
 
 
 def test_connections_closed_for_unread_output_are_told(serve):
-    """Of forty replies of 7.8 MB a worker keeps no more than 64 MiB, and each socket some four MB."""
+    """Of forty replies of 7.8 MB a worker keeps no more than 64 MiB, and each socket some four MB. After ten seconds clients that
+    took nothing are closed for those that wait."""
     server = serve("--lenient", "--workers", "1", "--segment-size", "1048576")
     with contextlib.ExitStack() as streams:
         stream = streams.enter_context(server.connect())
@@ -251,9 +252,9 @@ def test_connections_closed_for_unread_output_are_told(serve):
         for _ in range(40):
             slow = streams.enter_context(server.connect(receive_buffer=65536))
             slow.sendall(b"get" + b" large" * 60 + b"\r\n")
-        until = time.monotonic() + 20
-        while numbers(stream)["closed_unread"] < 10 and time.monotonic() < until:
+        until = time.monotonic() + 30
+        while numbers(stream)["closed_unread"] < 3 and time.monotonic() < until:
             time.sleep(0.05)
         found = numbers(stream)
-        assert 10 <= found["closed_unread"] < 40
+        assert 3 <= found["closed_unread"] < 40
         assert found["curr_connections"] == 41 - found["closed_unread"]

@@ -1,6 +1,6 @@
 #!/usr/bin/env python3
-"""Compares segcached, as the package sets it, with memcached, or with another build of segcached, on
-the same machine in the same run.
+"""Compares segcached, as the package sets it, with memcached, or with another build of segcached,
+on the same machine in the same run.
 
     tools/bench.py [--parts PART,..] [--quick] [--write] [--only WORD,..] [--rounds N] [--seconds S]
                    [--program FILE] [--against FILE]
@@ -14,8 +14,8 @@ workers. The parts, of which the first two are measured unless others are named,
     segments    the same misses by the size of segcached's segments
     site        misses of a site with TTLs up to a day, in two hours
 
---write puts all figures between the marks in docs/PERFORMANCE.md, pictures into docs/performance.svg
-and docs/misses.svg, and the tables of misses into out/bench.md. --quick runs each load once and
+--write puts all figures between the marks in docs/PERFORMANCE.md, pictures into
+docs/performance.svg and docs/misses.svg, and the tables of misses into out/bench.md. --quick runs each load once and
 briefly, with 2 workers. --only takes loads whose names have a WORD, and no pauses. --program names
 another build to measure, --against one of segcached that takes memcached's place, with those of the
 package's options that it has: a change for speed is judged by that, and ratios above 1 say that the

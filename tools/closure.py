@@ -3,7 +3,7 @@
 
     tools/closure.py [FILE:FUNCTION ..]     lists them; with no contract those of docs/HEADLINE.md
     tools/closure.py fill                   writes the definitions' texts into docs/HEADLINE.md
-    tools/closure.py check                  says where that page and the sources differ, with status 1
+    tools/closure.py check                  says where that page and the sources differ; status 1
 
 FILE stands below crates (group/src/run.rt), FUNCTION is a name, or TYPE::NAME in a trait or an impl; behind it may stand #CLAUSE, the
 name of the only clause to show. A clause's names
@@ -29,8 +29,8 @@ BEGINNING = re.compile(r"(?:pub |abbrev |unfoldable )*(?:abbrev|unfoldable|recor
 NAME = re.compile(r"«[^»]*»|[^\W\d][\w?'!×]*")
 BINDERS = (re.compile(r"[({]\s*([^\W\d][\w' ]*?)\s*:[^:]"), re.compile(r"λ ([\w' ]+)\."), re.compile(r"\blet (\w+) ="))
 
-# A definition, by the crate and file in which it stands, and its first and last line there. Of a type of the code the lines are
-# left out.
+# A definition, by the crate and file in which it stands, and its first and last line there. Of a type
+# of the code the lines are left out.
 Definition = namedtuple("Definition", "crate file name first last", defaults=(0, 0))
 
 

@@ -1,9 +1,9 @@
-"""What eight clients ask of a server on shared keys and are answered, and whether one order of it is a
-cache's: for tools/hostile.py.
+"""What eight clients ask of a server on shared keys and are answered, and whether one order of it is
+a cache's: for tools/hostile.py.
 
 The check knows nothing of the server. For each key it looks for an order of the operations in which
-each stands between its beginning and its end, and is answered as one value with one cas number would
-answer it (Wing and Gong's search, with what was seen before left out). Nothing may have been
+each stands between its beginning and its end, and is answered as one value with one cas number
+would answer it (Wing and Gong's search, with what was seen before left out). Nothing may have been
 forgotten meanwhile, so the server's segments have to hold all keys.
 """
 import collections

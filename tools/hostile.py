@@ -4,8 +4,8 @@
     tools/hostile.py [--long] [--only NAME,..] [--program FILE] [--late SECONDS]
 
 Each part serves the program on a free port, does its worst beside a canary (a client whose every answer is checked and timed),
-and says a line. Without --long the parts take about three minutes in all; with it the fuzz alone takes half an hour.
-Ends with status 0 if nothing was wrong, lost or late.
+and says a line. Without --long the parts take about three minutes in all; with it the fuzz alone
+takes half an hour. Ends with status 0 if nothing was wrong, lost or late.
 """
 import argparse
 import multiprocessing

@@ -7,7 +7,8 @@
 // Each connection keeps a pipeline of requests on its way: it sends them in one piece, reads all their answers, and sends
 // the next ones. A latency is the time from that send to the last byte of the request's answer. Each answer is checked: its keys are
 // those that were asked, in order, and each value is the one that its key has to hold. --fill writes each key once and measures
-// nothing. --first says with which number the keys begin. --many asks for this number of keys in one get. --rate sends this number of requests a second in all, evenly, in place
+// nothing. --first says with which number the keys begin.
+// --many asks for this number of keys in one get. --rate sends this number of requests a second in all, evenly, in place
 // of as many as can be. --through writes each key that was missed, as a client of a cache does: at the front of the next pipeline, beyond its
 // number of requests and their rate. --ttls writes half of the keys with a TTL of 60 seconds, three tenths with 600; --long-ttls
 // four tenths with 300 seconds, four with 3,600, and two with 86,400. --reads

@@ -1,6 +1,7 @@
 #!/usr/bin/python3
 """Other people's suites against the proved program: memcached's own tests, pymemcache's, memccapable, those of Cache::Memcached::Fast;
-a limit of requests a minute by Flask-Limiter, and Postfix's tables; and Debian's monitors of memcached.
+a limit of requests a minute by Flask-Limiter, and Postfix's tables; and Debian's monitors of
+memcached.
 
     tools/peers.py [--program PROGRAM] [--only SUITE] [--show]
 
@@ -24,13 +25,14 @@ from served import OF_THE_PACKAGE, PROGRAM, TOP, Server, Trouble, install
 HERE = f"{TOP}/tools/peers"
 WORK = f"{TOP}/out/peers"
 SOURCES = ["memcached", "libcache-memcached-fast-perl"]
-PACKAGES = """libmemcached-tools python3-pymemcache python3-pytest python3-flask-limiter postfix libcache-memcached-fast-perl libtest2-suite-perl perl""".split()
+PACKAGES = """libmemcached-tools python3-pymemcache python3-pytest python3-flask-limiter postfix
+    libcache-memcached-fast-perl libtest2-suite-perl perl""".split()
 # Those of memcached's tests that speak of the commands that there are.
 OF_MEMCACHED = """bogus-commands cas evictions expirations flags flush-all getandtouch getset incrdecr issue_104 issue_108 issue_14 issue_152
     issue_163 issue_183 issue_192 issue_22 issue_29 issue_42 issue_68 issue_70 lru malicious-commands multiversioning noreply quit touch""".split()
 OF_PYMEMCACHE = "/usr/lib/python3/dist-packages/pymemcache/test/test_integration.py"
 OF_FAST = """big-value commands flush-all magic malformed namespace noreply nowait serialize utf8""".split()
-# The most seconds that one file of tests may take, and the test of a limit, which asks for a minute.
+# The most seconds that one file of tests may take, and the test of a limit of a minute.
 SECONDS, LIMIT_SECONDS = 120, 150
 
 

@@ -2,8 +2,8 @@
 """Proves segcached and the crates that it stands on, and builds it as crates/segcached/out/segcached.
 
     tools/prove.py          with a line for each crate that is proved
-    tools/prove.py --kept   proves nothing: status 0 if the program was built so, and nothing that it
-                            is built of has changed since
+    tools/prove.py --kept   proves nothing: status 0 if the program was built so, and nothing that
+                            it is built of has changed since
 
 It calls the prover for each crate once those below it are proved, as many side by side as there are
 processors and memory for; those from which the way to the program is longest, by their lines, come

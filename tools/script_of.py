@@ -8,8 +8,8 @@ segcached would refuse.
     tools/script_of.py refused --to ADDR [--listen ADDR] [--sessions N] [OPTION ..]
     tools/script_of.py refused [OPTION ..] FILE ..
 
-`text` prints a script in which each FILE is a session (`-` is standard input). A line feed of a file
-is sent as the end of a line of the protocol, CR LF, unless a CR stands before it already; with
+`text` prints a script in which each FILE is a session (`-` is standard input). A line feed of a
+file is sent as the end of a line of the protocol, CR LF, unless a CR stands before it already; with
 --bytes the bytes are sent as they are.
 
 `record` is a proxy: what its clients send goes to the server at --to, and the answers back. When it
@@ -19,9 +19,9 @@ which `segcached replay` prints it, to be compared with it.
 
 `show` reads what `segcached replay` printed, and prints each session's answers as text.
 
-`refused` is the same proxy, in front of memcached: it keeps no script, but has a segcached (--program,
-or that of the path) answer each line, and at its end prints those that were refused, by command and
-reply, with their count and the first of each. Of a FILE, which has the bytes that a client sent, it
+`refused` is the same proxy, in front of memcached: it keeps no script, but has a segcached
+(--program, or the one to which this tool belongs) answer each line, and at its end prints those that
+were refused, by command and reply, with their count and the first of each. Of a FILE, which has the bytes that a client sent, it
 says the same. Its OPTIONs are those of the server to be: --lenient, and --segment-size B, 1048576
 unless it is given, on which depends whether an item is too large.
 

@@ -31,7 +31,7 @@ def words_of(file, name):
         return re.search(rf"^{name}=(.*)$", lines.read(), re.MULTILINE)[1].split()
 
 
-# What the package sets: its options, those with the size of a segment, and the settings of the C library.
+# What the package sets: its options, those with the size of a segment, and the C library's settings.
 OPTIONS = words_of("packaging/segcached.default", "OPTIONS")
 LOCAL = words_of("packaging/segcached.local", "LOCAL")
 OF_THE_PACKAGE = [*OPTIONS, "--segment-size", LOCAL[LOCAL.index("--segment-size") + 1]]
@@ -103,7 +103,7 @@ class Process:
     def sleeps(self, thread):
         """How often one of its threads has gone to sleep."""
         with open(f"/proc/{thread}/status", encoding="ascii") as file:
-            return int(re.search(r"^voluntary_ctxt_switches:\s+(\d+)", file.read(), re.MULTILINE)[1])
+            return int(re.search(r"\nvoluntary_ctxt_switches:\s+(\d+)", file.read())[1])
 
     def processor_seconds(self):
         """What all its threads have run (the kernel counts nanoseconds there, and ticks elsewhere)."""
@@ -181,7 +181,8 @@ class Memcached(OnPort):
 
     def __init__(self, threads=4, megabytes=64, environment=None):
         port = free_port()
-        words = ["-u", "nobody", "-l", "127.0.0.1", "-p", port, "-t", threads, "-m", megabytes, "-c", 4096]
+        words = ["-u", "nobody", "-l", "127.0.0.1", "-c", 4096]
+        words += ["-p", port, "-t", threads, "-m", megabytes]
         super().__init__(port, ["memcached", *map(str, words)], environment)
 
 

@@ -1,6 +1,6 @@
 <?php
-// Locks of PHP's sessions over php-memcache, and Laravel's locks, limits and values, against a server that keeps TTLs to the second.
-// Usage: php_locks_calls.php PORT.
+// Locks of PHP's sessions over php-memcache, and Laravel's locks, limits and values, against a
+// server that keeps TTLs to the second. Usage: php_locks_calls.php PORT.
 require '/usr/share/php/Illuminate/Cache/autoload.php';
 use Illuminate\Cache\{MemcachedStore, RateLimiter, Repository};
 error_reporting(E_ALL & ~E_DEPRECATED & ~E_WARNING);
@@ -10,9 +10,12 @@ function report($client, $calls) {
     echo "$client fails: ", implode(' ', array_keys(array_filter($calls, fn($it) => !$it))), "\n";
 }
 
-// Two requests of one session count it up; the first one holds its lock of 15 seconds, the default, for 12.
-foreach (['session.save_handler' => 'memcache', 'session.save_path' => "tcp://127.0.0.1:$port", 'session.use_cookies' => '0',
-          'session.cache_limiter' => '', 'memcache.session_redundancy' => '1'] as $name => $value) { ini_set($name, $value); }
+// Two requests of one session count it up; the first one holds its lock of 15 seconds, the default,
+// for 12.
+$settings = ['session.save_handler' => 'memcache', 'session.save_path' => "tcp://127.0.0.1:$port",
+             'session.use_cookies' => '0', 'session.cache_limiter' => '',
+             'memcache.session_redundancy' => '1'];
+foreach ($settings as $name => $value) { ini_set($name, $value); }
 function count_up($seconds) {
     session_id('a-session-of-php');
     session_start();

@@ -1,5 +1,5 @@
-"""Large answers through a socket: one of 33.7 MB, and what one above the lenient limit costs the process and other clients. (test_store_rows.py
-has the limit itself.)
+"""Large answers through a socket: one of 33.7 MB, and what one above the lenient limit costs the
+process and other clients. (test_store_rows.py has the limit itself.)
 """
 import threading
 import time

@@ -96,8 +96,8 @@ def test_with_lenient_lines_memcflush_flushes(program, run):
 
 PACKAGES = """python3-django python3-memcache python3-binary-memcached php-cli php-memcached php-memcache php-symfony-cache
     libcache-memcached-perl libcache-memcached-fast-perl libmemcached-libmemcached-perl ruby ruby-dalli nginx-light
-    php-symfony-http-foundation simplesamlphp freeradius-memcached python3-tooz python3-celery python3-limits python3-swift
-    php-laravel-framework python3-flask-limiter postfix""".split()
+    php-symfony-http-foundation simplesamlphp freeradius-memcached python3-tooz python3-celery python3-limits
+    python3-swift php-laravel-framework python3-flask-limiter postfix""".split()
 GATE_CALLS = [(sys.executable, "pymemcache_calls.py")]
 CALLS = [
     *GATE_CALLS,
@@ -107,12 +107,13 @@ CALLS = [
       ("Cache::Memcached", "Cache::Memcached::Fast", "Memcached::libmemcached")],
     ("ruby", "dalli_calls.rb"),
 ]
-# These are for the package's options alone; the gate has what the first two need. (With strict lines libmemcached ends the process
-# of the second one.)
+# These are for the package's options alone; the gate has what the first two need. (With strict lines
+# libmemcached ends the process of the second one.)
 GATE_APPLICATIONS = [(sys.executable, f"{name}_calls.py") for name in ("mediawiki", "cachelib")]
 APPLICATIONS = [
     *GATE_APPLICATIONS,
-    *[("php", f"{name}_calls.php") for name in ("symfony", "php_sessions", "simplesamlphp", "php_locks")],
+    *[("php", f"{name}_calls.php")
+      for name in ("symfony", "php_sessions", "simplesamlphp", "php_locks")],
     *[(sys.executable, f"{name}_calls.py") for name in ("touching", "freeradius", "swift", "ttl")],
 ]
 
@@ -149,7 +150,8 @@ def test_each_call_of_each_client_works_or_fails_as_expected(program, all_client
 
 @pytest.mark.parametrize("words, calls, names, expected", [
     ([], GATE_CALLS, ("pymemcache ",), "expected"),
-    (served.OF_THE_PACKAGE, GATE_CALLS + GATE_APPLICATIONS, ("pymemcache ", "MediaWiki ", "cachelib "), "expected_lenient"),
+    (served.OF_THE_PACKAGE, GATE_CALLS + GATE_APPLICATIONS,
+     ("pymemcache ", "MediaWiki ", "cachelib "), "expected_lenient"),
 ], ids=["strict", "package"])
 def test_what_the_gate_has_works_as_expected(serve, words, calls, names, expected):
     wanted = [line for line in expected_of(expected) if line.startswith(names)]

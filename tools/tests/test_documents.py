@@ -1,7 +1,5 @@
 """Tests of the documents: each link leads to a file and a heading there, no line but a table's is wider than 100 columns, and what PROOFS
 and ARCHITECTURE quote stands in the crates. They take a second.
-
-    python3 -m pytest tools/tests/test_documents.py
 """
 import glob
 import os
@@ -9,8 +7,8 @@ import re
 
 import pytest
 import served
+from served import TOP
 
-TOP = os.path.dirname(os.path.dirname(os.path.dirname(os.path.abspath(__file__))))
 PAGES = sorted(glob.glob(f"{TOP}/*.md") + glob.glob(f"{TOP}/docs/*.md"))
 FILES = [it for it in glob.glob(f"{TOP}/*/**", recursive=True) if "/out/" not in it]
 

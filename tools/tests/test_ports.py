@@ -49,7 +49,8 @@ def full_worker(serve):
             ask(it, b"get none\r\n", b"END\r\n")
         for _ in range(74):
             streams.enter_context(server.connect())
-        wait_for(opened[0], rejected_connections=10, listen_disabled_num=1, curr_connections=1024, connections_waiting=64)
+        wait_for(opened[0], rejected_connections=10, listen_disabled_num=1, curr_connections=1024,
+                 connections_waiting=64)
         yield server, opened
 
 

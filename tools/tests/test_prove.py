@@ -1,7 +1,5 @@
 """Tests of what comes before and around the proofs: what is kept, and what `make run` says if something is missing.
 They prove nothing and take a few seconds.
-
-    python3 -m pytest tools/tests/test_prove.py
 """
 import os
 import re
@@ -12,13 +10,10 @@ import sys
 import threading
 import time
 
+import machine
+import prove
 import pytest
-
-TOP = os.path.dirname(os.path.dirname(os.path.dirname(os.path.abspath(__file__))))
-sys.path.insert(0, f"{TOP}/tools")
-
-import machine  # noqa: E402
-import prove  # noqa: E402
+from served import TOP
 
 # base is below all; left and right stand on it, top on both; aside stands on base alone.
 CRATES = {"base": [], "left": ["base"], "right": ["base"], "aside": ["base"], "top": ["left", "right"]}

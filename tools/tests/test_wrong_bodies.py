@@ -1,6 +1,4 @@
 """Tests of tools/wrong_bodies.py over a small crate: which edits it passes, which it fails, and what it keeps. Each of a few checks takes some seconds.
-
-    python3 -m pytest tools/tests/test_wrong_bodies.py
 """
 import dataclasses
 import os
@@ -9,17 +7,14 @@ import sys
 import time
 import types
 
+import edited_copies
+import edits
+import functions
+import kept_verdicts
+import prove
 import pytest
-
-TOP = os.path.dirname(os.path.dirname(os.path.dirname(os.path.abspath(__file__))))
-sys.path.insert(0, f"{TOP}/tools")
-
-import edited_copies  # noqa: E402
-import edits  # noqa: E402
-import functions  # noqa: E402
-import kept_verdicts  # noqa: E402
-import prove  # noqa: E402
-import wrong_bodies  # noqa: E402
+import wrong_bodies
+from served import TOP
 
 SOURCE = """#![tactic(auto)]
 

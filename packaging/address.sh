@@ -11,7 +11,7 @@ address_of() {
     [[ $address != unix:* || -z $word ]] || address=$word
     shift
   done
-  host= port=0
+  host='' port=0
   [[ $address != unix:* ]] || return 0
   host=${address%:*}
   host=${host#[}

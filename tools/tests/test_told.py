@@ -168,6 +168,11 @@ def test_a_taken_port_is_seen_before_a_start(serve):
     address = f"127.0.0.1:{serve().port}"
     done = subprocess.run([*taken, address], stdout=subprocess.PIPE, text=True, timeout=20)
     assert (done.returncode, done.stdout) == (0, f"{address}\n")
+    # (of several addresses it is the first of TCP)
+    several = ["unix:/run/none", f"--listen={address}", "--listen", "127.0.0.1:1"]
+    done = subprocess.run([*taken, *several], stdout=subprocess.PIPE, text=True, timeout=20)
+    assert (done.returncode, done.stdout) == (0, f"{address}\n")
+    assert subprocess.run([*taken, "unix:/run/none"], timeout=20).returncode == 1
     for free in (f"127.0.0.1:{served.free_port()}", "127.0.0.1:0"):
         assert subprocess.run([*taken, free], timeout=20).returncode == 1
 

@@ -6,6 +6,7 @@ segcached stands beside memcached (of Debian), with as many threads as workers, 
 memcached's clients show how busy the machine is.
 """
 import multiprocessing
+import selectors
 import socket
 import time
 from typing import NamedTuple
@@ -117,34 +118,44 @@ def said(waits):
 # ---- clients that send or read as fast as they can
 
 class Load(NamedTuple):
-    """So many clients, which send or read values of this size; and of how many keys a `get` is."""
+    """So many clients, which do this with values of this size; and of how many keys a `get` is."""
 
     clients: int
     size: int
-    reads: bool
+    verb: str
     keys: int = 1
+    # What stands before each `get`, and its answer.
+    before: bytes = b""
+    answered: bytes = b""
 
     def __str__(self):
         many = f"{self.keys} times " if self.keys > 1 else ""
-        verb = "read" if self.reads else "send"
-        return f"{self.clients} that {verb} {many}{self.size // 1000} kB"
+        behind = f" behind {self.before!r}" if self.before else ""
+        return f"{self.clients} that {self.verb} {many}{self.size // 1000} kB{behind}"
 
     def most(self):
-        return MOST if self.keys == 1 else BESIDE_LONGEST[self.clients]
+        return BESIDE_LONGEST[self.clients] if self.verb == "read" and self.keys > 1 else MOST
 
     def seconds(self):
         return SECONDS if self.keys == 1 else SECONDS * TIMES_LONGEST
 
 
-SENDERS = [Load(clients, size * 1000, False) for size in (8, 30, 100, 130) for clients in (1, 2, 8)]
-READERS = [Load(clients, size * 1000, True) for size in (10, 100) for clients in (1, 2, 8)]
+SENDERS = [Load(clients, size * 1000, "send") for size in (8, 30, 100, 130) for clients in (1, 2, 8)]
+READERS = [Load(clients, size * 1000, "read") for size in (10, 100) for clients in (1, 2, 8)]
 # (a hit more would exceed the limit of an answer)
-LONGEST = [Load(clients, 131_000, True, 64) for clients in BESIDE_LONGEST]
+LONGEST = [Load(clients, 131_000, "read", 64) for clients in BESIDE_LONGEST]
+HOSTILE = [
+    Load(8, 131_000, "read", 64, b"x\r\n", b"ERROR\r\n"),
+    Load(8, 64_000, "send malformed lines and then"),
+    Load(8, 100_000, "ask for and don't read", 64),
+]
 # By the number of workers. With two the clients are on both of them in turn.
 LOADS = {
-    1: SENDERS + READERS + LONGEST,
+    1: SENDERS + READERS + LONGEST + HOSTILE,
     2: [it for it in SENDERS + READERS if it.size == 100_000 and it.clients > 1],
 }
+# The connections of each client that sends malformed lines, or that doesn't read.
+STREAMS = 16, 25
 
 
 def send_fast(port, key, load):
@@ -157,20 +168,61 @@ def send_fast(port, key, load):
 
 def read_fast(port, key, load):
     """Sends many requests at once, or a long one, and reads what it is answered."""
-    answer, buffer = len(answer_of(key, load.size, load.keys)), bytearray(65536)
+    answer, buffer = len(load.answered + answer_of(key, load.size, load.keys)), bytearray(65536)
     count, left = max(AT_A_TIME // (load.keys * load.size), 1), len(b"STORED\r\n")
     with connect(port) as stream:
         stream.sendall(set_of(key, load.size))
         while True:
             while left > 0:
                 left -= stream.recv_into(buffer, min(left, len(buffer)))
-            stream.sendall(get_of(key, load.keys) * count)
+            stream.sendall((load.before + get_of(key, load.keys)) * count)
             left = count * answer
+
+
+def send_malformed(port, key, load):
+    """Each connection sends a line for which it is closed, and goes on until it is; then another
+    one comes."""
+    selector = selectors.DefaultSelector()
+
+    def begin():
+        stream = connect(port)
+        stream.sendall(b"set %s 0 0 x\r\n" % key)
+        stream.setblocking(False)
+        selector.register(stream, selectors.EVENT_WRITE)
+
+    for _ in range(STREAMS[0]):
+        begin()
+    while True:
+        for ready, _ in selector.select():
+            try:
+                ready.fileobj.send(b"v" * load.size)
+            except BlockingIOError:
+                pass
+            except OSError:
+                selector.unregister(ready.fileobj)
+                ready.fileobj.close()
+                begin()
+
+
+def ask_and_hold(port, key, load):
+    """Each connection asks once, and reads nothing."""
+    with connect(port) as stream:
+        stream.sendall(set_of(key, load.size))
+        stream.recv(100)
+    streams = [connect(port) for _ in range(STREAMS[1])]
+    for stream in streams:
+        stream.sendall(get_of(key, load.keys))
+    while True:
+        time.sleep(60)
+
+
+CLIENT_OF = {"send": send_fast, "read": read_fast, "send malformed lines and then": send_malformed,
+             "ask for and don't read": ask_and_hold}
 
 
 def waited(port, load):
     """What 99 of 100 requests, and each one, waited at most beside a load, in seconds."""
-    run = read_fast if load.reads else send_fast
+    run = CLIENT_OF[load.verb]
     fast = [multiprocessing.Process(target=run, args=(port, b"fast-%d" % it, load), daemon=True)
             for it in range(load.clients)]
     try:

@@ -60,7 +60,8 @@ enum Sight {
 }
 
 use Sight::{
-    Finished, HasLittleOutput, IsCrowded, Looks, NextToAsk, Output, Ready, Unread, Waits, WaitsForRoom,
+    Finished, HasLittleOutput, IsCrowded, Looks, NextToAsk, Output, Ready, Unread, Waits,
+    WaitsForRoom,
 };
 use Step::{
     Accept, Ask, AskLater, AskNext, Close, EndInput, Feed, FeedLetters, Give, Known, Open, Receive,
@@ -506,7 +507,7 @@ const PUT_64_TIMES: [Part; 5] = [
 
 /// A `get` waits for the answers on their way if its own is likely to have more than 262,144 bytes: each key of the last answer
 /// took 29,128 bytes, 29,127 or 262,144, or half of the first.
-const LARGE: [(&[(&str, usize)], &str, &[Part]); 9] = [
+const LARGE: [(&[(&str, usize)], &str, &[Part]); 8] = [
     (&[(FOR_9, 262_152)], FOR_9, &PUT_64_TIMES),
     (&[(FOR_9, 262_152)], "x\r\nget b b b b b b b b b\r\n", &PUT),
     (&[(FOR_9, 262_151)], FOR_9, &NOT_PUT),
@@ -547,7 +548,7 @@ const BEFORE_ROOM: [Step; 9] = [
 
 /// Session 2 waits, while the first `get` for one key of session 3 goes on, as its answer is taken to be small. Then the client of
 /// session 1 takes its output.
-const WAITS_UNTIL_GIVEN: [Step; 14] = [
+const WAITS_UNTIL_GIVEN: [Step; 15] = [
     See(NextToAsk(Some(1))),
     See(NextToAsk(Some(2))),
     See(Waits(2)),
@@ -560,6 +561,7 @@ const WAITS_UNTIL_GIVEN: [Step; 14] = [
     See(Waits(2)),
     Give(1),
     See(WaitsForRoom(false)),
+    See(NextToAsk(Some(1))),
     See(NextToAsk(Some(2))),
     AskNext(2),
 ];
@@ -634,10 +636,7 @@ const ROOM_ROWS: [Row; 5] = [
         found: None,
         parts: &[
             (1, &BEFORE_ROOM),
-            (
-                1,
-                &[SettleHit(60_000_000), Accept(1, 1_000), Accept(1, 0)],
-            ),
+            (1, &[SettleHit(60_000_000), Accept(1, 1_000), Accept(1, 0)]),
             (9, &[Second, See(Unread(None))]),
             (1, &[Accept(1, 1), Accept(1, 0)]),
             (9, &[Second, See(Unread(None)), Accept(1, 0)]),

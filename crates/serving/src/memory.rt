@@ -14,7 +14,7 @@ const PROGRAM: u64 = 16 * MIB;
 /// A worker's spare buffers, and the values of its requests on their way.
 const BUFFERS: u64 = (16 + 32) * MIB;
 
-/// The output of all connections of a worker, before the one with the most is closed.
+/// The output of all connections of a worker, above which large replies wait.
 const OUTPUT: u64 = 64 * MIB;
 
 /// What a connection takes beside its output: its state, the input that is kept, and a piece.

@@ -360,7 +360,12 @@ fn add_unread<R: Abort + Copy + Drop>(
 
 /// How many bytes the silent sessions were offered and all were given, and how many sessions were shut.
 fn check_port(rt: &impl Abort, port: &StepPort, offered: usize, given: usize) {
-    check_same(rt, (port.offered(), port.given, port.shut), (offered, given, 0), offered);
+    check_same(
+        rt,
+        (port.offered(), port.given, port.shut),
+        (offered, given, 0),
+        offered,
+    );
 }
 
 fn check_unread<R>(rt: &R, alloc: Global, unread: &Unread, ending: Ending)

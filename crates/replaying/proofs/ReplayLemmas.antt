@@ -247,8 +247,10 @@ replayed sizes d exact clock workers accept fail_give text scripts read exchange
           subst (AreOutcomesOf d run.history w fail_give events) x.2
           (worker_outcomes d run.history w events x.0 fail_give x.0.port.player.can_fail of.exactly
           (of.listed (script_trace x.0.port) told_is)
-          (λ s cause messages rest found reads. of.answered (script_trace x.0.port) told_is s cause messages rest found
-          (subst (λ (e : Dialect). Reads e (fed s x.0.port.player.records) messages rest) (sym dialect_is) reads))
+          (λ s cause messages rest found reads.
+          subst (λ (e : Dialect). IsSessionAnswered e x.0.port.player.records run.history w s cause messages) dialect_is
+          (of.answered (script_trace x.0.port) told_is s cause messages rest found
+          (subst (λ (e : Dialect). Reads e (fed s x.0.port.player.records) messages rest) (sym dialect_is) reads)))
           (subst (λ (s : List ScriptEvent). IsPlayed s x.0.port.player.records x.0.port.player.can_fail) script_is
           (played w x.0 x.1 plays))
           (λ could. lt_true 0 fail_give (sym can_fail_is ∙ could)));

@@ -83,25 +83,40 @@ fn limit_of<R: Files>(rt: &R, alloc: Global, group: &str) -> Option<u64> {
     line_of(rt, alloc, path.as_str())?.parse().ok()
 }
 
-/// The least limit on memory of the process's control group and of those that it is part of. None if there is none, or if the
-/// system has no unified groups.
+/// The least of these limits, if there is one.
+fn least_of(one: Option<u64>, other: Option<u64>) -> Option<u64> {
+    match (one, other) {
+        (Some(one), Some(other)) => Some(one.min(other)),
+        (one, other) => one.or(other),
+    }
+}
+
+/// The least limit on memory of this control group and of those that it is part of. None if there is none.
+fn least_limit<R: Files>(rt: &R, alloc: Global, group: &str) -> Option<u64> {
+    let mut group = group;
+    let mut least = None;
+    for _ in 0..group.len() {
+        let path = format!(in alloc; "/{group}").ok()?;
+        least = least_of(least, limit_of(rt, alloc, path.as_str()));
+        let Some((parent, _)) = group.rsplit_once('/') else {
+            break;
+        };
+        group = parent;
+    }
+    least_of(least, limit_of(rt, alloc, ""))
+}
+
+/// The control group of the lines of a process's file. None if the system has no unified groups.
+fn group_in(said: &str) -> &str {
+    // (its line is the last one, where there are others)
+    match said.rsplit_once("0::/") {
+        Some((_, group)) => group,
+        None => "",
+    }
+}
+
+/// The least limit on memory of the process's control group and of those that it is part of. None if there is none.
 pub(crate) fn group_limit<R: Files>(rt: &R, alloc: Global) -> Option<u64> {
     let said = line_of(rt, alloc, "/proc/self/cgroup")?;
-    // (its line is the last one, where there are others)
-    let (_, mut group) = said.rsplit_once("0::/")?;
-    let mut least: Option<u64> = None;
-    for _ in 0..said.len() {
-        let path = format!(in alloc; "/{group}").ok()?;
-        let limit = limit_of(rt, alloc, path.as_str());
-        least = match (least, limit) {
-            (Some(least), Some(limit)) => Some(least.min(limit)),
-            (one, other) => one.or(other),
-        };
-        match group.rsplit_once('/') {
-            Some((parent, _)) => group = parent,
-            None if group.is_empty() => break,
-            None => group = "",
-        }
-    }
-    least
+    least_limit(rt, alloc, group_in(said.as_str()))
 }

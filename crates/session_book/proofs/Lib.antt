@@ -9,3 +9,4 @@ pub mod Books
 pub mod Asking
 pub mod Emptied
 pub mod Fullest
+pub mod Heaviest

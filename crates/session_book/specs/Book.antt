@@ -20,6 +20,7 @@ use Rattle.proto.specs.declared.limits.TheConstants.{WINDOW}
 use Rattle.proto.specs.declared.limits.TheConstants.{MAX_POSTS}
 use Rattle.proto.specs.Sessions.{most_sessions}
 use Rattle.session_book.specs.declared.book.TheConstants.{MAX_OUTPUT}
+use Rattle.session_book.specs.Session.{kept_of}
 use Rattle.session_book.specs.Session.{SessionState, begins_asked, TakesPiece, IsInputFull, held_fed, ReadsUpTo, IsReady, Stops, with_reply, IsEmptied}
 
 -- A worker's book: the worker's number; the dialect of its sessions' lines; the open sessions by their numbers; how many requests got a number;
@@ -193,3 +194,13 @@ pub record IsFullest (book : BookState) (session : ℕ) : Type 0 where
 abbrev pub IsWithinOutput : BookState → Type 0
 IsWithinOutput book = (all_output book.sessions ≤ MAX_OUTPUT)
     ⊎ ((session : ℕ) × (s : SessionState) × (session_of book session ≡ Some s) × (all_output book.sessions ≤ length s.out))
+
+-- how many bytes of input are kept, over all sessions
+abbrev pub all_kept : List (ℕ × SessionState) → ℕ
+all_kept sessions = sum_by (λ (e : ℕ × SessionState). kept_of e.1) sessions
+
+-- the session is open, and none keeps more input
+pub record IsHeaviest (book : BookState) (session : ℕ) : Type 0 where
+  pub s : SessionState
+  pub there : session_of book session ≡ Some s
+  pub most : (other : ℕ) (o : SessionState) → session_of book other ≡ Some o → kept_of o ≤ kept_of s

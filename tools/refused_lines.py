@@ -45,6 +45,8 @@ FORMS, LENIENT_FORMS = ({word: re.compile(form) for word, form in forms.items()}
 # Of each command with a data block, at which place of the line, counted from 0, the block's length stands in memcached.
 LENGTHS = {b"set": 4, b"add": 4, b"replace": 4, b"append": 4, b"prepend": 4, b"cas": 4, b"ms": 2}
 MOST_LINE, MOST_LENIENT_LINE = 2_048, 32_768
+# The longest data block that the strict dialect reads.
+MOST_BLOCK = 131_072
 # memcached closes a session whose line is longer.
 MOST_READ = 1_048_576
 
@@ -58,8 +60,8 @@ BAD_BLOCK = "the data block has another length than the line says"
 BINARY = "the binary protocol"
 
 
-def why_refused(line, segment_size, is_lenient=False):
-    """Why segcached refuses a line, with its end, at this size of segments; nothing if it takes it."""
+def why_refused(line, largest, is_lenient=False):
+    """Why segcached refuses a line, with its end, if the largest item has so many bytes; nothing if it takes it."""
     if not line.endswith(b"\r\n"):
         return NO_RETURN
     if len(line) > (MOST_LENIENT_LINE if is_lenient else MOST_LINE):
@@ -76,9 +78,9 @@ def why_refused(line, segment_size, is_lenient=False):
     if int(numbers.get("flags") or 0) >= 1 << 32 or int(numbers.get("number") or 0) >= 1 << 64:
         return BAD_FORM
     if "size" in numbers:
-        # (an item that fits has a block that fits: the most that a block may have is an eighth of the largest segment)
-        item = (24 + len(numbers["key"]) + int(numbers["size"]) + 7) // 8 * 8
-        return TOO_LARGE if item > segment_size // 8 else None
+        size = int(numbers["size"])
+        item = (24 + len(numbers["key"]) + size + 7) // 8 * 8
+        return TOO_LARGE if item > largest or (size > MOST_BLOCK and not is_lenient) else None
     return None
 
 
@@ -133,8 +135,8 @@ class Session:
 class Refusals:
     """Counts what is refused, of all sessions together."""
 
-    def __init__(self, segment_size, is_lenient=False):
-        self.segment_size, self.is_lenient = segment_size, is_lenient
+    def __init__(self, largest, is_lenient=False):
+        self.largest, self.is_lenient = largest, is_lenient
         self.lines, self.counts, self.firsts = 0, collections.Counter(), {}
         self.lock = threading.Lock()
 
@@ -146,7 +148,7 @@ class Refusals:
         with self.lock:
             if why is None:
                 self.lines += 1
-                why = why_refused(line, self.segment_size, self.is_lenient)
+                why = why_refused(line, self.largest, self.is_lenient)
             if why:
                 kind = (line.split(b" ")[0].strip()[:20].decode("latin-1"), why)
                 self.counts[kind] += 1

@@ -4,8 +4,8 @@
     tools/script_of.py text [--workers N] [--bytes] FILE ..
     tools/script_of.py record --to ADDR [--listen ADDR] [--workers N] [--sessions N] [--answers FILE]
     tools/script_of.py show [FILE]
-    tools/script_of.py refused --to ADDR [--listen ADDR] [--sessions N] [--lenient] [--segment-size B]
-    tools/script_of.py refused [--lenient] [--segment-size B] FILE ..
+    tools/script_of.py refused --to ADDR [--listen ADDR] [--sessions N] [--lenient] [--segment-size B] [--max-item-size I]
+    tools/script_of.py refused [--lenient] [--segment-size B] [--max-item-size I] FILE ..
 
 `text` prints a script in which each FILE is a session (`-` is standard input). A line feed of a file is sent as the end of a line of
 the protocol, CR LF, unless a CR stands before it already; with --bytes the bytes are sent as they are.
@@ -18,8 +18,8 @@ session was answered, in the form in which `segcached replay` prints it, to be c
 
 `refused` is the same proxy, in front of memcached: it keeps no script, and at its end prints the lines that segcached would refuse, by
 command and reason, with their count and the first of each. Of a FILE, which has the bytes that a client sent, it says the same. With
---lenient it says what `segcached serve --lenient` would refuse. Whether an item is too large depends on --segment-size, 1048576 unless it
-is given.
+--lenient it says what `segcached serve --lenient` would refuse. Whether an item is too large depends on --max-item-size, or else on
+--segment-size, of which it has an eighth, 1048576 unless it is given.
 
 Sessions are numbered from 1, and go to the workers in turn (one worker, unless --workers says more).
 """
@@ -192,7 +192,7 @@ def run_record(words):
 
 
 def run_refused(words):
-    refusals = Refusals(words.segment_size, words.lenient)
+    refusals = Refusals(words.max_item_size or words.segment_size // 8, words.lenient)
     if words.to:
         run_proxy(words, refusals.session)
     for name in words.files:
@@ -223,6 +223,7 @@ def read_words():
     refused = kinds.add_parser("refused", help="a proxy that counts the lines that segcached would refuse")
     refused.add_argument("files", nargs="*", metavar="FILE", help="bytes that a client sent, in place of a proxy")
     refused.add_argument("--segment-size", type=int, default=1_048_576, choices=[1 << power for power in range(12, 21)], metavar="B")
+    refused.add_argument("--max-item-size", type=int, metavar="I")
     refused.add_argument("--lenient", action="store_true", help="as `segcached serve --lenient` reads lines")
     for kind in (record, refused):
         kind.add_argument("--to", type=address, required=kind is record)

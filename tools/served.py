@@ -19,7 +19,8 @@ TOP = os.path.dirname(os.path.dirname(os.path.abspath(__file__)))
 PROGRAM = f"{TOP}/crates/segcached/out/segcached"
 # The options of the package, but for the numbers of workers and segments.
 OF_THE_PACKAGE = [
-    "--lenient", "--update-in-place", "--exact-ttls", "--evict", "least-read", "--storage", "workers", "--segment-size", "1048576"]
+    "--lenient", "--update-in-place", "--exact-ttls", "--evict", "least-read", "--storage", "workers", "--segment-size", "1048576",
+    "--max-item-size", "1048512"]
 
 
 class Trouble(Exception):

@@ -104,7 +104,7 @@ WORDS = [*COMMANDS, b"noreply", b"a", b"\x7f", b"", b"0", b"00", b"7", b"-1", b"
 
 
 def said_of(pieces, is_lenient=False):
-    refusals = refused_lines.Refusals(MEBIBYTE, is_lenient)
+    refusals = refused_lines.Refusals(MEBIBYTE // 8, is_lenient)
     session = refusals.session()
     for piece in pieces:
         session.send(piece)

@@ -1,18 +1,14 @@
-# Sourced by `ready` and `taken`. address_of OPTION ..: sets host and port to those of the first `--listen` of TCP among options
-# of `serve`, as a client of this machine connects to them. Port 0 is any port, or there are paths alone.
+# Sourced by `ready` and `taken`. address_of OPTION ..: sets host and port to those of `--listen` among options of `serve`,
+# as a client of this machine connects to them; port 0 is any port.
 address_of() {
-  local address=unix: word
+  local address=
   while [ $# -gt 0 ]; do
-    word=
     case $1 in
-      --listen) word=${2:-} ;;
-      --listen=*) word=${1#*=} ;;
+      --listen) address=${2:-} ;;
+      --listen=*) address=${1#*=} ;;
     esac
-    [[ $address != unix:* || -z $word ]] || address=$word
     shift
   done
-  host='' port=0
-  [[ $address != unix:* ]] || return 0
   host=${address%:*}
   host=${host#[}
   host=${host%]}

@@ -2,9 +2,9 @@
 import time
 
 
-def told(stream, line=b"stats\r\n"):
+def told(stream):
     """What a `stats` is told, by name."""
-    stream.sendall(line)
+    stream.sendall(b"stats\r\n")
     got = b""
     while not got.endswith(b"END\r\n"):
         got += stream.recv(65536)

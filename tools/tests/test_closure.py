@@ -1,11 +1,18 @@
 """Tests of what `tools/closure.py` finds, over a small tree that is written here, and that docs/HEADLINE.md has what its
 contracts rest on. They take a second.
-"""
-import pathlib
 
-import closure
+    python3 -m pytest tools/tests/test_closure.py
+"""
+import os
+import pathlib
+import sys
+
 import pytest
-from served import TOP
+
+TOP = os.path.dirname(os.path.dirname(os.path.dirname(os.path.abspath(__file__))))
+sys.path.insert(0, f"{TOP}/tools")
+
+import closure  # noqa: E402
 
 FILES = {
     "low/specs/Sizes.antt": """-- Sizes.

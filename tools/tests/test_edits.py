@@ -1,8 +1,15 @@
-"""Tests of the table of wrong bodies, docs/EDITS.md: that it is what the edits say, and that each names a promise."""
+"""Tests of the table of wrong bodies, docs/EDITS.md: that it is what the edits say, and that each names a promise.
+
+    python3 -m pytest tools/tests/test_edits.py
+"""
+import os
+import sys
 import types
 
-import edits
-from served import TOP
+TOP = os.path.dirname(os.path.dirname(os.path.dirname(os.path.abspath(__file__))))
+sys.path.insert(0, f"{TOP}/tools")
+
+import edits  # noqa: E402
 
 FOUND = [("low", "first", ("Part::call", "it does nothing")), ("low", "second", None), ("top", "third", ("run", "it runs twice"))]
 TABLES = """

@@ -5,17 +5,15 @@ ghost use Rattle.std.specs.Prelude.{◌≡◌, [], ◌∷◌, ◌++◌, OnErr, I
 ghost use Rattle.net.specs.Sockets.{socket_of, IsNewLog};
 
 mod logged_stream;
-mod raw;
 
 use crate::probes::{PROBE_BYTES, is_probe};
 use logged_stream::LoggedStream;
 pub(crate) use logged_stream::ServedStream;
-use mio::{Poll, Token};
+use mio::net::{TcpListener, TcpStream};
+use mio::{Interest, Poll, Token};
 use proto::{Noted, Trace};
-pub(crate) use raw::RawListener;
-use raw::RawStream;
-use std::alloc::{AllocError, Global};
-use std::io::{self, ErrorKind, Read, Write};
+use std::io::{self, Read, Write};
+use std::net::{Net, Shutdown, SocketAddr};
 use std::snapshot::Snapshot;
 
 /// What a client is told that no worker can take.
@@ -26,15 +24,12 @@ const DROPPED_BYTES: usize = 4096;
 
 const DROPS: usize = 16;
 
-/// The most sockets of a listener.
-const MAX_LISTENERS: usize = 8;
-
-/// The sockets that accept streams. For clauses alone it knows which they accepted.
+/// A socket that accepts streams. For clauses alone it knows which it accepted.
 #[derive(Drop)]
 pub(crate) struct Acceptor {
-    listeners: Vec<RawListener>,
-    /// The one that is asked first for the next stream.
-    turn: usize,
+    listener: TcpListener,
+    /// The port that it listens on.
+    pub(crate) port: u16,
     pub(crate) accepted: Trace<i32>,
 }
 
@@ -49,31 +44,23 @@ impl Noted<i32> for SocketNote<'_> {
 }
 
 impl Acceptor {
-    /// No socket yet.
-    pub(crate) fn new(alloc: Global) -> Result<Acceptor, AllocError>
+    pub(crate) fn bind<R: Net>(rt: &R, addr: SocketAddr) -> io::Result<Acceptor>
         ensures { IfOk result (λ acceptor. acceptor.accepted.items ≡ []) }
     {
+        let listener = TcpListener::bind(rt, addr)?;
         Ok(Acceptor {
-            listeners: Vec::with_capacity(alloc, MAX_LISTENERS)?,
-            turn: 0,
+            port: listener.local_addr()?.port(),
+            listener,
             accepted: Trace::new(),
         })
     }
 
-    /// Adds a socket, and has the poll return when a stream waits there.
-    pub(crate) fn add(&mut self, poll: &Poll, mut listener: RawListener) -> io::Result<()>
+    /// Has the poll return when a stream waits.
+    pub(crate) fn register(&mut self, poll: &Poll) -> io::Result<()>
         ensures { self.new.accepted.items ≡ self.old.accepted.items }
     {
-        listener.watch(poll)?;
-        self.listeners
-            .push(listener)
-            .map_err(|_| io::Error::from(ErrorKind::OutOfMemory))
-    }
-
-    /// The port of the first socket of TCP, 0 if there is none.
-    pub(crate) fn port(&self) -> u16 {
-        let mut ports = self.listeners.iter().filter_map(|listener| listener.port());
-        ports.next().unwrap_or(0)
+        poll.registry()
+            .register(&mut self.listener, Token(0), Interest::READABLE)
     }
 
     /// The next stream that waits; `WouldBlock` if none does.
@@ -82,7 +69,7 @@ impl Acceptor {
             (λ stream. self.new.accepted.items ≡ self.old.accepted.items ++ socket_of stream ∷ []) }
         ensures err { OnErr result (self.new.accepted.items ≡ self.old.accepted.items) }
     {
-        let stream = accept_in_turn(self.listeners.as_slice(), &mut self.turn)?;
+        let (stream, _) = self.listener.accept()?;
         let stream = NewStream { stream };
         let accepted = Snapshot::of(&stream);
         self.accepted.note_as(&SocketNote { stream: &accepted });
@@ -90,28 +77,10 @@ impl Acceptor {
     }
 }
 
-/// The next stream that waits at one of the sockets, asked in turn; `WouldBlock` if none does.
-fn accept_in_turn(listeners: &[RawListener], turn: &mut usize) -> io::Result<RawStream> {
-    for _ in 0..listeners.len() {
-        if *turn >= listeners.len() {
-            *turn = 0;
-        }
-        let Some(listener) = listeners.get(*turn) else {
-            break;
-        };
-        *turn += 1;
-        match listener.accept() {
-            Err(error) if error.kind() == ErrorKind::WouldBlock => {}
-            done => return done,
-        }
-    }
-    Err(io::Error::from(ErrorKind::WouldBlock))
-}
-
 /// An accepted stream that nobody serves yet. It can be handed on, served or closed.
 #[derive(Drop)]
 pub(crate) struct NewStream {
-    stream: RawStream,
+    stream: TcpStream,
 }
 
 impl NewStream {
@@ -121,7 +90,11 @@ impl NewStream {
         ensures { IfSome result (IsNewLog (socket_of self)) }
     {
         let mut stream = self.stream;
-        stream.watch(poll, Token(session as usize)).ok()?;
+        stream.set_nodelay(true).ok()?;
+        let both = Interest::READABLE | Interest::WRITABLE;
+        poll.registry()
+            .register(&mut stream, Token(session as usize), both)
+            .ok()?;
         Some(LoggedStream::new(stream))
     }
 
@@ -138,7 +111,7 @@ impl NewStream {
     /// closed with unread input, and the line might be lost.
     pub(crate) fn refuse(mut self) {
         let _ = self.stream.write(TOO_MANY);
-        let _ = self.stream.end_sending();
+        let _ = self.stream.shutdown(Shutdown::Write);
         let mut dropped = [0u8; DROPPED_BYTES];
         for _ in 0..DROPS {
             if !matches!(self.stream.read(&mut dropped), Ok(DROPPED_BYTES)) {
@@ -151,7 +124,7 @@ impl NewStream {
 /// A stream whose sending half is ended. Its input can only be discarded.
 #[derive(Drop)]
 pub(crate) struct EndedStream {
-    stream: RawStream,
+    stream: TcpStream,
 }
 
 impl EndedStream {
@@ -161,7 +134,7 @@ impl EndedStream {
             return None;
         }
         let stream = served.into_stream();
-        stream.end_sending().ok()?;
+        stream.shutdown(Shutdown::Write).ok()?;
         Some(EndedStream { stream })
     }
 

@@ -5,7 +5,6 @@
 mod book;
 mod buffer;
 mod causes;
-mod fault_line;
 mod input;
 pub mod laws;
 mod load;
@@ -14,6 +13,5 @@ mod session;
 mod upkeep;
 
 pub use book::Book;
-pub use causes::{EndCause, OpenFault, Received, Settled, Unasked};
-pub use fault_line::FaultLine;
+pub use causes::{EndCause, OpenFault, Received, Settled};
 pub use ready_queues::Task;

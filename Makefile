@@ -15,8 +15,8 @@ test: ## the gate: every proof, the wrong bodies that must be refused, the tests
 quick: ## for daily work: proves what changed since the last run, and runs the rows
 	@bash tools/quick.sh
 
-bench: ## compares a served segcached with memcached; writes the tables and pictures of docs/PERFORMANCE.md (twenty minutes)
-	@bash tools/bench.sh --write
+bench: ## compares the packaged segcached with memcached; writes all figures and pictures of docs/PERFORMANCE.md (three hours, two of them for a site)
+	@bash tools/bench.sh --write --parts all
 
 soak: ## hostile use of a served segcached, long: about 40 minutes
 	@python3 tools/hostile.py --long

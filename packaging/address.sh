@@ -1,14 +1,18 @@
-# Sourced by `ready` and `taken`. address_of OPTION ..: sets host and port to those of `--listen` among options of `serve`,
-# as a client of this machine connects to them; port 0 is any port.
+# Sourced by `ready` and `taken`. address_of OPTION ..: sets host and port to those of the first `--listen` of TCP among options
+# of `serve`, as a client of this machine connects to them. Port 0 is any port, or there are paths alone.
 address_of() {
-  local address=
+  local address=unix: word
   while [ $# -gt 0 ]; do
+    word=
     case $1 in
-      --listen) address=${2:-} ;;
-      --listen=*) address=${1#*=} ;;
+      --listen) word=${2:-} ;;
+      --listen=*) word=${1#*=} ;;
     esac
+    [[ $address != unix:* || -z $word ]] || address=$word
     shift
   done
+  host='' port=0
+  [[ $address != unix:* ]] || return 0
   host=${address%:*}
   host=${host#[}
   host=${host%]}

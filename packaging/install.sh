@@ -24,7 +24,7 @@ each_file() {
   "$1" 755 "$made/ready" "$prefix/lib/segcached/ready"
   "$1" 755 packaging/taken.sh "$prefix/lib/segcached/taken"
   "$1" 644 packaging/address.sh "$prefix/lib/segcached/address.sh"
-  "$1" 755 examples/probe.sh "$prefix/lib/segcached/probe"
+  "$1" 755 packaging/examples/probe.sh "$prefix/lib/segcached/probe"
   "$1" 644 crates/segcached/out/PROVED "$documents/PROVED"
   "$1" 644 CHANGELOG.md "$documents/CHANGELOG.md"
   for page in $pages; do
@@ -34,11 +34,10 @@ each_file() {
     "$1" 644 docs/$picture.svg "$documents/$picture.svg"
   done
   "$1" 755 tools/script_of.py "$documents/examples/script_of.py"
-  "$1" 644 tools/refused_lines.py "$documents/examples/refused_lines.py"
-  "$1" 755 examples/probe.sh "$documents/examples/probe.sh"
+  "$1" 755 packaging/examples/probe.sh "$documents/examples/probe.sh"
   "$1" 644 "$made/Containerfile" "$documents/examples/Containerfile"
   for example in kubernetes.yaml twemproxy/three_caches.yml; do
-    "$1" 644 examples/$example "$documents/examples/$example"
+    "$1" 644 packaging/examples/$example "$documents/examples/$example"
   done
 }
 
@@ -52,7 +51,7 @@ place_of() {
 # installed is its text alone.
 make_files() {
   tools/man_page.sh $program >"$made/segcached.1"
-  sed -e "s|/usr/bin/segcached|$prefix/bin/segcached|" -e "s|/usr/lib/|$prefix/lib/|" systemd/segcached.service >"$made/segcached.service"
+  sed -e "s|/usr/bin/segcached|$prefix/bin/segcached|" -e "s|/usr/lib/|$prefix/lib/|" packaging/systemd/segcached.service >"$made/segcached.service"
   sed "s|^probe=.*|probe=$prefix/lib/segcached/probe|" packaging/ready.sh >"$made/ready"
   sed -e '1,3c # An instance of segcached; its options stand in /etc/default/segcached-NAME.' \
     -e '/^EnvironmentFile=.*local$/d' -e 's| \$LOCAL||' \
@@ -60,10 +59,10 @@ make_files() {
     -e '/^# (without its options/d' -e '/^AssertPathExists=/d' -e 's|^Description=segcached|& (%i)|' \
     "$made/segcached.service" >"$made/segcached@.service"
   sed -e "1s|-f .*|-f $documents/examples/Containerfile -t segcached $prefix|" \
-    -e 's|crates/segcached/out/segcached|bin/segcached|' -e 's|examples/probe.sh|lib/segcached/probe|' \
-    examples/Containerfile >"$made/Containerfile"
+    -e 's|crates/segcached/out/segcached|bin/segcached|' -e 's|packaging/examples/probe.sh|lib/segcached/probe|' \
+    packaging/examples/Containerfile >"$made/Containerfile"
   for page in $pages; do
-    sed -E -e 's|\]\(\.\./examples/|](examples/|g' -e 's/\[([^]]*)\]\('"($absent)"'\.md[^)]*\)/\1/g' docs/$page.md >"$made/$page.md"
+    sed -E -e 's|\]\(\.\./packaging/examples/|](examples/|g' -e 's/\[([^]]*)\]\('"($absent)"'\.md[^)]*\)/\1/g' docs/$page.md >"$made/$page.md"
   done
 }
 

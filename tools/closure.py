@@ -1,9 +1,9 @@
 #!/usr/bin/env python3
 """Finds what a reader has to know of a contract: each definition of the repository's specs on which its clauses rest.
 
-    tools/closure.py [--tree DIR] [--text] [FILE:FUNCTION ..]     lists them; with no contract those of docs/HEADLINE.md
-    tools/closure.py [--tree DIR] fill                            writes the definitions' texts into docs/HEADLINE.md
-    tools/closure.py [--tree DIR] check                           says where that page and the sources differ, with status 1
+    tools/closure.py [FILE:FUNCTION ..]     lists them; with no contract those of docs/HEADLINE.md
+    tools/closure.py fill                   writes the definitions' texts into docs/HEADLINE.md
+    tools/closure.py check                  says where that page and the sources differ; status 1
 
 FILE stands below crates (group/src/run.rt), FUNCTION is a name, or TYPE::NAME in a trait or an impl; behind it may stand #CLAUSE, the
 name of the only clause to show. A clause's names
@@ -29,9 +29,9 @@ BEGINNING = re.compile(r"(?:pub |abbrev |unfoldable )*(?:abbrev|unfoldable|recor
 NAME = re.compile(r"«[^»]*»|[^\W\d][\w?'!×]*")
 BINDERS = (re.compile(r"[({]\s*([^\W\d][\w' ]*?)\s*:[^:]"), re.compile(r"λ ([\w' ]+)\."), re.compile(r"\blet (\w+) ="))
 
-# A definition, by the crate and file in which it stands: the line at which the comment above it begins, and its own first and
-# last. Of a type of the code the lines are left out.
-Definition = namedtuple("Definition", "crate file name above first last", defaults=(0, 0, 0))
+# A definition, by the crate and file in which it stands, and its first and last line there. Of a type
+# of the code the lines are left out.
+Definition = namedtuple("Definition", "crate file name first last", defaults=(0, 0))
 
 
 class Trouble(Exception):
@@ -75,23 +75,22 @@ class Sources:
         if (crate, file) not in self.files:
             text = read(self.path(crate, "specs", f"{file.replace('.', '/')}.antt"))
             lines = text.splitlines()
-            defined, name, above = {}, None, 0
+            defined, name = {}, None
             for at, line in enumerate(lines, 1):
                 begins = BEGINNING.match(line)
                 if begins:
                     name = begins[1]
-                    defined[name] = Definition(crate, file, name, above or at, at, at)
+                    defined[name] = Definition(crate, file, name, at, at)
                 elif line.startswith(("--", "use ", "pub use ", "pub mod ")):
                     name = None
                 elif name and line.strip():
                     defined[name] = defined[name]._replace(last=at)
-                above = (above or at) if line.startswith("--") else 0
             self.files[crate, file] = defined, lines, imports_of(text, "use ")
         return self.files[crate, file]
 
-    def text_of(self, definition, with_comment=False):
-        first = definition.above if with_comment else definition.first
-        return "\n".join(self.spec(definition.crate, definition.file)[1][first - 1 : definition.last])
+    def text_of(self, definition):
+        lines = self.spec(definition.crate, definition.file)[1]
+        return "\n".join(lines[definition.first - 1 : definition.last])
 
     def find(self, module, name):
         """What an imported name is: a definition, a type of the code, or None if the kit has it."""
@@ -292,11 +291,9 @@ def filled(page, sources):
 
 def main():
     parser = argparse.ArgumentParser(description=__doc__, formatter_class=argparse.RawDescriptionHelpFormatter)
-    parser.add_argument("--tree", default=TOP, help="the repository whose sources are read")
-    parser.add_argument("--text", action="store_true", help="with the definitions' texts")
     parser.add_argument("contracts", nargs="*")
     given = parser.parse_args()
-    sources, path = Sources(given.tree), os.path.join(TOP, PAGE)
+    sources, path = Sources(TOP), os.path.join(TOP, PAGE)
     if given.contracts in (["fill"], ["check"]):
         page = read(path)
         now, wrong = filled(page, sources)
@@ -310,8 +307,6 @@ def main():
     definitions, types, _ = sources.closure(given.contracts or contracts_of(read(path)))
     for it in definitions:
         print(f"crates/{place_of(it)}:{it.first}-{it.last} {it.name}")
-        if given.text:
-            print(sources.text_of(it, with_comment=True) + "\n")
     for it in types:
         print(f"crates/{it.crate}/src/{it.file}.rt {it.name}")
     print(f"{counts_of(definitions)}; {len(types)} types of the code")

@@ -15,8 +15,9 @@ version=$(python3 tools/proved.py package)
 work=$(mktemp -d)
 trap 'rm -rf "$work"' EXIT
 mkdir "$work/segcached"
-cp -r --parents CHANGELOG.md debian docs examples packaging systemd tools $program crates/segcached/out/PROVED "$work/segcached"
-maintainer=$(sed -n 's/^Maintainer: //p' debian/control)
+cp -r --parents CHANGELOG.md docs packaging tools $program crates/segcached/out/PROVED "$work/segcached"
+mv "$work/segcached/packaging/debian" "$work/segcached"
+maintainer=$(sed -n 's/^Maintainer: //p' packaging/debian/control)
 cat >"$work/segcached/debian/changelog" <<CHANGES
 segcached ($version) unstable; urgency=medium
 

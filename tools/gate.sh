@@ -1,19 +1,22 @@
 #!/usr/bin/env bash
-# The gate. `rt ci` proves every crate, but for what an earlier run on this machine proved of the same files, and runs the tests and the programs. On the processors that it leaves idle each wrong body must be
-# refused by the prover. Then each growth is refused in turn, and real sockets and real clients are tried against a served program, with nothing
-# beside. Each crate that is proved gets a line with the time so far; a table says what each crate cost, which is left in out/gate_minutes.tsv, too.
-# The last line is 'N passed, M failed'.
+# The gate. `rt ci` proves every crate, but for what an earlier run on this machine proved of the same files, and runs the
+# tests and the programs. On the processors that it leaves idle each wrong body must be refused by the prover. Then each
+# growth is refused in turn, and real sockets and real clients are tried against a served program, with nothing beside.
+# Each crate that is proved gets a line with the time so far. What the gate took is left in out/gate_took, too. The last line
+# is 'N passed, M failed'.
 set -u
 cd "$(dirname "$0")/.."
 passed=0
 failed=0
 began=$SECONDS
-minutes=out/gate_minutes.tsv
+load=$(cut -d ' ' -f 1-3 /proc/loadavg)
+# What the processors did so far, in ticks: all, and what the host gave to other machines.
+ticks() { awk '/^cpu /{ for (i = 2; i <= 9; i++) all += $i; print all, $9 }' /proc/stat; }
+read -r all_before stolen_before < <(ticks)
 
 work=$(mktemp -d)
-times_pid=
 tries_pid=
-trap '[ -z "$times_pid" ] || kill "$times_pid" 2>/dev/null; [ -z "$tries_pid" ] || kill -- "-$tries_pid" 2>/dev/null; rm -rf "$work"' EXIT
+trap '[ -z "$tries_pid" ] || kill -- "-$tries_pid" 2>/dev/null; rm -rf "$work"' EXIT
 
 # Says how far the gate is, after each line that ends a crate's proof or its tests.
 with_progress() {
@@ -55,11 +58,8 @@ part() {
 }
 
 mkdir -p out
-rm -f "$minutes"
 # rt ci would put these libraries back when it ends, and the wrong bodies are tried over those that it builds.
 rm -rf crates/*/out/rlib
-python3 tools/gate_times.py measure "$minutes" &
-times_pid=$!
 mkfifo "$work/said"
 # In a session of its own, which yields to all others, and which an interrupt ends with its checks.
 idly='{ echo 19 >/proc/self/autogroup; } 2>/dev/null; chrt --idle 0 true 2>/dev/null && exec chrt --idle 0 "$@"; exec nice -n 19 "$@"'
@@ -67,7 +67,9 @@ setsid sh -c "$idly" sh python3 tools/wrong_bodies.py --beside <"$work/said" >"$
 tries_pid=$!
 # One process for each proof: copies of it would take a third more of the processors' time, which the wrong bodies need.
 at_once=$(python3 -B -c 'import sys; sys.path.insert(0, "tools"); import machine; print(machine.at_once())')
-RT_JOBS=$at_once rt ci 2>&1 | tee -p "$work/log" "$work/said" | with_progress
+# (`time` tells what all of its processes took, in seconds of user and of system)
+TIMEFORMAT='%U %S'
+{ time RT_JOBS=$at_once rt ci 2>&1; } 2>"$work/took" | tee -p "$work/log" "$work/said" | with_progress
 count rt "$work/log"
 
 program=crates/segcached/out/segcached
@@ -83,26 +85,19 @@ wait "$tries_pid"
 tries_pid=
 cat "$work/wrong_bodies"
 count wrong_bodies "$work/wrong_bodies"
-kill "$times_pid" && wait "$times_pid"
-times_pid=
-costs="all was kept from earlier runs on this machine"
-if python3 tools/gate_times.py show "$minutes" >"$work/costs"; then
-  echo "gate: what each crate cost, in processor minutes of the prover"
-  cat "$work/costs"
-  echo "gate: these minutes stand in $minutes; tools/gate_times.py take $minutes records them"
-  costs=$(python3 tools/gate_times.py sums "$minutes")
-elif ! grep -q 'done in this run: 0 of the .* proofs' "$work/log"; then
-  echo "gate: the minutes weren't measured"
-  failed=$((failed + 1))
-  costs="minutes not measured"
-fi
+minutes_of_ci=$(awk '{ printf "%.0f", ($1 + $2) / 60 }' "$work/took")
+minutes_of_edits=$(sed -n 's/ processor minutes of the prover$//p' "$work/wrong_bodies")
+read -r all stolen < <(ticks)
+host=$(((stolen - stolen_before) * 100 / (all - all_before + 1)))
+costs="processor minutes: $minutes_of_ci of rt ci, $minutes_of_edits of wrong bodies; until then the host took $host% of the time"
+costs+=", and load averages before were $load"
 
 for file in tools/tests/test_*.py; do
   name=$(basename "$file" .py)
   [[ " ${untimed[*]} " == *" ${name#test_} "* ]] || part "$file" bash tools/tests.sh "$file"
 done
 part "hostile" python3 tools/hostile.py --program "$program" --late 2 \
-  --only fairness,unread,shared_counters,history,bad_peers,many_sessions,few_descriptors,refused_memory,little_memory,fuzz
+  --only fairness,unread,shared_counters,history,bad_peers,few_descriptors,refused_memory,little_memory,fuzz
 
 took="$(((SECONDS - began) / 60)) minutes on $(nproc) processors"
 echo "gate: took $took; $costs"

@@ -1,15 +1,11 @@
-#!/usr/bin/env python3
-"""Records what eight clients ask of a server and are answered, and checks that one order of it is a cache's.
+"""What eight clients ask of a server on shared keys and are answered, and whether one order of it is
+a cache's: for tools/hostile.py.
 
-    tools/histories.py record PORT FILE [--seconds S]    eight clients on shared keys; a line an operation
-    tools/histories.py check FILE                        whether each key's operations fall into one order
-
-A line is CLIENT BEGIN END KEY VERB WORDS.. ANSWER.., the times in nanoseconds. The check knows nothing of the server. For each key it
-looks for an order of the operations in which each stands between its beginning and its end, and is answered as one value with
-one cas number would answer it (Wing and Gong's search, with what was seen before left out). Nothing may have been forgotten
-meanwhile, so the server's segments have to hold all keys.
+The check knows nothing of the server. For each key it looks for an order of the operations in which
+each stands between its beginning and its end, and is answered as one value with one cas number
+would answer it (Wing and Gong's search, with what was seen before left out). Nothing may have been
+forgotten meanwhile, so the server's segments have to hold all keys.
 """
-import argparse
 import collections
 import random
 import socket
@@ -157,36 +153,3 @@ def check(operations):
     wrong = sorted(key for key, of_key in by_key.items() if not has_order(of_key))
     at_once = sum(any(other.begin < it.end and other.end > it.begin and other is not it for other in by_key[it.key]) for it in operations)
     return wrong, len(by_key), len(operations), at_once
-
-
-def line_of(it):
-    return f"{it.client} {it.begin} {it.end} {it.key} {it.verb} {','.join(it.words) or '-'} {','.join(it.answer) or '-'}\n"
-
-
-def operation_of(line):
-    client, begin, end, key, verb, words, answer = line.split()
-    split = lambda text: [] if text == "-" else text.split(",")
-    return Operation(int(client), int(begin), int(end), key, verb, split(words), split(answer))
-
-
-def main():
-    parser = argparse.ArgumentParser(description="Records and checks histories of eight clients.")
-    kinds = parser.add_subparsers(dest="kind", required=True)
-    recording, checking = kinds.add_parser("record"), kinds.add_parser("check")
-    recording.add_argument("port", type=int)
-    recording.add_argument("--seconds", type=float, default=60)
-    for it in (recording, checking):
-        it.add_argument("file")
-    words = parser.parse_args()
-    if words.kind == "record":
-        with open(words.file, "w", encoding="ascii") as file:
-            file.writelines(map(line_of, record(words.port, words.seconds)))
-        return 0
-    with open(words.file, encoding="ascii") as file:
-        wrong, keys, operations, at_once = check([operation_of(line) for line in file])
-    print(f"{operations} operations on {keys} keys, {at_once} of them beside another on their key; {len(wrong)} keys without an order {' '.join(wrong[:5])}")
-    return 1 if wrong else 0
-
-
-if __name__ == "__main__":
-    sys.exit(main())

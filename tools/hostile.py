@@ -1,11 +1,11 @@
 #!/usr/bin/env python3
 """Hostile use of a served segcached: bad bytes, bad peers, refused memory, much data, shared counters.
 
-    tools/hostile.py [--long] [--only NAME,..] [--program FILE] [--late SECONDS] [--fuzz-seconds SECONDS]
+    tools/hostile.py [--long] [--only NAME,..] [--program FILE] [--late SECONDS]
 
 Each part serves the program on a free port, does its worst beside a canary (a client whose every answer is checked and timed),
-and says a line. Without --long the parts take about three minutes in all; with it the fuzz alone takes half an hour, unless
---fuzz-seconds says otherwise. Ends with status 0 if nothing was wrong, lost or late.
+and says a line. Without --long the parts take about three minutes in all; with it the fuzz alone
+takes half an hour. Ends with status 0 if nothing was wrong, lost or late.
 """
 import argparse
 import multiprocessing
@@ -23,14 +23,13 @@ import time
 import traceback
 
 import served
+import waits
 from served import OF_THE_PACKAGE, TOP, NotServing, Trouble, read_to_end, reset
 from standstills import Standstills
 
 PROGRAM = served.PROGRAM
 # The most seconds that six answers to the canary may take.
 LATE = 1.0
-# (in place of a minute, or of half an hour)
-FUZZ_SECONDS = None
 
 
 def serve(*words, **named):
@@ -224,7 +223,7 @@ class Crowd:
 
 def fuzz(is_long):
     """Bad bytes on up to 1,000 connections, beside the canary."""
-    seconds = FUZZ_SECONDS or (1800 if is_long else 60)
+    seconds = 1800 if is_long else 60
     chance = random.Random(20260101)
     with serve("--workers", "2") as server:
         canary, crowd, sent = Canary(server), Crowd(server, 1000 if is_long else 300), 0
@@ -288,31 +287,6 @@ def bad_peers(is_long):
         for peer in stalled + silent:
             peer.close()
         return f"20 that read nothing, 100 silent, {storm} that came and went, 300 reset, 20 half-closed; {said}"
-
-
-def many_sessions(_):
-    """More sessions than a worker has room for: those beyond wait, and are served once others have gone."""
-    with serve("--workers", "1") as server:
-        clients = []
-        for number in range(1024):
-            clients.append(Client(server))
-            if clients[-1].set(b"many-%d" % number, b"%d" % number) != b"STORED":
-                raise Trouble(f"session {number} wasn't served")
-        late = server.connect(1)
-        late.sendall(b"get many-7\r\n")
-        late.settimeout(0.3)
-        try:
-            raise Trouble(f"the 1,025th session got {late.recv(100)!r}")
-        except TimeoutError:
-            pass
-        clients[0].close()
-        late.settimeout(10)
-        if late.recv(100) != b"VALUE many-7 0 1\r\n7\r\nEND\r\n":
-            raise Trouble("the 1,025th session wasn't served once another had gone")
-        for number, client in enumerate(clients[1:], 1):
-            if client.get(b"many-%d" % number) != b"%d" % number:
-                raise Trouble(f"session {number} lost its key")
-        return "1,024 sessions of one worker served, the next one once another had gone"
 
 
 def few_descriptors(_):
@@ -601,26 +575,16 @@ def history(is_long):
     return f"{count} operations of 8 clients on {keys} keys, {at_once} of them beside another on their key: one order for each"
 
 
-def fairness(_):
-    """Clients that send or read as fast as they can keep no other waiting; tools/fairness.py."""
-    import fairness as beside_memcached
-
-    return beside_memcached.check(PROGRAM)
-
-
-def unread(_):
-    """Clients that ask for the longest answers and read nothing take little memory, and keep no other waiting; tools/unread.py."""
-    import unread as clients
-
-    return clients.check(PROGRAM)
+def beside(name):
+    """What others wait beside clients that take much: a part of tools/waits.py."""
+    return lambda _: getattr(waits, name)(PROGRAM)
 
 
 PARTS = {
-    "fairness": fairness,
-    "unread": unread,
+    "fairness": beside("fairness"),
+    "unread": beside("unread"),
     "shared_counters": shared_counters,
     "bad_peers": bad_peers,
-    "many_sessions": many_sessions,
     "few_descriptors": few_descriptors,
     "history": history,
     "little_memory": little_memory,
@@ -636,9 +600,8 @@ def main():
     parser.add_argument("--only", default=",".join(PARTS))
     parser.add_argument("--program", default=PROGRAM)
     parser.add_argument("--late", type=float, default=LATE)
-    parser.add_argument("--fuzz-seconds", type=float)
     words = parser.parse_args()
-    globals().update(PROGRAM=words.program, LATE=words.late, FUZZ_SECONDS=words.fuzz_seconds)
+    globals().update(PROGRAM=words.program, LATE=words.late)
     _, hard = resource.getrlimit(resource.RLIMIT_NOFILE)
     resource.setrlimit(resource.RLIMIT_NOFILE, (min(hard, 8192), hard))
     failed = 0

@@ -1,19 +1,22 @@
-"""How often keys in use are lost while new ones are written: for tools/bench.py, which says the words.
+"""How often keys in use are lost while new ones are written: for tools/bench.py, which says the
+words.
 
-A client writes 1,500 new keys a second, far more than the memory holds, and uses four keys ten times a second: it increments a counter
-and reads three others. A key that is gone long before its TTL is over is lost, and is written again. memcached (of Debian, with its own
-defaults) gets an -m with which about the memory is resident, segcached as many segments as have its bytes.
+A client writes 1,500 new keys a second, far more than the memory holds, and uses four keys ten
+times a second: it increments a counter and reads three others. A key that is gone long before its
+TTL is over is lost, and is written again. memcached gets an -m with which about the memory is
+resident, segcached as many segments as have its bytes.
 """
 import concurrent.futures
 import dataclasses
 import socket
 import time
 
-from misses import EVICTIONS, MIB, PLAIN
-from served import OnPort, Server, Trouble, free_port
+from misses import MIB, PLAIN, SETTINGS
+from served import Memcached, Server, Trouble
 
 RATE, TICKS_A_SECOND, SECONDS, VALUE = 1_500, 10, 75, b"v" * 1_000
-# The TTLs of the keys in use, of which the first is the counter, and how much earlier one may end: segcached rounds a TTL down by less than this.
+# The TTLs of the keys in use, of which the first is the counter, and how much earlier one may end:
+# by default segcached rounds a TTL down by less than this.
 TTLS, EARLY = (60, 60, 600, 0), 16
 
 
@@ -36,13 +39,13 @@ FLOODS = (
 
 
 def servers(flood, program):
-    """memcached, and segcached with each of its rules."""
-    port = free_port()
+    """memcached, and segcached with each of its options."""
     megabytes = flood.memory - 5 - flood.memory // 32
-    yield OnPort(port, ["memcached", "-u", "nobody", "-l", "127.0.0.1", "-p", str(port), "-m", str(megabytes)], PLAIN)
-    sizes = ["--segment-size", str(flood.segment_size), "--segments", str(flood.memory * MIB // flood.segment_size)]
-    for evict in EVICTIONS:
-        yield Server(program, *sizes, "--update-in-place", "--evict", evict, environment=PLAIN)
+    yield Memcached(megabytes=megabytes, environment=PLAIN)
+    segments = flood.memory * MIB // flood.segment_size
+    sizes = ["--segment-size", str(flood.segment_size), "--segments", str(segments)]
+    for options in SETTINGS.values():
+        yield Server(program, *sizes, *options, environment=PLAIN)
 
 
 class Client:
@@ -75,15 +78,18 @@ class Client:
 
     def write(self, number):
         value = b"1000000" if number == 0 else VALUE
-        self.stream.sendall(b"set hot-%d 0 %d %d\r\n%s\r\n" % (number, TTLS[number], len(value), value))
+        line = b"set hot-%d 0 %d %d\r\n%s\r\n"
+        self.stream.sendall(line % (number, TTLS[number], len(value), value))
         if self.line() != b"STORED\r\n":
             raise Trouble("set: not stored")
-        self.until[number] = time.monotonic() + TTLS[number] - EARLY if TTLS[number] else float("inf")
+        lasts = TTLS[number] - EARLY if TTLS[number] else float("inf")
+        self.until[number] = time.monotonic() + lasts
 
     def flood(self, ttls, count):
         """Writes new keys, and tells of none that wasn't stored."""
         numbers = range(self.written, self.written + count)
-        self.stream.sendall(b"".join(b"set new-%d 0 %d %d\r\n%s\r\n" % (it, ttls[it % len(ttls)], len(VALUE), VALUE) for it in numbers))
+        line = b"set new-%%d 0 %%d %d\r\n%s\r\n" % (len(VALUE), VALUE)
+        self.stream.sendall(b"".join(line % (it, ttls[it % len(ttls)]) for it in numbers))
         for _ in numbers:
             self.line()
         self.written += count
@@ -109,20 +115,20 @@ def lost(server, flood, seconds):
 
 
 def losses(program, seconds=SECONDS, floods=FLOODS):
-    """By flood, how often each key was lost with memcached and with each rule: all floods at once."""
+    """By flood, how often each key was lost with each server: all floods at once."""
     with concurrent.futures.ThreadPoolExecutor(3 * len(floods)) as pool:
-        runs = {it: [pool.submit(lost, server, it, seconds) for server in servers(it, program)] for it in floods}
-        return {it: [ran.result() for ran in ran_each] for it, ran_each in runs.items()}
+        runs = {it: [pool.submit(lost, server, it, seconds) for server in servers(it, program)]
+                for it in floods}
+        return {it: [ran.result() for ran in each] for it, each in runs.items()}
 
 
 def table(results, seconds=SECONDS):
     """A row for each flood."""
-    rows = [
-        f"| {RATE:,} new keys a second, {seconds} seconds | memcached | " + " | ".join(f"--evict {it}" for it in EVICTIONS) + " |",
-        "|---|---|" + "---|" * len(EVICTIONS),
-    ]
+    heads = [f"{RATE:,} new keys a second, {seconds} seconds", "memcached", *SETTINGS]
+    rows = ["| " + " | ".join(heads) + " |", "|---" * len(heads) + "|"]
     for flood, each in results.items():
         ttls = ", ".join(f"{it:,}" if it else "none" for it in flood.ttls)
+        sizes = f"{flood.memory} MiB, segments of {flood.segment_size >> 10} KiB, TTLs {ttls}"
         cells = [" ".join(map(str, it)) for it in each]
-        rows.append(f"| {flood.memory} MiB, segments of {flood.segment_size >> 10} KiB, TTLs {ttls} | " + " | ".join(cells) + " |")
+        rows.append(f"| {sizes} | " + " | ".join(cells) + " |")
     return rows

@@ -2,12 +2,13 @@
 //
 //   load HOST PORT [--connections N] [--threads N] [--pipeline N] [--seconds S] [--reads N] [--keys N] [--value BYTES]
 //                  [--sets PERCENT] [--deletes PERCENT] [--many KEYS] [--zipf EXPONENT] [--rate R] [--fill] [--through]
-//                  [--ttls | --long-ttls] [--seed N]
+//                  [--ttls | --long-ttls] [--seed N] [--first N]
 //
 // Each connection keeps a pipeline of requests on its way: it sends them in one piece, reads all their answers, and sends
 // the next ones. A latency is the time from that send to the last byte of the request's answer. Each answer is checked: its keys are
 // those that were asked, in order, and each value is the one that its key has to hold. --fill writes each key once and measures
-// nothing. --many asks for this number of keys in one get. --rate sends this number of requests a second in all, evenly, in place
+// nothing. --first says with which number the keys begin.
+// --many asks for this number of keys in one get. --rate sends this number of requests a second in all, evenly, in place
 // of as many as can be. --through writes each key that was missed, as a client of a cache does: at the front of the next pipeline, beyond its
 // number of requests and their rate. --ttls writes half of the keys with a TTL of 60 seconds, three tenths with 600; --long-ttls
 // four tenths with 300 seconds, four with 3,600, and two with 86,400. --reads
@@ -35,7 +36,7 @@
 
 struct options {
     const char *host;
-    int port, connections, threads, pipeline, many, sets, deletes, keys, value, seed;
+    int port, connections, threads, pipeline, many, sets, deletes, keys, first, value, seed;
     double seconds, rate, zipf;
     long reads;
     bool fill, through, ttls, long_ttls;
@@ -140,6 +141,7 @@ static void make_tails(void) {
 // The key's name: "key-" and seven digits.
 static void write_key(char *out, int key) {
     memcpy(out, "key-", 4);
+    key += options.first;
     for (int i = KEY_LENGTH - 1; i >= 4; i--, key /= 10) out[i] = '0' + key % 10;
 }
 
@@ -436,6 +438,7 @@ static void read_words(int count, char **words) {
         else if (!strcmp(word, "--seconds")) options.seconds = fraction(word, next, 86400), i++;
         else if (!strcmp(word, "--reads")) options.reads = number(word, next, 1, 2000000000), i++;
         else if (!strcmp(word, "--keys")) options.keys = number(word, next, 1, 9999999), i++;
+        else if (!strcmp(word, "--first")) options.first = number(word, next, 0, 9999999), i++;
         else if (!strcmp(word, "--value")) options.value = number(word, next, 0, 131072), i++;
         else if (!strcmp(word, "--sets")) options.sets = number(word, next, 0, 100), i++;
         else if (!strcmp(word, "--deletes")) options.deletes = number(word, next, 0, 100), i++;

@@ -1,11 +1,13 @@
-"""Misses of segcached and memcached at equal resident memory: for tools/bench.py, which says the words.
+"""Misses of segcached and memcached at equal resident memory: for tools/bench.py, which says the
+words.
 
-A client reads keys by Zipf's law and writes each that it missed. All keys with their values have some times as many bytes as the
-memory, so no server keeps them all. memcached (of Debian, with its own defaults) gets an -m with which the point's memory is
-resident; segcached gets the most segments with which it has no more resident than memcached, once each server was filled with all
-keys. Then both are warmed by a number of reads, and a further number is counted: of reads, not of seconds, so a slow machine
-counts the same misses. If keys have TTLs the clock counts too, and both servers are asked at one fixed rate. segcached is measured
-with each of its rules of eviction.
+A client reads keys by Zipf's law and writes each that it missed. All keys with their values have
+some times as many bytes as the memory, so no server keeps them all. memcached (of Debian, with its
+own defaults) gets an -m with which the point's memory is resident; segcached gets the most segments
+with which it has no more resident than memcached, once each server was filled with all keys. Then
+both are warmed by a number of reads, and a further number is counted: of reads, not of seconds, so
+a slow machine counts the same misses. If keys have TTLs the clock counts too, and both servers are
+asked at one fixed rate. segcached is measured with the package's options, and with its defaults.
 """
 import concurrent.futures
 import dataclasses
@@ -14,27 +16,29 @@ import os
 import subprocess
 import tempfile
 
-from served import OnPort, Server, Trouble, free_port
+from served import OPTIONS, Memcached, Server
 
 MIB = 1 << 20
 KEY_BYTES, HEAD_BYTES = 11, 24
-# How many reads warm and how many are counted, as multiples of the number of keys, and the least number of reads.
+# How many reads warm and how many are counted, as multiples of the keys, and the least number.
 WARMED, COUNTED, LEAST = 4, 2, 1_000_000
 # Of each class of TTLs a segment is open, so keys with TTLs have larger ones.
 SEGMENT_SIZE, TIMED_SEGMENT_SIZE = 64 << 10, 512 << 10
 MEMORIES, VALUES, EXPONENTS = (32, 64, 128), (100, 300, 1000), (0.8, 0.99)
-# How many times the memory the keys with their values have: in the curve, and in a table of its own.
+# How many times the memory the keys with their values have: in the curve, and in another table.
 TIMES, OTHER_TIMES = 2.5, (1.5, 1.8, 4.0)
 SEGMENT_SIZES = (64 << 10, 256 << 10, 512 << 10, 1 << 20)
-EVICTIONS = ("oldest", "least-read")
-# Neither server asks for huge pages: with them what is resident is rounded up to 2 MiB in several places.
+# segcached's options, by what tables call them.
+SETTINGS = {"default": [], "package": OPTIONS}
+# Neither server asks for huge pages, with which what is resident is rounded up to 2 MiB.
 PLAIN = {name: value for name, value in os.environ.items() if name != "GLIBC_TUNABLES"}
 
 
 @dataclasses.dataclass(frozen=True)
 class Timed:
-    """What keys with TTLs are asked for: the load's word for their TTLs, requests a second, the seconds of warming and of counting, and
-    how many of 100 requests are writes and deletes beside those of keys that were missed."""
+    """What keys with TTLs are asked for: the load's word for their TTLs, requests a second, the
+    seconds of warming and of counting, and how many of 100 requests are writes and deletes beside
+    the writes of keys that were missed."""
 
     name: str
     ttls: str
@@ -58,7 +62,7 @@ SITE = Timed("a site", "--long-ttls", 3_000, 5_400, 1_800, sets=10, deletes=1, p
 
 @dataclasses.dataclass(frozen=True)
 class Point:
-    """What is measured: MiB of memory, bytes of a value, the law's exponent, and what else is asked."""
+    """What is measured: MiB of memory, bytes of a value, the law's exponent, and what else."""
 
     memory: int
     value: int
@@ -67,7 +71,7 @@ class Point:
     timed: Timed | None = None
     sets: int = 0
     segment_size: int = SEGMENT_SIZE
-    evict: str = "oldest"
+    setting: str = "default"
 
     @property
     def keys(self):
@@ -76,21 +80,25 @@ class Point:
     @property
     def store(self):
         """What the servers' sizes depend on."""
-        return Point(self.memory, self.value, 0, max(self.times, TIMES), segment_size=self.segment_size)
+        times = max(self.times, TIMES)
+        return Point(self.memory, self.value, 0, times, segment_size=self.segment_size)
 
     def words(self):
         """The load's words."""
-        asked = ["--through", "--zipf", self.zipf, "--threads", 1, "--keys", self.keys, "--value", self.value]
+        asked = ["--through", "--zipf", self.zipf, "--threads", 1]
+        asked += ["--keys", self.keys, "--value", self.value]
         if not self.timed:
             return [*asked, "--pipeline", 256, "--sets", self.sets, "--connections", 1]
-        kind = self.timed
-        asked += ["--pipeline", kind.pipeline, "--sets", kind.sets, "--deletes", kind.deletes, "--connections", 4]
-        return [*asked, kind.ttls, "--rate", kind.rate]
+        it = self.timed
+        asked += ["--pipeline", it.pipeline, "--sets", it.sets, "--deletes", it.deletes]
+        return [*asked, "--connections", 4, it.ttls, "--rate", it.rate]
 
     @property
     def told(self):
-        """What a table says of its TTLs and its rule."""
-        return f"{f', {self.timed.name}' if self.timed else ''}, --evict {self.evict}"
+        """What a table says of its TTLs, its writes and its options."""
+        said = f", {self.timed.name}" if self.timed else ""
+        said += f", {self.sets} of 100 are writes" if self.sets else ""
+        return f"{said}, {self.setting}"
 
     def reads(self):
         """How many reads warm, and how many are counted."""
@@ -101,7 +109,8 @@ class Point:
 
 @dataclasses.dataclass(frozen=True)
 class Side:
-    """What a server came to: its megabytes or segments, MiB resident at the end, misses of 100 reads, and reads a second."""
+    """What a server came to: its megabytes or segments, MiB resident at the end, misses of 100
+    reads, and reads a second."""
 
     size: int
     resident: float
@@ -109,26 +118,33 @@ class Side:
     rate: float
 
 
+def by_settings(points):
+    return [dataclasses.replace(it, setting=setting) for it in points for setting in SETTINGS]
+
+
 def curve():
-    """The points of the picture, those with fewer and with more keys, and those with TTLs, by both rules."""
-    plain = [Point(memory, value, zipf, evict=evict) for zipf in EXPONENTS for value in VALUES for memory in MEMORIES for evict in EVICTIONS]
-    others = [Point(32, value, 0.99, times, evict=evict) for value in VALUES for times in OTHER_TIMES for evict in EVICTIONS]
-    timed = [Point(64, value, 0.99, timed=SHORT, segment_size=TIMED_SEGMENT_SIZE, evict=evict) for value in (100, 1000) for evict in EVICTIONS]
-    return plain, others, timed
+    """The points of the picture, those with fewer and with more keys, and those with TTLs."""
+    plain = [Point(memory, value, zipf)
+             for zipf in EXPONENTS for value in VALUES for memory in MEMORIES]
+    others = [Point(32, value, 0.99, times) for value in VALUES for times in OTHER_TIMES]
+    timed = [Point(64, value, 0.99, timed=SHORT, segment_size=TIMED_SEGMENT_SIZE)
+             for value in (100, 1000)]
+    return [by_settings(it) for it in (plain, others, timed)]
 
 
 def site(quick):
-    """The points of a site, by both rules: or a minute of a small one."""
+    """The points of a site: or a minute of a small one."""
     if quick:
         brief = dataclasses.replace(SITE, rate=30_000, warm=45, count=15)
-        return [Point(16, 600, 1.0, timed=brief, segment_size=256 << 10, evict=evict) for evict in EVICTIONS]
-    return [Point(64, 600, 1.0, timed=SITE, segment_size=MIB, evict=evict) for evict in EVICTIONS]
+        return by_settings([Point(16, 600, 1.0, timed=brief, segment_size=256 << 10)])
+    return by_settings([Point(64, 600, 1.0, timed=SITE, segment_size=MIB)])
 
 
 def segment_points():
     """The points that tell which size of a segment misses least."""
     kinds = ({"memory": 32}, {"memory": 32, "sets": 30}, {"memory": 64, "timed": SHORT})
-    return [Point(value=value, zipf=0.99, **kind, segment_size=size) for kind in kinds for value in (100, 1000) for size in SEGMENT_SIZES]
+    return [Point(value=value, zipf=0.99, **kind, segment_size=size, setting="package")
+            for kind in kinds for value in (100, 1000) for size in SEGMENT_SIZES]
 
 
 class Misses:
@@ -138,34 +154,29 @@ class Misses:
         self.load, self.program, self.say = load, program, say
         self.at_once = max(1, (os.cpu_count() or 1) // 2)
 
-    def memcached(self, megabytes):
-        port = free_port()
-        return OnPort(port, ["memcached", "-u", "nobody", "-l", "127.0.0.1", "-p", str(port), "-m", str(megabytes)], PLAIN)
-
     def segcached(self, point, segments):
-        words = ["--segment-size", str(point.segment_size), "--segments", str(segments), "--evict", point.evict]
-        return Server(self.program, *words, environment=PLAIN)
+        words = ["--segment-size", point.segment_size, "--segments", segments]
+        words += SETTINGS[point.setting]
+        return Server(self.program, *map(str, words), environment=PLAIN)
 
     def asked(self, server, *words):
         """One run of the load: the figures of its last line."""
-        ran = subprocess.run([self.load, "127.0.0.1", str(server.port), *map(str, words)], capture_output=True, text=True, check=False)
-        if ran.returncode:
-            raise Trouble(f"{' '.join(map(str, words))}: ended with {ran.returncode}, {ran.stderr.strip()}")
-        figures = {name: float(figure) for name, _, figure in (it.partition("=") for it in ran.stdout.split())}
+        figures = self.load.run(server, *words)
         if figures["refused"]:
-            self.say(f"{server.process.args[0]}: {figures['refused']:,.0f} of {figures['requests']:,.0f} requests refused")
+            self.say(f"{server.process.args[0]}: {figures['refused']:,.0f} requests refused")
         return figures
 
     def filled(self, server, point):
         """What a server has resident once all keys were written, in MiB."""
+        words = ["--fill", "--connections", 4, "--pipeline", 64]
         with server:
-            self.asked(server, "--fill", "--connections", 4, "--pipeline", 64, "--keys", point.keys, "--value", point.value)
+            self.asked(server, *words, "--keys", point.keys, "--value", point.value)
             return resident(server)
 
     def fit(self, point):
         """memcached's -m, and segcached's segments."""
         megabytes = point.memory - 5 - point.memory // 32
-        budget = self.filled(self.memcached(megabytes), point)
+        budget = self.filled(Memcached(megabytes=megabytes, environment=PLAIN), point)
         segment = point.segment_size / MIB
         taken = segment * (1 + 1 / 256 + 12 / (HEAD_BYTES + KEY_BYTES + point.value))
         segments, most = int(0.85 * budget / taken), math.inf
@@ -178,7 +189,7 @@ class Misses:
                 segments = min(segments + int(-over / taken), most - 1)
             else:
                 break
-        self.say(f"{point.memory} MiB, {point.value} bytes: -m {megabytes}, {segments} segments of {point.segment_size >> 10} KiB")
+        self.say(f"{point}: -m {megabytes}, {segments} segments")
         return megabytes, segments
 
     def side(self, server, size, point):
@@ -188,30 +199,29 @@ class Misses:
             self.asked(server, *point.words(), "--seed", 1, "--reads", warmed)
             ran = self.asked(server, *point.words(), "--seed", 2, "--reads", counted)
             reads = ran["hits"] + ran["misses"]
-            return Side(size, resident(server), 100 * ran["misses"] / reads, reads / ran["seconds"])
+            missed = 100 * ran["misses"] / reads
+            return Side(size, resident(server), missed, reads / ran["seconds"])
 
     def both(self, point, sizes):
         """memcached and segcached, at the same time."""
-        starts = (lambda: self.memcached(sizes[0]), lambda: self.segcached(point, sizes[1]))
+        starts = (lambda: Memcached(megabytes=sizes[0], environment=PLAIN),
+                  lambda: self.segcached(point, sizes[1]))
         with concurrent.futures.ThreadPoolExecutor(2) as pool:
-            sides = list(pool.map(lambda start, size: self.side(start(), size, point), starts, sizes))
-        self.say(f"{point}: {sides[1].missed / max(sides[0].missed, 1e-9):.2f}")
+            run = lambda start, size: self.side(start(), size, point)
+            sides = list(pool.map(run, starts, sizes))
+        self.say(f"{point}: {ratio(sides):.2f}")
         return sides
 
-    def alone(self, point, sizes):
-        """segcached without memcached."""
-        side = self.side(self.segcached(point, sizes[1]), sizes[1], point)
-        self.say(f"{point}: {side.missed:.2f}")
-        return side
-
-    def each(self, run, points):
-        """By point, the result of its run: those at a fixed rate all at once, beside the others, of which the longest go first."""
+    def each(self, points):
+        """By point, its sides: those at a fixed rate all at once, beside the others, of which the
+        longest go first."""
         stores = sorted({it.store for it in points}, key=lambda it: -it.keys)
         order = sorted(points, key=lambda it: -it.keys)
         pool = concurrent.futures.ThreadPoolExecutor
         with pool(self.at_once) as busy, pool(len(points)) as timed:
             sizes = dict(zip(stores, busy.map(self.fit, stores)))
-            runs = {it: (timed if it.timed else busy).submit(run, it, sizes[it.store]) for it in order}
+            runs = {it: (timed if it.timed else busy).submit(self.both, it, sizes[it.store])
+                    for it in order}
             return {it: ran.result() for it, ran in runs.items()}
 
 
@@ -219,93 +229,78 @@ def resident(server):
     return server.kilobytes("VmRSS") / 1024
 
 
-def pair(sides, figure):
-    return f"{figure(sides[0])}, {figure(sides[1])}"
-
-
 def ratio(sides):
     return sides[1].missed / max(sides[0].missed, 1e-9)
 
 
+HEADS = ["Memory (MiB), segments (KiB)", "values (bytes)", "Zipf's exponent",
+         "keys (times the memory)", "-m of memcached, segments", "resident (MiB)",
+         "missed of 100 reads", "ratio"]
+
+
 def table(points, results):
     """A row for each point: both servers' memory and misses."""
-    rows = [
-        "| Memory (MiB) | values (bytes) | Zipf's exponent | keys (their bytes, times the memory) | -m of memcached, segments | resident (MiB): memcached, segcached "
-        "| missed of 100 reads: memcached, segcached | ratio |",
-        "|---|---|---|---|---|---|---|---|",
-    ]
+    rows = ["| " + " | ".join(HEADS) + " |", "|---" * len(HEADS) + "|"]
     for point in points:
         sides = results[point]
-        cells = [str(point.memory), f"{point.value:,}", f"{point.zipf:g}{point.told}", f"{point.keys:,} ({point.times:g})"]
-        cells += [pair(sides, lambda it: it.size), pair(sides, lambda it: f"{it.resident:.1f}"), pair(sides, lambda it: f"{it.missed:.2f}")]
-        rows.append("| " + " | ".join([*cells, f"{ratio(sides):.2f}"]) + " |")
+        pair = lambda form: ", ".join(map(form, sides))
+        cells = [f"{point.memory}, {point.segment_size >> 10}", f"{point.value:,}",
+                 f"{point.zipf:g}{point.told}", f"{point.keys:,} ({point.times:g})",
+                 pair(lambda it: str(it.size)), pair(lambda it: f"{it.resident:.1f}"),
+                 pair(lambda it: f"{it.missed:.2f}"), f"{ratio(sides):.2f}"]
+        rows.append("| " + " | ".join(cells) + " |")
     return rows
 
 
 def least_held(results):
     """The least share of its fixed rate that a server kept, of those whose keys have TTLs."""
-    shares = [side.rate / point.timed.reads for point, sides in results.items() if point.timed for side in sides]
-    return f"With TTLs each server kept at least {min(shares):.1%} of the rate that it was asked at."
-
-
-def conditions(results):
-    """What the tables don't say of the runs."""
-    return f"segcached has segments of {SEGMENT_SIZE >> 10} KiB, and of {TIMED_SEGMENT_SIZE >> 10} KiB with TTLs. {least_held(results)}"
+    timed = [(point, side) for point, sides in results.items() if point.timed for side in sides]
+    share = min(side.rate / point.timed.reads for point, side in timed)
+    return f"With TTLs each server kept at least {share:.1%} of the rate that it was asked at."
 
 
 def ratios(results):
-    """The ratios in a line, from the least to the greatest of each kind of point."""
+    """By kind of point and by options, the least and the greatest ratio."""
     kinds = {}
     for point, sides in results.items():
-        name = f"{point.value:,} bytes" if point.times == TIMES else f"keys of {point.times:g} times the memory"
-        name += point.told
-        kinds.setdefault(name, []).append(ratio(sides))
-    said = [f"{name} {min(it):.2f}" + (f" to {max(it):.2f}" if len(it) > 1 else "") for name, it in kinds.items()]
-    return f"segcached's misses beside memcached's: {'; '.join(said)}."
-
-
-def segment_table(points, results):
-    """A row for each kind of load, a column for each size of a segment."""
-    sizes = " | ".join(f"{size >> 10} KiB" for size in SEGMENT_SIZES)
-    rows = [f"| Missed of 100 reads, segments of | {sizes} |", "|---|" + "---|" * len(SEGMENT_SIZES)]
-    for at in range(0, len(points), len(SEGMENT_SIZES)):
-        row = points[at : at + len(SEGMENT_SIZES)]
-        name = f"{row[0].memory} MiB, {row[0].value:,} bytes" + (f", {row[0].sets} of 100 are writes" if row[0].sets else "")
-        name += f", {row[0].timed.name}" if row[0].timed else ""
-        cells = [f"{results[it].missed:.2f} ({results[it].size} segments, {results[it].resident:.1f} MiB)" for it in row]
-        rows.append(f"| {name} | " + " | ".join(cells) + " |")
-    return [*rows, "", least_held({it: [results[it]] for it in points})]
+        is_plain = point.times == TIMES
+        name = f"values of {point.value:,} bytes" if is_plain else f"keys of {point.times:g} times"
+        name += ", with TTLs" if point.timed else ""
+        kinds.setdefault(name, {}).setdefault(point.setting, []).append(ratio(sides))
+    rows = ["| segcached's misses beside memcached's | " + " | ".join(SETTINGS) + " |",
+            "|---" * (1 + len(SETTINGS)) + "|"]
+    for name, by_setting in kinds.items():
+        cells = [by_setting[it] for it in SETTINGS]
+        said = [f"{min(it):.2f}" + f"–{max(it):.2f}" * (len(it) > 1) for it in cells]
+        rows.append(f"| {name} | " + " | ".join(said) + " |")
+    return rows
 
 
 def panel(zipf, results, folder):
-    """gnuplot's words for one exponent: misses and ratios by memory, for each value size memcached's line and one of each rule."""
-    missed, ratios = [], []
+    """gnuplot's words for one exponent: misses and ratios by memory, for each value size
+    memcached's line and one for each of segcached's options."""
+    missed, ratios_of = [], []
     for value, colour in zip(VALUES, ("#1b6ca8", "#2e8b57", "#c0504d")):
         path = f"{folder}/{zipf}_{value}.dat"
         with open(path, "w", encoding="ascii") as file:
             for memory in MEMORIES:
-                rules = [results[Point(memory, value, zipf, evict=evict)] for evict in EVICTIONS]
-                figures = [rules[0][0].missed, *(sides[1].missed for sides in rules), *map(ratio, rules)]
+                each = [results[it] for it in by_settings([Point(memory, value, zipf)])]
+                figures = [each[0][0].missed, *(it[1].missed for it in each), *map(ratio, each)]
                 file.write(f"{memory} {' '.join(f'{it:.4f}' for it in figures)}\n")
-        lines = (("memcached", "dt 2", 6), *((evict, dashes, 7) for evict, dashes in zip(EVICTIONS, ("dt 1", "dt 4"))))
-        for column, (kind, dashes, mark) in enumerate(lines, 2):
-            style = f"with linespoints lw 2 {dashes} pt {mark} lc rgb '{colour}' title '{value} bytes, {kind}'"
+        kinds = ["memcached", *SETTINGS]
+        for column, (kind, dashes) in enumerate(zip(kinds, (2, 1, 4)), 2):
+            mark = 6 if kind == "memcached" else 7
+            style = (f"with linespoints lw 2 dt {dashes} pt {mark} lc rgb '{colour}'"
+                     f" title '{value} bytes, {kind}'")
             missed.append(f"'{path}' using 1:{column} {style}")
             if column > 2:
-                ratios.append(f"'{path}' using 1:{column + 2} {style}")
-    return missed, ratios
+                ratios_of.append(f"'{path}' using 1:{column + 2} {style}")
+    return missed, ratios_of
 
 
-def draw(results, picture):
-    """A picture: above, what both missed; below, the ratio; a column for each exponent."""
-    with tempfile.TemporaryDirectory() as folder:
-        panels = [panel(zipf, results, folder) for zipf in EXPONENTS]
-        plots = [(zipf, "missed of 100 reads", missed) for zipf, (missed, _) in zip(EXPONENTS, panels)]
-        plots += [(zipf, "segcached''s misses, times memcached''s", [*ratios, "1 with lines dt 3 lc rgb 'black' notitle"])
-                  for zipf, (_, ratios) in zip(EXPONENTS, panels)]
-        script = f"""
+PICTURE = f"""
 set terminal svg size 1100,900 font 'sans,13' background rgb 'white'
-set output '{picture}'
+set output '%s'
 set multiplot layout 2,2
 set logscale x 2
 set xtics ({', '.join(map(str, MEMORIES))})
@@ -315,6 +310,18 @@ set xlabel "resident memory (MiB)"
 set grid ytics
 set key bottom right
 """
+
+
+def draw(results, picture):
+    """A picture: above, what both missed; below, the ratio; a column for each exponent."""
+    with tempfile.TemporaryDirectory() as folder:
+        panels = [panel(zipf, results, folder) for zipf in EXPONENTS]
+        one = "1 with lines dt 3 notitle"
+        plots = [(zipf, "missed of 100 reads", it[0]) for zipf, it in zip(EXPONENTS, panels)]
+        plots += [(zipf, "segcached''s misses, times memcached''s", [*it[1], one])
+                  for zipf, it in zip(EXPONENTS, panels)]
+        script = PICTURE % picture
         for zipf, label, words in plots:
-            script += f"set title 'keys by Zipf''s law, {zipf:g}'\nset ylabel '{label}'\nplot {', '.join(words)}\n"
+            script += f"set title 'keys by Zipf''s law, {zipf:g}'\nset ylabel '{label}'\n"
+            script += f"plot {', '.join(words)}\n"
         subprocess.run(["gnuplot"], input=script, text=True, check=True)

@@ -17,7 +17,7 @@ import sys
 import tempfile
 import time
 
-from served import OF_THE_PACKAGE, PROGRAM, Server
+from served import OF_THE_PACKAGE, PROGRAM, Server, install
 
 PACKAGES = """munin-plugins-extra libcache-memcached-perl collectd-core netdata-plugins-python netdata-core monitoring-plugins-contrib memcached
     libmemcached-tools""".split()
@@ -26,7 +26,7 @@ SECONDS = 20
 # Of each plugin of munin, how many values it shows.
 OF_MUNIN = {"bytes": 2, "counters": 3, "rates": 6}
 # How many series collectd shows of memcached, and those that have no field here.
-SERIES, MISSING = 24, {"ps_cputime", "memcached_command-meta"}
+SERIES, MISSING = 24, {"memcached_command-meta"}
 # How many charts netdata shows, beside the one of its own time.
 CHARTS = 14
 TOOL = "/usr/share/memcached/scripts/memcached-tool"
@@ -141,13 +141,6 @@ def tools(server, _):
 MONITORS = (munin, collectd, netdata, nagios, tools)
 
 
-def install():
-    if run(["dpkg", "-s", *PACKAGES])[0] != 0:
-        subprocess.run(["apt-get", "update"], check=True, stdout=subprocess.DEVNULL)
-        words = ["apt-get", "install", "-y", "--no-install-recommends", *PACKAGES]
-        subprocess.run(words, check=True, stdout=subprocess.DEVNULL)
-
-
 def watch(program):
     """Of each thing that a monitor has to show whether it does; what it said where it doesn't is printed."""
     results = {}
@@ -166,7 +159,7 @@ def main():
     parser = argparse.ArgumentParser(description="Debian's monitors of memcached against segcached.")
     parser.add_argument("--program", default=PROGRAM, help="another build than the proved one")
     words = parser.parse_args()
-    install()
+    install(*PACKAGES)
     results = watch(os.path.abspath(words.program))
     for name, holds in results.items():
         print(f"{'well' if holds else 'NOT '}  {name}")

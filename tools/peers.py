@@ -1,6 +1,7 @@
 #!/usr/bin/python3
 """Other people's suites against the proved program: memcached's own tests, pymemcache's, memccapable, those of Cache::Memcached::Fast;
-a limit of requests a minute by limits, on which Flask-Limiter stands; and Debian's monitors of memcached.
+a limit of requests a minute by Flask-Limiter, and Postfix's tables; and Debian's monitors of
+memcached.
 
     tools/peers.py [--program PROGRAM] [--only SUITE] [--show]
 
@@ -19,25 +20,20 @@ import subprocess
 import sys
 
 import monitors
-from served import OF_THE_PACKAGE, PROGRAM, TOP, Server
+from served import OF_THE_PACKAGE, PROGRAM, TOP, Server, Trouble, install
 
 HERE = f"{TOP}/tools/peers"
 WORK = f"{TOP}/out/peers"
 SOURCES = ["memcached", "libcache-memcached-fast-perl"]
-PACKAGES = """libmemcached-tools python3-pymemcache python3-pytest python3-limits libcache-memcached-fast-perl libtest2-suite-perl perl""".split()
+PACKAGES = """libmemcached-tools python3-pymemcache python3-pytest python3-flask-limiter postfix
+    libcache-memcached-fast-perl libtest2-suite-perl perl""".split()
 # Those of memcached's tests that speak of the commands that there are.
 OF_MEMCACHED = """bogus-commands cas evictions expirations flags flush-all getandtouch getset incrdecr issue_104 issue_108 issue_14 issue_152
     issue_163 issue_183 issue_192 issue_22 issue_29 issue_42 issue_68 issue_70 lru malicious-commands multiversioning noreply quit touch""".split()
 OF_PYMEMCACHE = "/usr/lib/python3/dist-packages/pymemcache/test/test_integration.py"
 OF_FAST = """big-value commands flush-all magic malformed namespace noreply nowait serialize utf8""".split()
-# The most seconds that one file of tests may take, and the test of a limit, which asks for two minutes.
+# The most seconds that one file of tests may take, and the test of a limit of a minute.
 SECONDS, LIMIT_SECONDS = 120, 150
-# Of 400 requests in two minutes a limit of 100 a minute lets so many through: 100 for each of two counters of a minute.
-PASSED = 200
-
-
-class Trouble(Exception):
-    """Why the suites can't be run."""
 
 
 def run(words, seconds=SECONDS, **how):
@@ -49,13 +45,6 @@ def run(words, seconds=SECONDS, **how):
     finally:
         with contextlib.suppress(ProcessLookupError):
             os.killpg(process.pid, signal.SIGKILL)
-
-
-def install():
-    if run(["dpkg", "-s", *PACKAGES]).returncode:
-        subprocess.run(["apt-get", "update"], check=True, stdout=subprocess.DEVNULL)
-        words = ["apt-get", "install", "-y", "--no-install-recommends", *PACKAGES]
-        subprocess.run(words, check=True, stdout=subprocess.DEVNULL)
 
 
 def fetch():
@@ -146,16 +135,17 @@ def memccapable(program):
 
 
 def limits(program):
-    """A limit of 100 requests a minute holds."""
+    """A limit of 100 requests a minute holds, and a TTL ends when it should."""
     with Server(program, *OF_THE_PACKAGE) as server:
-        said = run(["/usr/bin/python3", "-B", f"{TOP}/tools/clients/limits_calls.py", str(server.port)], LIMIT_SECONDS).stdout
-    print(f"limits: {said.strip()} of 400 requests passed")
-    return {"limits/100_a_minute": said.strip() == str(PASSED)}
+        words = ["/usr/bin/python3", "-B", f"{TOP}/tools/clients/ttl_calls.py", str(server.port)]
+        said = run(words, LIMIT_SECONDS).stdout
+    works = dict(re.findall(r"^(\S+) works:(.*)$", said, re.MULTILINE))
+    return {f"limits/{it}": bool(works.get(it, "").strip()) for it in ("Flask-Limiter", "Postfix")}
 
 
 def of_monitors(program):
     """What they show is told by tools/monitors.py."""
-    monitors.install()
+    install(*monitors.PACKAGES)
     return {f"monitors/{name.replace(' ', '_')}": holds for name, holds in monitors.watch(program).items()}
 
 
@@ -216,7 +206,7 @@ def main():
         subprocess.run(["bash", f"{TOP}/tools/build.sh"], check=True)
     try:
         os.makedirs(WORK, exist_ok=True)
-        install()
+        install(*PACKAGES)
         fetch()
         results = {}
         for name in [words.only] if words.only else SUITES:

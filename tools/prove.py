@@ -2,25 +2,23 @@
 """Proves segcached and the crates that it stands on, and builds it as crates/segcached/out/segcached.
 
     tools/prove.py          with a line for each crate that is proved
-    tools/prove.py --kept   proves nothing: status 0 if the program was built so, and nothing that it is built of has changed since
+    tools/prove.py --kept   proves nothing: status 0 if the program was built so, and nothing that
+                            it is built of has changed since
 
-It calls the prover for each crate once those below it are proved, as many side by side as there are processors and memory for; those from
-which the way to the program takes longest come first. The prover makes a copy of itself for each processor for the crate with the longest way
-of all, and none for the others. What is proved stands in out/proofs: after an interrupt the next run goes on from there. What the prover says of
-each crate stands beside the program, as segcached.log.
-
-What each crate takes stands in tools/gate_minutes.tsv, by a run of the gate; how long the rest may take is an estimate from that.
+It calls the prover for each crate once those below it are proved, as many side by side as there are
+processors and memory for; those from which the way to the program is longest, by their lines, come
+first. The prover makes a copy of itself for each processor for the crate with the longest way of
+all, and none for the others. What is proved stands in out/proofs: after an interrupt the next run
+goes on from there. What the prover says of each crate stands beside the program, as segcached.log.
 """
 import fcntl
 import hashlib
-import math
 import os
 import signal
 import subprocess
 import sys
 import time
 
-import gate_times
 import machine
 
 TOP = os.path.dirname(os.path.dirname(os.path.abspath(__file__)))
@@ -31,12 +29,6 @@ PROOFS = f"{TOP}/out/proofs"
 LIBRARIES = f"{PROOFS}/libraries"
 # What of a crate isn't a part of its proof or of its stored run.
 IGNORED = ("out", "wrong")
-# A crate that no run of the gate has measured is taken to need half a minute, and one more for each of these numbers of lines.
-LINES_A_MINUTE = 2500
-# For the estimate: how many times as fast the crates of the longest way are proved by several copies, and the share of the processors' time that
-# is used while all of them have work.
-FASTER = 2
-SHARE_USED = 0.9
 # How many of the last characters of what the prover says of a crate that isn't proved are shown.
 SHOWN = 3000
 # The seconds between two looks at what runs.
@@ -121,45 +113,28 @@ def keep():
     write(f"{PROGRAM}.kept", record())
 
 
-def guessed_minutes(name):
-    """What the proof of a crate may take, by its lines."""
+def lines_of(name):
+    """How many lines a crate has: its proof takes longer the more there are."""
     lines = 0
     for path in files_of(name):
         with open(path, "rb") as file:
             lines += file.read().count(b"\n")
-    return 0.5 + lines / LINES_A_MINUTE
+    return lines
 
 
-def minutes_of(names):
-    """What the proof of each crate takes, in processor minutes: as measured, or else guessed."""
-    measured = gate_times.read_minutes(gate_times.MINUTES)
-    return {name: measured[name]["proofs"] if name in measured else guessed_minutes(name) for name in names}
-
-
-def ways_to_the_top(crates, minutes):
-    """What the longest way takes from each of these crates to one on which none of them stands, in processor minutes."""
+def ways_to_the_top(crates, lines):
+    """Of each of these crates the lines of the longest way to one on which none of them stands."""
     ways = {}
 
     def measure(name):
         if name not in ways:
-            ways[name] = minutes[name] + max((measure(it) for it in minutes if name in crates[it]), default=0)
+            above = (measure(it) for it in lines if name in crates[it])
+            ways[name] = lines[name] + max(above, default=0)
         return ways[name]
 
-    for name in minutes:
+    for name in lines:
         measure(name)
     return ways
-
-
-def minutes_left(crates, minutes):
-    """How long these crates may take to prove, in minutes: an estimate."""
-    longest = max(ways_to_the_top(crates, minutes).values(), default=0)
-    faster = min(FASTER, machine.processors())
-    return max(longest / faster, sum(minutes.values()) / (SHARE_USED * machine.processors()))
-
-
-def in_words(minutes):
-    whole = math.ceil(minutes)
-    return f"about {whole} minutes" if whole > 1 else "less than a minute"
 
 
 def minutes_and_seconds(seconds):
@@ -167,29 +142,22 @@ def minutes_and_seconds(seconds):
 
 
 class Progress:
-    """Says a line for each crate that is proved, with the time so far and what may be left."""
+    """Says a line for each crate that is proved, with the time so far."""
 
-    def __init__(self, crates, names, kept):
-        self.crates, self.began, self.all = crates, time.monotonic(), len(names)
-        self.left = minutes_of(names - kept)
-        self.in_all = minutes_left(crates, self.left)
+    def __init__(self, names, kept):
+        self.began, self.all, self.left = time.monotonic(), len(names), names - kept
         if kept:
-            print(f"{len(kept)} of {len(names)} crates are proved, and nothing has changed since.", flush=True)
-        if self.left:
-            print(f"{len(self.left)} crates to prove, on {machine.processors()} processors: {in_words(self.in_all)}", end="")
-            print(" (an estimate, from what they took in the gate)", flush=True)
+            print(f"{len(kept)} of {self.all} crates are proved, and nothing has changed since.",
+                  flush=True)
+        print(f"{len(self.left)} crates to prove, on {machine.processors()} processors", flush=True)
 
     def proved(self):
         return self.all - len(self.left)
 
     def say(self, name):
-        del self.left[name]
-        took = (time.monotonic() - self.began) / 60
-        left = minutes_left(self.crates, self.left)
-        # It goes on as much slower as it was until now, or faster by up to a half; the first minute says little.
-        left *= max((took + 1) / (self.in_all - left + 1), 0.5)
-        rest = f", {in_words(left)} left" if self.left else ""
-        print(f"  {self.proved():2} of {self.all}  {name:18} ({minutes_and_seconds(60 * took)}{rest})", flush=True)
+        self.left.remove(name)
+        took = minutes_and_seconds(time.monotonic() - self.began)
+        print(f"  {self.proved():2} of {self.all}  {name:18} ({took})", flush=True)
 
 
 def kit_folder():
@@ -271,7 +239,8 @@ def copies_for(name, ways, proved):
 
 def prove_side_by_side(crates, proved, progress, interrupts):
     """Proves the crates that are left, and gives the name of one that isn't proved, if there is one. It ends early if a signal was added to interrupts."""
-    prover, ways, running = Prover(kit_folder()), ways_to_the_top(crates, dict(progress.left)), {}
+    lines, running = {it: lines_of(it) for it in progress.left}, {}
+    prover, ways = Prover(kit_folder()), ways_to_the_top(crates, lines)
     try:
         while progress.left and not interrupts:
             for name in to_start(crates, ways, proved, running):
@@ -296,7 +265,7 @@ def prove(interrupts):
     names = with_those_below(crates, NAME)
     # The program is linked after its proof, so it is proved anew if it isn't kept.
     proved = {name for name in names - {NAME} if is_proved(name)}
-    progress = Progress(crates, names, proved)
+    progress = Progress(names, proved)
     refused = prove_side_by_side(crates, proved, progress, interrupts)
     if interrupts:
         print(f"Interrupted: {progress.proved()} of {progress.all} crates are proved and kept; the next run goes on from there.", flush=True)

@@ -35,7 +35,7 @@ ENDS = (signal.SIGINT, signal.SIGTERM, signal.SIGHUP)
 EVERY = 0.2
 # The most seconds that a socket may be silent.
 SECONDS = 10
-# What a run from nothing took, for tools/gate_times.py.
+# What a run from nothing took.
 TIMES = "out/run_times"
 
 

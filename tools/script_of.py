@@ -1,38 +1,43 @@
 #!/usr/bin/env python3
-"""Makes scripts for `segcached replay`, shows what it printed, and says what of a client's traffic segcached would refuse.
+"""Makes scripts for `segcached replay`, shows what it printed, and says what of a client's traffic
+segcached would refuse.
 
     tools/script_of.py text [--workers N] [--bytes] FILE ..
     tools/script_of.py record --to ADDR [--listen ADDR] [--workers N] [--sessions N] [--answers FILE]
     tools/script_of.py show [FILE]
-    tools/script_of.py refused --to ADDR [--listen ADDR] [--sessions N] [--lenient] [--segment-size B]
-    tools/script_of.py refused [--lenient] [--segment-size B] FILE ..
+    tools/script_of.py refused --to ADDR [--listen ADDR] [--sessions N] [OPTION ..]
+    tools/script_of.py refused [OPTION ..] FILE ..
 
-`text` prints a script in which each FILE is a session (`-` is standard input). A line feed of a file is sent as the end of a line of
-the protocol, CR LF, unless a CR stands before it already; with --bytes the bytes are sent as they are.
+`text` prints a script in which each FILE is a session (`-` is standard input). A line feed of a
+file is sent as the end of a line of the protocol, CR LF, unless a CR stands before it already; with
+--bytes the bytes are sent as they are.
 
-`record` is a proxy: what its clients send goes to the server at --to, and the answers back. When it is interrupted or ended, or when
---sessions have come and gone, it prints the script of what was sent, in the order in which it came. --answers writes what each
-session was answered, in the form in which `segcached replay` prints it, to be compared with it.
+`record` is a proxy: what its clients send goes to the server at --to, and the answers back. When it
+is interrupted or ended, or when --sessions have come and gone, it prints the script of what was
+sent, in the order in which it came. --answers writes what each session was answered, in the form in
+which `segcached replay` prints it, to be compared with it.
 
 `show` reads what `segcached replay` printed, and prints each session's answers as text.
 
-`refused` is the same proxy, in front of memcached: it keeps no script, and at its end prints the lines that segcached would refuse, by
-command and reason, with their count and the first of each. Of a FILE, which has the bytes that a client sent, it says the same. With
---lenient it says what `segcached serve --lenient` would refuse. Whether an item is too large depends on --segment-size, 1048576 unless it
-is given.
+`refused` is the same proxy, in front of memcached: it keeps no script, but has a segcached
+(--program, or the one to which this tool belongs) answer each line, and at its end prints those that
+were refused, by command and reply, with their count and the first of each. Of a FILE, which has the bytes that a client sent, it
+says the same. Its OPTIONs are those of the server to be: --lenient, and --segment-size B, 1048576
+unless it is given, on which depends whether an item is too large.
 
 Sessions are numbered from 1, and go to the workers in turn (one worker, unless --workers says more).
 """
 import argparse
+import collections
+import concurrent.futures
 import contextlib
+import os
+import re
 import signal
 import socket
+import subprocess
 import sys
 import threading
-
-# (it may stand among the files of a package, beside which nothing is to be written)
-sys.dont_write_bytecode = True
-from refused_lines import Refusals  # noqa: E402
 
 MOST_BYTES = 16_777_216
 PIECE = 16_384
@@ -98,7 +103,7 @@ def address(text):
 
 
 class Recording:
-    """One session's part of a recording: what it sends goes into the script, and its answers are kept."""
+    """One session's part of a recording: what it sends goes into the script; answers are kept."""
 
     def __init__(self, script, answers):
         self.script, self.session = script, script.open()
@@ -112,7 +117,7 @@ class Recording:
 
 
 class Proxy:
-    """A proxy in front of a server, which gives what goes through it to an observer for each session."""
+    """A proxy in front of a server, which gives what goes through to an observer a session."""
 
     def __init__(self, words, observer):
         self.words, self.observer, self.trouble = words, observer, None
@@ -169,6 +174,154 @@ class Proxy:
                 end.shutdown(how)
 
 
+# Of each command with a data block, at which place of the line the block's length stands.
+LENGTHS = dict.fromkeys((b"set", b"add", b"replace", b"append", b"prepend", b"cas"), 4) | {b"ms": 2}
+# memcached closes a session whose line is longer.
+MOST_LINE = 1_048_576
+# A longer block isn't sent to the program: the line alone, or silence, says that it is too large.
+MOST_BLOCK = 131_074
+# How many lines, and bytes, are answered in one replay.
+LINES_AT_ONCE, BYTES_AT_ONCE = 5_000, 4_000_000
+TOO_LARGE, BINARY = b"SERVER_ERROR object too large for cache", b"(the binary protocol)"
+# Errors that depend on what is stored, and not on the line.
+OF_VALUES = (b"CLIENT_ERROR cannot increment or decrement non-numeric value",
+             b"SERVER_ERROR out of memory")
+
+
+def block_length(line):
+    """How many bytes of data memcached reads after a line, with the end of the data."""
+    words = line.split()
+    place = LENGTHS.get(words[0]) if words else None
+    if place is None or len(words) <= place or not words[place].isdigit():
+        return 0
+    return int(words[place]) + 2
+
+
+class Cutter:
+    """What one client sends, cut into lines with their blocks as memcached cuts it."""
+
+    def __init__(self, keep):
+        self.keep, self.unread, self.is_open, self.is_new = keep, bytearray(), True, True
+
+    def send(self, data):
+        self.unread += data
+        while self.is_open and self.unread and self.take():
+            self.is_new = False
+
+    def answer(self, data):
+        """What it is answered says nothing here."""
+
+    def take(self):
+        """Takes a line with its block, if it is there whole."""
+        if self.is_new and self.unread[0] in (0x80, 0x81):
+            self.is_open = False
+            self.keep(b"", BINARY)
+            return True
+        end = self.unread.find(b"\n") + 1
+        line = bytes(self.unread[:end])
+        length = block_length(line)
+        if not end or len(self.unread) < end + length:
+            self.is_open = len(self.unread) <= MOST_LINE + length
+            return False
+        has_end = self.unread[end + length - 2 : end + length] == b"\r\n"
+        del self.unread[: end + length]
+        self.keep(line, None, length, has_end)
+        return True
+
+
+def question(line, length, has_end):
+    """What is sent to the program for a line: one that would suppress its reply is changed, and the
+    data are zeros."""
+    if not line.endswith(b"\r\n"):
+        return line + b"\r\n"
+    if not length:
+        return line
+    line = re.sub(rb" noreply *\r\n$", b"\r\n", line)
+    block = bytes(length - 2) + (b"\r\n" if has_end else b"xx")
+    return line + (block if length <= MOST_BLOCK else b"")
+
+
+def refusals(program, words, asked):
+    """For each line, with its block's length and whether that ends as it says, the error by which
+    the program refuses it, or None."""
+    script = Script(1)
+    for it in asked:
+        script.send(script.open(), question(*it))
+    ran = subprocess.run([program, "replay", "/dev/stdin", *words], input=script.text().encode(),
+                         capture_output=True, check=False)
+    if ran.returncode:
+        raise Trouble(ran.stderr.decode(errors="replace").strip())
+    for (_, length, _), answer in zip(asked, ran.stdout.split(b"\n")):
+        given = bytes.fromhex(answer.split(b" ")[2].decode().replace("-", "")).split(b"\r\n")
+        errors = [it for it in given if re.match(rb"(ERROR|CLIENT_ERROR|SERVER_ERROR)\b", it)]
+        if length > MOST_BLOCK and given == [b""]:
+            errors = [TOO_LARGE]
+        yield next((it for it in errors if it not in OF_VALUES), None)
+
+
+class Refusals:
+    """Counts what is refused, of all sessions together."""
+
+    def __init__(self, program, words):
+        self.program, self.words, self.lines, self.asked, self.size = program, words, 0, [], 0
+        self.counts, self.firsts = collections.Counter(), {}
+        self.lock, self.pool = threading.Lock(), concurrent.futures.ThreadPoolExecutor(1)
+        self.batches = []
+
+    def session(self):
+        return Cutter(self.keep)
+
+    def keep(self, line, why=None, length=0, has_end=True):
+        """Keeps a line to be asked about, or counts one for which the program isn't asked."""
+        with self.lock:
+            self.lines += 1
+            if why:
+                self.count(line, why)
+                return
+            self.asked.append((line, length, has_end))
+            self.size += len(line) + min(length, MOST_BLOCK)
+            if len(self.asked) >= LINES_AT_ONCE or self.size >= BYTES_AT_ONCE:
+                self.ask()
+
+    def ask(self):
+        self.batches.append(self.pool.submit(self.judge, self.asked))
+        self.asked, self.size = [], 0
+
+    def judge(self, asked):
+        found = list(refusals(self.program, self.words, asked))
+        with self.lock:
+            for (line, *_), why in zip(asked, found):
+                if why:
+                    self.count(line, why)
+
+    def count(self, line, why):
+        kind = line.split(b" ")[0].strip()[:20].decode("latin-1"), why.decode()
+        self.counts[kind] += 1
+        self.firsts.setdefault(kind, line)
+
+    def text(self):
+        with self.lock:
+            self.ask()
+        for it in self.batches:
+            it.result()
+        rows = [f"{sum(self.counts.values()):,} refused of {self.lines:,} lines\n"]
+        for (word, why), count in self.counts.most_common():
+            first = self.firsts[word, why][:60].decode("latin-1")
+            first = first.encode("unicode_escape").decode("ascii")
+            rows.append(f"{count:10,}  {word:10} {why}; the first: {first}\n")
+        return "".join(rows)
+
+
+def found_program():
+    """That of the repository or of the installation to which this tool belongs, or of the path."""
+    here = os.path.dirname(os.path.abspath(__file__))
+    for place in ("../crates/segcached/out/segcached", "../../../../bin/segcached"):
+        path = os.path.normpath(f"{here}/{place}")
+        if os.path.exists(path):
+            return path
+    return "segcached"
+
+
 def run_proxy(words, observer):
     # A shell that starts it in the background has it ignore interrupts.
     for number in (signal.SIGINT, signal.SIGTERM):
@@ -192,12 +345,13 @@ def run_record(words):
 
 
 def run_refused(words):
-    refusals = Refusals(words.segment_size, words.lenient)
+    options = ["--segment-size", str(words.segment_size), *["--lenient"] * words.lenient]
+    refused = Refusals(words.program or found_program(), options)
     if words.to:
-        run_proxy(words, refusals.session)
+        run_proxy(words, refused.session)
     for name in words.files:
-        refusals.session().send(read_file(name))
-    sys.stdout.write(refusals.text())
+        refused.session().send(read_file(name))
+    sys.stdout.write(refused.text())
 
 
 def run_show(words):
@@ -220,10 +374,11 @@ def read_words():
     text.add_argument("--bytes", action="store_true", help="send the bytes as they are")
     record = kinds.add_parser("record", help="a proxy that prints the script of what went through it")
     record.add_argument("--answers", metavar="FILE")
-    refused = kinds.add_parser("refused", help="a proxy that counts the lines that segcached would refuse")
-    refused.add_argument("files", nargs="*", metavar="FILE", help="bytes that a client sent, in place of a proxy")
-    refused.add_argument("--segment-size", type=int, default=1_048_576, choices=[1 << power for power in range(12, 21)], metavar="B")
-    refused.add_argument("--lenient", action="store_true", help="as `segcached serve --lenient` reads lines")
+    refused = kinds.add_parser("refused", help="a proxy that counts what segcached would refuse")
+    refused.add_argument("files", nargs="*", metavar="FILE", help="what a client sent")
+    refused.add_argument("--segment-size", type=int, default=1_048_576, metavar="B")
+    refused.add_argument("--lenient", action="store_true", help="as `segcached serve --lenient`")
+    refused.add_argument("--program", help="the segcached that is asked")
     for kind in (record, refused):
         kind.add_argument("--to", type=address, required=kind is record)
         kind.add_argument("--listen", type=address, default=("127.0.0.1", 0))

@@ -7,5 +7,6 @@ bash tools/build.sh
 # A worker has up to 1,024 sessions, each with a descriptor.
 ulimit -n "$(ulimit -Hn)"
 # As the package's unit sets them, which says why.
-export GLIBC_TUNABLES="${GLIBC_TUNABLES:-glibc.malloc.hugetlb=1:glibc.malloc.mmap_threshold=33554432:glibc.malloc.trim_threshold=67108864:glibc.cpu.x86_rep_movsb_threshold=1048576}"
+tunables=$(sed -n 's/^Environment=GLIBC_TUNABLES=//p' packaging/systemd/segcached.service)
+export GLIBC_TUNABLES="${GLIBC_TUNABLES:-$tunables}"
 exec crates/segcached/out/segcached serve --listen "${1:-127.0.0.1:11211}" "${@:2}"

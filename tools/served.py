@@ -17,9 +17,25 @@ import time
 
 TOP = os.path.dirname(os.path.dirname(os.path.abspath(__file__)))
 PROGRAM = f"{TOP}/crates/segcached/out/segcached"
-# The options of the package, but for the numbers of workers and segments.
-OF_THE_PACKAGE = [
-    "--lenient", "--update-in-place", "--exact-ttls", "--evict", "least-read", "--storage", "workers", "--segment-size", "1048576"]
+
+
+def version():
+    """The version of the sources."""
+    with open(f"{TOP}/crates/proto/src/version.rt", encoding="utf-8") as file:
+        return re.search(r'VERSION: &str = "([0-9]+\.[0-9]+\.[0-9]+)";', file.read())[1]
+
+
+def words_of(file, name):
+    """The words of a file's line NAME=WORDS."""
+    with open(f"{TOP}/{file}", encoding="utf-8") as lines:
+        return re.search(rf"^{name}=(.*)$", lines.read(), re.MULTILINE)[1].split()
+
+
+# What the package sets: its options, those with the size of a segment, and the C library's settings.
+OPTIONS = words_of("packaging/segcached.default", "OPTIONS")
+LOCAL = words_of("packaging/segcached.local", "LOCAL")
+OF_THE_PACKAGE = [*OPTIONS, "--segment-size", LOCAL[LOCAL.index("--segment-size") + 1]]
+TUNABLES = words_of("packaging/systemd/segcached.service", "Environment=GLIBC_TUNABLES")[0]
 
 
 class Trouble(Exception):
@@ -63,9 +79,9 @@ class Process:
         self.stop()
 
     def errors(self):
-        """What it wrote to standard error, up to its end, if that is a pipe of ours; without the line of a server's options."""
+        """What it wrote to standard error, up to its end, if that is a pipe of ours; without the first lines of a server."""
         said = self.process.stderr.read() if self.process.stderr else ""
-        return re.sub(r"\Asegcached: --listen .*\n", "", said)
+        return re.sub(r"\A(segcached: (--listen|takes|warning:) .*\n)+", "", said)
 
     def kilobytes(self, what):
         """A line of the process's status: VmRSS is what is resident."""
@@ -79,6 +95,15 @@ class Process:
             with open(f"{folder}/{task}/comm", encoding="ascii") as file:
                 found[file.read().strip()] = int(task)
         return found
+
+    def descriptors(self):
+        """How many it has open."""
+        return len(os.listdir(f"/proc/{self.process.pid}/fd"))
+
+    def sleeps(self, thread):
+        """How often one of its threads has gone to sleep."""
+        with open(f"/proc/{thread}/status", encoding="ascii") as file:
+            return int(re.search(r"\nvoluntary_ctxt_switches:\s+(\d+)", file.read())[1])
 
     def processor_seconds(self):
         """What all its threads have run (the kernel counts nanoseconds there, and ticks elsewhere)."""
@@ -95,23 +120,23 @@ class Server(Process):
     def __init__(self, program, *words, listen="127.0.0.1:0", environment=None, limits=None, stderr=subprocess.PIPE):
         super().__init__([program, "serve", "--listen", listen, *words], environment, limits, stderr)
         self.first_line = self.process.stdout.readline()
-        found = re.fullmatch(r"listening on (.+):([1-9][0-9]*)\n", self.first_line)
+        found = re.fullmatch(r"listening on (?:unix:(?P<path>.+)|(?P<host>.+):(?P<port>[1-9][0-9]*))\n", self.first_line)
         if not found:
             if self.first_line:
                 self.process.kill()
             status, fault = self.process.wait(30), self.errors()
             self.stop()
             raise NotServing(status, self.first_line + fault)
-        self.host, self.port = found[1].strip("[]"), int(found[2])
+        self.path, self.host, self.port = found["path"], (found["host"] or "").strip("[]"), int(found["port"] or 0)
 
     def connect(self, seconds=20, receive_buffer=None):
         """A connection whose calls wait for at most this number of seconds."""
-        stream = socket.socket(socket.AF_INET6 if ":" in self.host else socket.AF_INET)
+        stream = socket.socket(socket.AF_UNIX if self.path else socket.AF_INET6 if ":" in self.host else socket.AF_INET)
         if receive_buffer:
             stream.setsockopt(socket.SOL_SOCKET, socket.SO_RCVBUF, receive_buffer)
         stream.settimeout(seconds)
         try:
-            stream.connect((self.host, self.port))
+            stream.connect(self.path or (self.host, self.port))
         except OSError:
             stream.close()
             raise
@@ -151,10 +176,28 @@ class OnPort(Process):
         raise Trouble(f"{words[0]} doesn't listen on port {port}")
 
 
+class Memcached(OnPort):
+    """Debian's memcached, with so many threads and MiB."""
+
+    def __init__(self, threads=4, megabytes=64, environment=None):
+        port = free_port()
+        words = ["-u", "nobody", "-l", "127.0.0.1", "-c", 4096]
+        words += ["-p", port, "-t", threads, "-m", megabytes]
+        super().__init__(port, ["memcached", *map(str, words)], environment)
+
+
 def free_port():
     with socket.socket() as it:
         it.bind(("127.0.0.1", 0))
         return it.getsockname()[1]
+
+
+def install(*packages):
+    """Has these packages of Debian."""
+    if subprocess.run(["dpkg", "-s", *packages], capture_output=True, check=False).returncode:
+        for words in (["update"], ["install", "-y", "--no-install-recommends", *packages]):
+            quiet = {**os.environ, "DEBIAN_FRONTEND": "noninteractive"}
+            subprocess.run(["apt-get", *words], check=True, stdout=subprocess.DEVNULL, env=quiet)
 
 
 def read_exactly(stream, count):

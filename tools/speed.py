@@ -1,8 +1,11 @@
-"""Rates, latencies and processor time of two servers beside each other: for tools/bench.py, which says the words.
+"""Rates, latencies and processor time of two servers beside each other: for tools/bench.py, which
+says the words.
 
-In each round both servers are started anew and filled, and run each load one after the other, in a turn that is shuffled. A ratio
-is one of two runs of the same round. Tables have the median of the rounds' ratios and their quartiles, and '≈' if these
-have 1 between them.
+In each round the servers are started anew and filled, and run each load one after the other, in
+shuffled turns. segcached has the package's options; at loads where those make a difference it runs
+with its default options, too. A ratio is one of two runs of the same round. Tables have the median
+of the rounds' ratios, for the main figure and the processor time with their quartiles, and '≈' if
+these have 1 between them.
 """
 import dataclasses
 import os
@@ -13,79 +16,123 @@ import subprocess
 import tempfile
 import time
 
-from served import OnPort, Server, Trouble, free_port
+from served import OPTIONS, TOP, TUNABLES, Memcached, Server, Trouble
 
 MIB = 1 << 20
-# The workers of segcached, and the threads of memcached beside them: a storage thread comes on top of the workers.
+# The workers of segcached, and the threads of memcached beside them.
 THREADS = {1: 1, 2: 2, 3: 4}
-# Both servers get what the package sets, and docs/OPERATIONS.md explains.
-TUNABLES = (
-    "glibc.malloc.hugetlb=1:glibc.malloc.mmap_threshold=33554432:glibc.malloc.trim_threshold=67108864"
-    ":glibc.cpu.x86_rep_movsb_threshold=1048576"
-)
-# By the bytes of a value, how many segments of 1 MiB segcached has: room for what the load stores, and more.
+# By the bytes of a value: how many segments of 1 MiB there are (room for what is stored), and keys.
 SEGMENTS = {100: 128, 1000: 512, 10_000: 512, 100_000: 512}
 KEYS = {100: 100_000, 1000: 100_000, 10_000: 10_000, 100_000: 1000}
 # The load of the longest pause: both servers have 64 MiB, which half of the keys fill.
 PAUSE_MIB, PAUSE_KEYS = 64, 1_000_000
 PAUSE_SEGMENT_SIZES = (MIB, 64 << 10)
-FIGURES = {"rate": "rate", "p50": "p50", "p99": "p99", "p999": "p99.9", "processor": "processor time"}
+FIGURES = {"rate": "rate", "p50": "p50", "p99": "p99", "processor": "processor time"}
+# The keys of what runs beside a load, and what it asks: one connection, replies of 8 MB.
+BESIDE_KEYS = ("--value", 100_000, "--keys", 500, "--first", 5_000_000)
+BESIDE = (*BESIDE_KEYS, "--connections", 1, "--many", 83)
 
 
 @dataclasses.dataclass(frozen=True)
 class Load:
-    """A load's name and words, the bytes of a value, whether server and load have processors of their own, and what else segcached is given."""
+    """A load's name and words, and the bytes of a value; whether it also runs with default options,
+    what segcached has in place of the package's options, and whether large replies are asked for
+    beside it."""
 
     name: str
     words: tuple = ()
     value: int = 100
-    apart: bool = False
-    options: tuple = ()
+    default: bool = False
+    options: tuple | None = None
+    beside: bool = False
 
     def shape(self):
         return "--value", self.value, "--keys", KEYS[self.value]
 
+    def group(self):
+        """Loads of one group run on the same servers."""
+        return self.value, self.options, self.beside
 
-# For how many microseconds storage and workers look for work before they sleep.
-SPIN = ("--spin", 100)
-# Those that write come last of their values, since what they write makes segcached merge segments.
+    def has_rate(self):
+        """A fixed rate is what both serve, and is no figure."""
+        return "--rate" in self.words
+
+
+ONE = ("--connections", 1)
+PIPELINE = ("--pipeline", 16)
+SPIN = ("--spin", "100")
+# Those that write come last of their group, as what they write makes segcached merge segments.
 LOADS = (
-    Load("pipeline 1"),
-    Load("pipeline 1, --spin 100", options=SPIN),
-    Load("pipeline 16", ("--pipeline", 16)),
-    Load("pipeline 64", ("--pipeline", 64)),
-    Load("one connection", ("--connections", 1)),
-    Load("one connection, processors apart", ("--connections", 1, "--threads", 1), apart=True),
-    Load("one connection, --spin 100", ("--connections", 1), options=SPIN),
-    Load("one connection, pipeline 16", ("--pipeline", 16, "--connections", 1)),
+    Load("one connection", ONE, default=True),
+    Load("one connection, --storage thread --spin 100", ONE, options=SPIN),
+    Load("one connection, pipeline 16", (*PIPELINE, *ONE), default=True),
+    Load("pipeline 1", default=True),
+    Load("pipeline 16", PIPELINE, default=True),
+    Load("pipeline 64", ("--pipeline", 64), default=True),
     Load("1,000 connections", ("--connections", 1000)),
     Load("get of 16 keys", ("--many", 16)),
-    Load("keys by Zipf's law, pipeline 16", ("--pipeline", 16, "--zipf", 0.99)),
-    Load("first answer after a pause of 10 ms", ("--connections", 1, "--rate", 100)),
-    Load("1,000 a second", ("--rate", 1000)),
-    Load("1,000 a second, --spin 2000", ("--rate", 1000), options=("--spin", 2000)),
-    Load("20,000 a second", ("--rate", 20000)),
-    Load("20,000 a second, --spin 100", ("--rate", 20000), options=SPIN),
-    Load("80,000 a second", ("--rate", 80000)),
-    Load("one set in ten, pipeline 16", ("--pipeline", 16, "--sets", 10)),
-    Load("sets, pipeline 16", ("--pipeline", 16, "--sets", 100)),
-    Load("1,000-byte values, pipeline 16", ("--pipeline", 16), 1000),
+    Load("first answer after a pause of 10 ms", (*ONE, "--rate", 100), default=True),
+    Load("1,000 a second", ("--rate", 1000), default=True),
+    Load("20,000 a second", ("--rate", 20_000), default=True),
+    Load("20,000 a second, --storage thread --spin 100", ("--rate", 20_000), options=SPIN),
+    Load("80,000 a second", ("--rate", 80_000), default=True),
+    Load("20,000 a second beside replies of 8 MB", ("--connections", 8, "--rate", 20_000),
+         default=True, beside=True),
+    Load("sets, pipeline 16", (*PIPELINE, "--sets", 100), default=True),
+    Load("1,000-byte values, pipeline 16", PIPELINE, 1000),
     Load("10 kB values", (), 10_000),
-    Load("10 kB values, pipeline 16", ("--pipeline", 16), 10_000),
+    Load("10 kB values, pipeline 16", PIPELINE, 10_000),
     Load("get of 16 keys of 10 kB", ("--many", 16), 10_000),
     Load("sets of 10 kB", ("--sets", 100), 10_000),
     Load("sets of 100 kB", ("--sets", 100), 100_000),
 )
 
 
-# A fixed rate is what both serve, and is no figure.
-FIXED = {it.name for it in LOADS if "--rate" in it.words}
+def known_to(program, words):
+    """Those of these options that a program has."""
+    listed = subprocess.check_output([program, "serve", "--help"], text=True).split()
+    kept, is_known = [], True
+    for word in words:
+        is_known = word in listed if word.startswith("--") else is_known
+        kept += [word] * is_known
+    return kept
+
+
+class LoadProgram:
+    """tools/load.c, compiled into a folder."""
+
+    def __init__(self, folder):
+        self.path = f"{folder}/load"
+        words = ["gcc", "-O2", "-pthread", "-o", self.path, f"{TOP}/tools/load.c", "-lm"]
+        subprocess.run(words, check=True)
+
+    def started(self, server, *words):
+        words, pipe = [self.path, "127.0.0.1", str(server.port), *map(str, words)], subprocess.PIPE
+        return subprocess.Popen(words, stdout=pipe, stderr=pipe, text=True)
+
+    def run(self, server, *words, seconds=None):
+        """The figures of its last line, and the server's processor microseconds a request."""
+        before = server.processor_seconds()
+        with self.started(server, *words) as load:
+            try:
+                said, faults = load.communicate(timeout=seconds)
+            except subprocess.TimeoutExpired:
+                load.kill()
+                raise Trouble(f"no end of {' '.join(load.args)} in {seconds} seconds") from None
+        if load.returncode:
+            raise Trouble(f"{' '.join(load.args)}: {faults.strip()}")
+        parts = (it.partition("=") for it in said.split())
+        figures = {name: float(figure) for name, _, figure in parts}
+        spent = server.processor_seconds() - before
+        return {**figures, "processor": spent * 1e6 / max(figures["requests"], 1)}
 
 
 def quartiles(numbers):
     """The lower quartile, the median and the upper quartile."""
     numbers = list(numbers)
-    return statistics.quantiles(numbers, n=4, method="inclusive") if len(numbers) > 1 else numbers * 3
+    if len(numbers) < 2:
+        return numbers * 3
+    return statistics.quantiles(numbers, n=4, method="inclusive")
 
 
 def ratio(pair, figure):
@@ -103,11 +150,12 @@ def shown(ratios):
 
 
 class Speed:
-    """Two kinds of servers, of which each round starts both: memcached, or a program of segcached by its path."""
+    """Two kinds of servers: memcached, or a program of segcached by its path."""
 
     def __init__(self, load, kinds, rounds, seconds, say):
-        self.load, self.kinds, self.rounds, self.seconds, self.say = load, kinds, rounds, seconds, say
-        self.tunables = dict.fromkeys(kinds, TUNABLES)
+        self.load, self.kinds, self.say = load, kinds, say
+        self.rounds, self.seconds = rounds, seconds
+        self.options = {it: known_to(it, OPTIONS) for it in kinds if it != "memcached"}
         # (always the same turns)
         self.turns = random.Random(1)
 
@@ -116,92 +164,97 @@ class Speed:
         self.turns.shuffle(items)
         return items
 
-    def started(self, kind, workers, megabytes, segment_size=MIB, options=()):
-        tuned = {**os.environ, "GLIBC_TUNABLES": self.tunables[kind]}
+    def started(self, kind, workers, megabytes, segment_size=MIB, options=None):
+        """A server with these options, or the package's."""
+        tuned = {**os.environ, "GLIBC_TUNABLES": TUNABLES}
         if kind == "memcached":
-            port = free_port()
-            words = ["-u", "nobody", "-l", "127.0.0.1", "-p", port, "-t", THREADS[workers], "-m", megabytes, "-c", 4096]
-            return OnPort(port, ["memcached", *map(str, words)], tuned)
-        words = ["--workers", workers, "--segment-size", segment_size, "--segments", megabytes * MIB // segment_size, *options]
+            return Memcached(THREADS[workers], megabytes, tuned)
+        sizes = ["--segment-size", segment_size, "--segments", megabytes * MIB // segment_size]
+        options = self.options[kind] if options is None else options
+        words = ["--workers", workers, *sizes, *options]
         return Server(kind, *map(str, words), environment=tuned)
 
-    def run(self, server, *words, processors=None):
-        """One run of the load: the figures of its last line, and processor microseconds a request."""
-        words = [self.load, "127.0.0.1", str(server.port), *map(str, words)]
-        before = server.processor_seconds()
-        pinned = (lambda: os.sched_setaffinity(0, processors)) if processors else None
-        try:
-            ran = subprocess.run(words, capture_output=True, text=True, timeout=120, preexec_fn=pinned)
-        except subprocess.TimeoutExpired:
-            raise Trouble(f"no end of {' '.join(words)} in 120 seconds") from None
-        if ran.returncode:
-            raise Trouble(f"{' '.join(words)}: {ran.stderr.strip()}")
-        figures = {name: float(figure) for name, _, figure in (it.partition("=") for it in ran.stdout.split())}
-        figures["processor"] = (server.processor_seconds() - before) * 1e6 / max(figures["requests"], 1)
-        return figures
+    def run(self, server, *words):
+        return self.load.run(server, *words, seconds=120)
 
     def run_load(self, server, load):
         """One run, for a second at least if it has a rate."""
-        seconds = max(self.seconds, 1) if "--rate" in load.words else self.seconds
+        seconds = max(self.seconds, 1) if load.has_rate() else self.seconds
         words = ["--seconds", seconds, *load.shape(), *load.words]
-        if not load.apart:
-            return self.run(server, *words)
-        every = sorted(os.sched_getaffinity(0))
-        half = (len(every) + 1) // 2
-        keep_on(server, every[:half])
-        try:
-            return self.run(server, *words, processors=every[half:] or every)
-        finally:
-            keep_on(server, every)
+        if load.beside:
+            with self.load.started(server, *BESIDE, "--seconds", seconds + 0.2) as beside:
+                time.sleep(0.1)
+                figures = self.run(server, *words)
+                if beside.wait(120):
+                    raise Trouble(f"{load.name}: the large replies aren't read")
+            return figures
+        return self.run(server, *words)
+
+    def sides(self, loads):
+        """What is started for a group: each kind, and for default options, which are the name's
+        second part, each that is segcached."""
+        also = [(it, "default") for it in self.kinds if it != "memcached"]
+        return [(it, "") for it in self.kinds] + also * any(it.default for it in loads)
 
     def run_round(self, workers, loads):
-        """All loads of one value size and the same options: by name, the figures of both servers."""
-        value, servers = loads[0].value, {}
+        """All loads of a group: by name, the figures of each side."""
+        value, options, beside = loads[0].group()
+        servers = {}
         try:
-            for kind in self.shuffled(self.kinds):
+            for kind, is_default in self.shuffled(self.sides(loads)):
                 megabytes = 1024 if kind == "memcached" else SEGMENTS[value]
-                servers[kind] = self.started(kind, workers, megabytes, options=loads[0].options)
-                self.run(servers[kind], "--fill", "--pipeline", 16, *loads[0].shape())
-            return {it.name: self.run_both(servers, it) for it in loads}
+                chosen = () if is_default else options
+                server = self.started(kind, workers, megabytes, options=chosen)
+                servers[kind, is_default] = server
+                self.run(server, "--fill", "--pipeline", 16, *loads[0].shape())
+                if beside:
+                    self.run(server, "--fill", *BESIDE_KEYS)
+            return {it.name: self.run_all(servers, it) for it in loads}
         finally:
-            stop(servers.values())
+            for it in servers.values():
+                it.stop()
 
-    def run_both(self, servers, load):
-        figures = {kind: self.run_load(servers[kind], load) for kind in self.shuffled(self.kinds)}
+    def run_all(self, servers, load):
+        sides = [it for it in servers if load.default or not it[1]]
+        figures = {it: self.run_load(servers[it], load) for it in self.shuffled(sides)}
         refused = sum(it["refused"] for it in figures.values())
         if refused:
             raise Trouble(f"{load.name}: {refused:.0f} sets refused")
-        return [figures[kind] for kind in self.kinds]
+        return figures
+
+    def pair(self, figures, is_default=""):
+        """Both kinds' figures of a round; memcached has no other options by default."""
+        return [figures.get((it, is_default), figures[it, ""]) for it in self.kinds]
 
     def compared(self, sizes, loads):
-        """By load and workers, the pairs of all rounds."""
+        """By load and workers, the figures of all rounds."""
         results = {it.name: {size: [] for size in sizes} for it in loads}
-        servers = {(it.value, it.options): [] for it in loads}
+        groups = {}
         for it in loads:
-            servers[it.value, it.options].append(it)
-        parts = [(size, some) for size in sizes for some in servers.values()]
+            groups.setdefault(it.group(), []).append(it)
+        parts = [(size, some) for size in sizes for some in groups.values()]
         for turn in range(self.rounds):
             for size, some in self.shuffled(parts):
-                for name, pair in self.run_round(size, some).items():
-                    results[name][size].append(pair)
+                for name, figures in self.run_round(size, some).items():
+                    results[name][size].append(figures)
             self.say(f"round {turn + 1} of {self.rounds}")
         return results
 
     def pauses(self):
-        """By kind and size of a segment, of each round the longest answer to a set, in milliseconds, while segments are merged."""
-        sizes = {kind: (MIB,) if kind == "memcached" else PAUSE_SEGMENT_SIZES for kind in self.kinds}
+        """By kind and size of a segment, of each round the longest answer to a set while segments
+        are merged, in milliseconds."""
+        sizes = {it: PAUSE_SEGMENT_SIZES if it != "memcached" else (MIB,) for it in self.kinds}
         longest = {(kind, size): [] for kind in self.kinds for size in sizes[kind]}
-        shape = ["--keys", PAUSE_KEYS]
+        shape, words = ["--keys", PAUSE_KEYS], ["--sets", 100, *ONE, "--seconds", 2 * self.seconds]
         for _ in range(self.rounds):
             for kind, size in self.shuffled(longest):
                 with self.started(kind, 1, PAUSE_MIB, size) as server:
                     self.run(server, "--fill", "--pipeline", 16, *shape)
-                    ran = self.run(server, "--sets", 100, "--connections", 1, "--seconds", 2 * self.seconds, *shape)
-                longest[kind, size].append(ran["most"] / 1000)
+                    longest[kind, size].append(self.run(server, *words, *shape)["most"] / 1000)
         return longest
 
     def idle(self):
-        """By kind, of each round the share of a processor that a server with 50 idle connections takes."""
+        """By kind, of each round the share of a processor that 50 idle connections take."""
         shares = {kind: [] for kind in self.kinds}
         for _ in range(self.rounds):
             for kind in self.shuffled(self.kinds):
@@ -209,16 +262,42 @@ class Speed:
                     shares[kind].append(idle_share(server))
         return shares
 
+    def table(self, results, names):
+        """A row for each load; in its cells a line for each number of workers."""
+        sizes = list(next(iter(results.values())))
+        heads = ["Load", f"{names[0]}/{names[1]}: 1,000 requests a second, or p50 in us"]
+        heads += [*FIGURES.values(), "by default: rate or p50; processor time"]
+        rows = ["| " + " | ".join(heads) + " |", "|---" * len(heads) + "|"]
+        for load in (it for it in LOADS if it.name in results):
+            rounds = results[load.name]
+            cells = [self.cells(load, rounds[size]) for size in sizes]
+            lines = " | ".join("<br>".join(filter(None, it)) for it in zip(*cells))
+            rows.append(f"| {load.name}{marks(rounds)} | {lines} |")
+        many = f"In each cell a line for {', '.join(map(str, sizes))} workers."
+        said = [many if len(sizes) > 1 else f"{sizes[0]} workers."]
+        said += [it for mark, it in MARKS.items() if any(mark in row for row in rows)]
+        return [*rows, "", *said]
 
-def stop(servers):
-    for server in servers:
-        server.stop()
+    def cells(self, load, rounds):
+        """The cells of a load with one number of workers."""
+        pairs, main = [self.pair(it) for it in rounds], "p50" if load.has_rate() else "rate"
+        found = []
+        for figure in FIGURES:
+            ratios = [ratio(it, figure) for it in pairs]
+            is_main = figure in (main, "processor")
+            found.append(shown(ratios) if is_main else f"{statistics.median(ratios):.2f}")
+        found[0] = "" if load.has_rate() else found[0]
+        if load.default:
+            pairs = [self.pair(it, "default") for it in rounds]
+            ratios = (shown(ratio(it, name) for it in pairs) for name in (main, "processor"))
+            found.append("; ".join(ratios))
+        return [medians(map(self.pair, rounds), main), *found, ""][: 2 + len(FIGURES)]
 
 
-def keep_on(server, processors):
-    """All threads of a server run on these processors."""
-    for task in os.listdir(f"/proc/{server.process.pid}/task"):
-        os.sched_setaffinity(int(task), processors)
+MARKS = {
+    "(1)": "(1) In one of these runs the load's own threads were busy for over 90% of the time.",
+    "(2)": "(2) In one of these runs more than one key in a thousand was missed.",
+}
 
 
 def idle_share(server, seconds=1):
@@ -232,85 +311,73 @@ def idle_share(server, seconds=1):
     return spent / seconds
 
 
-def medians(pairs, figure, unit):
-    """The median of each server's figure, in this unit."""
-    return "/".join(f"{statistics.median(pair[at][figure] for pair in pairs) / unit:,.0f}" for at in (0, 1))
-
-
-def table(results, names):
-    """A row for each load; in its cells a line for each number of workers."""
-    sizes = list(next(iter(results.values())))
-    many = len(sizes) > 1
-    heads = ["Load", *(f"{it}: {names[0]}/{names[1]}" for it in ("1,000 requests a second", "p50 in us")), *FIGURES.values()]
-    rows = ["| " + " | ".join(heads) + " |", "|---" * len(heads) + "|"]
-    for name, by_size in results.items():
-        cells = [[medians(by_size[size], *it) for size in sizes] for it in (("rate", 1000), ("p50", 1))]
-        cells += [[shown(ratio(pair, figure) for pair in by_size[size]) for size in sizes] for figure in FIGURES]
-        if name in FIXED:
-            cells[0] = cells[2] = [""]
-        rows.append(f"| {name}{marks(by_size)} | " + " | ".join("<br>".join(it) for it in cells) + " |")
-    said = [f"In each cell a line for {', '.join(map(str, sizes))} workers."] if many else [f"{sizes[0]} workers."]
-    if any("(1)" in it for it in rows):
-        said.append("(1) In one of these runs the load's own threads were busy for more than 90% of the time.")
-    if any("(2)" in it for it in rows):
-        said.append("(2) In one of these runs more than one key in a thousand was missed.")
-    return [*rows, "", *said]
+def medians(pairs, figure):
+    """The median of both servers' rate in thousands, or of another figure."""
+    unit, sides = 1000 if figure == "rate" else 1, zip(*pairs)
+    return "/".join(f"{statistics.median(it[figure] for it in side) / unit:,.0f}" for side in sides)
 
 
 def marks(by_size):
-    runs = [run for pairs in by_size.values() for pair in pairs for run in pair]
+    runs = [run for rounds in by_size.values() for sides in rounds for run in sides.values()]
     busy = any(it["busy"] > 0.9 for it in runs)
     missed = any(it["misses"] > 0.001 * max(it["hits"] + it["misses"], 1) for it in runs)
     return (" (1)" if busy else "") + (" (2)" if missed else "")
 
 
-def with_quartiles(numbers, digits):
+def with_quartiles(numbers):
     low, middle, high = quartiles(numbers)
-    return f"{middle:.{digits}f} ({low:.{digits}f}–{high:.{digits}f})"
+    return f"{middle:.1f} ({low:.1f}–{high:.1f})"
 
 
 def pause_line(longest, name_of):
-    segments = {kind: "" if kind == "memcached" else " with segments of {} KiB" for kind in name_of}
-    said = [f"{name_of[kind]}{segments[kind].format(size >> 10)} {with_quartiles(it, 1)}" for (kind, size), it in longest.items()]
-    return f"The longest time to a reply in a run of `set`s on one connection, with {PAUSE_MIB} MiB in use, in ms: {', '.join(said)}."
+    said = []
+    for (kind, size), times in longest.items():
+        of = "" if kind == "memcached" else f" with segments of {size >> 10} KiB"
+        said.append(f"{name_of[kind]}{of} {with_quartiles(times)}")
+    return ("The longest time to a reply in a run of `set`s on one connection, with "
+            f"{PAUSE_MIB} MiB in use, in ms: {', '.join(said)}.")
 
 
 def idle_line(shares, name_of):
-    said = [f"{name_of[kind]} {with_quartiles([100 * it for it in each], 1)}" for kind, each in shares.items()]
+    said = [f"{name_of[it]} {with_quartiles([100 * one for one in each])}"
+            for it, each in shares.items()]
     return f"Idle, with 50 connections, in hundredths of a processor: {', '.join(said)}."
 
 
-def draw(results, names, picture):
-    """A picture of the rates' ratios, by gnuplot: their medians as bars, their quartiles as lines. If the rate is fixed there are none."""
-    sizes = list(next(iter(results.values())))
-    with tempfile.NamedTemporaryFile("w", suffix=".dat") as data:
-        for name, by_size in results.items():
-            if name in FIXED:
-                continue
-            cells = []
-            for size in sizes:
-                low, middle, high = quartiles(ratio(pair, "rate") for pair in by_size[size])
-                cells += [f"{middle:.3f}", f"{low:.3f}", f"{high:.3f}"]
-            data.write(f'"{name}" {" ".join(cells)}\n')
-        data.flush()
-        bars = [
-            f"'{data.name}' using {3 * at + 2}:{3 * at + 3}:{3 * at + 4}:xtic(1) title '{names[0]} -t {THREADS[size]}, {size} worker{'s' * (size > 1)}'"
-            for at, size in enumerate(sizes)
-        ]
-        script = f"""
+PICTURE = """
 set terminal svg size 1100,560 font 'sans,13' background rgb 'white'
 set output '{picture}'
 set style data histograms
 set style histogram errorbars gap 1 lw 1
 set style fill solid 0.8 border -1
-set title "{names[1]} beside {names[0]}: requests a second, as a ratio (above 1, {names[1]} is ahead)"
-set ylabel 'times {names[0]}'
+set title "{second} beside {first}: requests a second, as a ratio (above 1, {second} is ahead)"
+set ylabel 'times {first}'
 set yrange [0:*]
 set grid ytics
 set xtics rotate by -30
 set bmargin 9
 set rmargin 14
 set arrow from graph 0, first 1 to graph 1, first 1 nohead lw 2 dt 2 lc rgb 'black' front
-plot {', '.join(bars)}
+plot {bars}
 """
+
+
+def draw(runs, results, names, picture):
+    """A picture of the rates' ratios, by gnuplot: medians as bars, quartiles as lines."""
+    sizes, bars = list(next(iter(results.values()))), []
+    with tempfile.NamedTemporaryFile("w", suffix=".dat") as data:
+        for load in (it for it in LOADS if it.name in results and not it.has_rate()):
+            cells = []
+            for size in sizes:
+                pairs = map(runs.pair, results[load.name][size])
+                low, middle, high = quartiles(ratio(it, "rate") for it in pairs)
+                cells += [f"{middle:.3f}", f"{low:.3f}", f"{high:.3f}"]
+            data.write(f'"{load.name}" {" ".join(cells)}\n')
+        data.flush()
+        for at, size in enumerate(sizes):
+            title = f"{names[0]} -t {THREADS[size]}, {size} worker{'s' * (size > 1)}"
+            columns = ":".join(str(3 * at + it) for it in (2, 3, 4))
+            bars.append(f"'{data.name}' using {columns}:xtic(1) title '{title}'")
+        script = PICTURE.format(picture=picture, first=names[0], second=names[1],
+                                bars=", ".join(bars))
         subprocess.run(["gnuplot"], input=script, text=True, check=True)

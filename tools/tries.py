@@ -1,4 +1,4 @@
-"""Tries of what takes time, on a machine that may be busy: for tools/fairness.py, tools/unread.py and the tests.
+"""Tries of what takes time, on a machine that may be busy: for tools/waits.py and the tests.
 
 Each must succeed in two of three tries. One that fails while a processor of the machine stood still says nothing, and isn't
 counted; of these there may be ten.

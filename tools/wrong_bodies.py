@@ -3,7 +3,6 @@
 
     tools/wrong_bodies.py [NAME[/EDIT]..]   tries those of these crates, or these edits, or all; the last line is 'N passed, M failed'
     tools/wrong_bodies.py --anew [..]       tries those again that an earlier run on this machine has passed, too
-    tools/wrong_bodies.py --plan [..]       tries nothing, and says which would stand in one check
     tools/wrong_bodies.py --beside [..]     runs beside `rt ci`, and reads what that says: it tries those of a crate once all below it are proved
 
 It takes the built libraries of the crates below as they stand: `rt check`, `rt lib` and `rt ci` leave them in crates/NAME/out, and tools/prove.py in
@@ -48,7 +47,6 @@ import threading
 import time
 
 import edited_copies
-import gate_times
 import kept_verdicts
 import machine
 import prove
@@ -150,7 +148,7 @@ class Tries:
         """One check: what it said, and the folder that it read."""
         if self.interrupted.is_set():
             raise concurrent.futures.CancelledError
-        with tempfile.TemporaryDirectory(prefix=gate_times.EDITED) as folder:
+        with tempfile.TemporaryDirectory(prefix="wrong-bodies-") as folder:
             room = edited_copies.Room(self.crate, tried, control, folder)
             said = checked(room)
         edited_copies.write(f"{LOGS}/{label}.log", said.text)
@@ -195,7 +193,7 @@ class Asked:
     """What is asked for of a crate: its edits, those that can't be placed with the reason, whether they were named, and what earlier runs passed."""
 
     crate: edited_copies.Crate
-    kept: kept_verdicts.Kept | None
+    kept: kept_verdicts.Kept
     edits: list
     bad: dict
     is_named: bool
@@ -210,10 +208,10 @@ def names_in(words):
     return names
 
 
-def asked_of(name, chosen, is_tried):
+def asked_of(name, chosen):
     """What is asked for of a crate: the edits that are named, or all."""
     # (Before the crate is read, so that a change in between is seen.)
-    kept = kept_verdicts.Kept(name) if is_tried else None
+    kept = kept_verdicts.Kept(name)
     crate = edited_copies.Crate(name)
     known = {it.name for it in crate.edits} | set(crate.bad)
     if chosen - known or not known:
@@ -221,16 +219,6 @@ def asked_of(name, chosen, is_tried):
     is_named, chosen = bool(chosen), chosen or known
     bad = {it: why for it, why in crate.bad.items() if it in chosen}
     return Asked(crate, kept, [it for it in crate.edits if it.name in chosen], bad, is_named)
-
-
-def say_plan(asked):
-    for it in asked:
-        for tried in edited_copies.rounds_of(it.crate, it.edits):
-            control = edited_copies.control_of(it.crate, tried)
-            places = f"{len(tried.copied)} in copies, {len(tried.placed)} in their places"
-            print(f"{it.crate.name}: {places}, beside {control.path() if control else 'no control'}")
-        for name, why in it.bad.items():
-            print(f"  {it.crate.name}/{name}: {Verdict(BAD, why)}")
 
 
 class Proofs:
@@ -295,7 +283,7 @@ class Run:
         has_ended = not self.proofs or self.proofs.have_ended
         for name in list(self.names):
             if not self.proofs or self.proofs.has_those_below(name):
-                self.plan(asked_of(name, self.names.pop(name), True))
+                self.plan(asked_of(name, self.names.pop(name)))
             elif has_ended:
                 edits = self.names.pop(name) or [it.name for it in edited_copies.Crate(name).edits]
                 self.note(name, {it: Verdict(UNTRIED, "a crate below isn't proved") for it in edits}, "as a crate below isn't proved")
@@ -343,14 +331,10 @@ class Run:
 def main(words):
     parser = argparse.ArgumentParser(description=__doc__, formatter_class=argparse.RawDescriptionHelpFormatter)
     parser.add_argument("--anew", action="store_true", help="try what an earlier run has passed, too")
-    parser.add_argument("--plan", action="store_true", help="try nothing, and say which stand in one check")
     parser.add_argument("--beside", action="store_true", help="wait for the proofs of `rt ci`, by what it says on standard input")
     parser.add_argument("edits", nargs="*", metavar="NAME[/EDIT]")
     given = parser.parse_args(words)
     names = names_in(given.edits)
-    if given.plan:
-        say_plan([asked_of(*it, False) for it in names.items()])
-        return 0
     run = Run(names, Proofs(sys.stdin.buffer) if given.beside else None, given.anew)
     run.try_all()
     print(f"{run.seconds / 60:.1f} processor minutes of the prover\n{run.passed} passed, {run.failed} failed")

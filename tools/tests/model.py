@@ -6,8 +6,10 @@ the program has bytes, and walks where the program has tables.
 import collections
 import itertools
 
+import served
+
 LASTING = 1024  # the bucket of what has no deadline
-VERSION = b"VERSION 1.6.0-segcached-0.7.0\r\n"
+VERSION = f"VERSION 1.6.0-segcached-{served.version()}\r\n".encode()
 BUCKETS = 1025
 # Lines that are answered without a look at the cache or at the clock.
 LOCAL = (b"version", b"verbosity")

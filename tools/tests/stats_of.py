@@ -2,9 +2,9 @@
 import time
 
 
-def told(stream):
+def told(stream, line=b"stats\r\n"):
     """What a `stats` is told, by name."""
-    stream.sendall(b"stats\r\n")
+    stream.sendall(line)
     got = b""
     while not got.endswith(b"END\r\n"):
         got += stream.recv(65536)

@@ -96,20 +96,25 @@ def test_with_lenient_lines_memcflush_flushes(program, run):
 
 PACKAGES = """python3-django python3-memcache python3-binary-memcached php-cli php-memcached php-memcache php-symfony-cache
     libcache-memcached-perl libcache-memcached-fast-perl libmemcached-libmemcached-perl ruby ruby-dalli nginx-light
-    php-symfony-http-foundation simplesamlphp freeradius-memcached python3-tooz python3-celery python3-limits python3-swift""".split()
+    php-symfony-http-foundation simplesamlphp freeradius-memcached python3-tooz python3-celery python3-limits
+    python3-swift php-laravel-framework python3-flask-limiter postfix""".split()
+GATE_CALLS = [(sys.executable, "pymemcache_calls.py")]
 CALLS = [
+    *GATE_CALLS,
     *[(sys.executable, f"{name}_calls.py") for name in ("pylibmc", "python_memcached", "binary_memcached", "django", "nginx")],
     *[("php", f"{name}_calls.php") for name in ("php_memcached", "php_memcache")],
     *[("perl", "perl_calls.pl", name) for name in
       ("Cache::Memcached", "Cache::Memcached::Fast", "Memcached::libmemcached")],
     ("ruby", "dalli_calls.rb"),
 ]
-# These are for lenient lines alone; the gate has what the first two need. (Without, libmemcached ends the process of the second one.)
+# These are for the package's options alone; the gate has what the first two need. (With strict lines
+# libmemcached ends the process of the second one.)
 GATE_APPLICATIONS = [(sys.executable, f"{name}_calls.py") for name in ("mediawiki", "cachelib")]
 APPLICATIONS = [
     *GATE_APPLICATIONS,
-    *[("php", f"{name}_calls.php") for name in ("symfony", "php_sessions", "simplesamlphp")],
-    *[(sys.executable, f"{name}_calls.py") for name in ("touching", "freeradius", "swift")],
+    *[("php", f"{name}_calls.php")
+      for name in ("symfony", "php_sessions", "simplesamlphp", "php_locks")],
+    *[(sys.executable, f"{name}_calls.py") for name in ("touching", "freeradius", "swift", "ttl")],
 ]
 
 
@@ -117,9 +122,7 @@ APPLICATIONS = [
 def all_clients(request):
     if not request.config.getoption("--all-clients"):
         pytest.skip("asked for by --all-clients alone")
-    if subprocess.run(["dpkg", "-s", *PACKAGES], capture_output=True).returncode:
-        install = ["apt-get", "install", "-y", "--no-install-recommends", *PACKAGES]
-        subprocess.run(install, check=True, stdout=subprocess.DEVNULL)
+    served.install(*PACKAGES)
 
 
 def said_by(calls, server):
@@ -138,13 +141,18 @@ def expected_of(name):
 
 
 @pytest.mark.parametrize("words, calls, expected", [
-    ([], CALLS, "expected"), (["--lenient"], CALLS + APPLICATIONS, "expected_lenient"),
-], ids=["strict", "lenient"])
+    ([], CALLS, "expected"), (served.OF_THE_PACKAGE, CALLS + APPLICATIONS, "expected_lenient"),
+], ids=["strict", "package"])
 def test_each_call_of_each_client_works_or_fails_as_expected(program, all_clients, words, calls, expected):
     with served.Server(program, *words) as server:
         assert said_by(calls, server) == expected_of(expected)
 
 
-def test_with_lenient_lines_applications_work_as_expected(serve):
-    wanted = [line for line in expected_of("expected_lenient") if line.startswith(("MediaWiki ", "cachelib "))]
-    assert len(wanted) == 4 and said_by(GATE_APPLICATIONS, serve("--lenient")) == wanted
+@pytest.mark.parametrize("words, calls, names, expected", [
+    ([], GATE_CALLS, ("pymemcache ",), "expected"),
+    (served.OF_THE_PACKAGE, GATE_CALLS + GATE_APPLICATIONS,
+     ("pymemcache ", "MediaWiki ", "cachelib "), "expected_lenient"),
+], ids=["strict", "package"])
+def test_what_the_gate_has_works_as_expected(serve, words, calls, names, expected):
+    wanted = [line for line in expected_of(expected) if line.startswith(names)]
+    assert len(wanted) == 2 * len(names) and said_by(calls, serve(*words)) == wanted

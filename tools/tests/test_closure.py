@@ -1,18 +1,11 @@
 """Tests of what `tools/closure.py` finds, over a small tree that is written here, and that docs/HEADLINE.md has what its
 contracts rest on. They take a second.
-
-    python3 -m pytest tools/tests/test_closure.py
 """
-import os
 import pathlib
-import sys
 
+import closure
 import pytest
-
-TOP = os.path.dirname(os.path.dirname(os.path.dirname(os.path.abspath(__file__))))
-sys.path.insert(0, f"{TOP}/tools")
-
-import closure  # noqa: E402
+from served import TOP
 
 FILES = {
     "low/specs/Sizes.antt": """-- Sizes.

@@ -1,15 +1,14 @@
 """Tests of the documents: each link leads to a file and a heading there, no line but a table's is wider than 100 columns, and what PROOFS
 and ARCHITECTURE quote stands in the crates. They take a second.
-
-    python3 -m pytest tools/tests/test_documents.py
 """
 import glob
 import os
 import re
 
 import pytest
+import served
+from served import TOP
 
-TOP = os.path.dirname(os.path.dirname(os.path.dirname(os.path.abspath(__file__))))
 PAGES = sorted(glob.glob(f"{TOP}/*.md") + glob.glob(f"{TOP}/docs/*.md"))
 FILES = [it for it in glob.glob(f"{TOP}/*/**", recursive=True) if "/out/" not in it]
 
@@ -48,6 +47,11 @@ def test_what_is_quoted_stands_in_the_crates(page):
     known = re.findall(r"\w+", " ".join([*map(read, [*sources, f"{TOP}/crates.txt"]), *FILES]))
     quoted = re.findall(r"\w\w+", " ".join(re.findall(r"`[^`]*`", prose(f"{TOP}/docs/{page}.md"))))
     assert set(quoted) - set(known) == set()
+
+
+def test_the_newest_version_of_the_changelog_is_that_of_the_sources():
+    newest = re.search(r"^## (\S+)$", read(f"{TOP}/CHANGELOG.md"), re.MULTILINE)[1]
+    assert newest == served.version()
 
 
 def test_the_trusted_crates_are_those_that_no_crate_of_the_repository_is():

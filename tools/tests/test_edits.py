@@ -1,15 +1,8 @@
-"""Tests of the table of wrong bodies, docs/EDITS.md: that it is what the edits say, and that each names a promise.
-
-    python3 -m pytest tools/tests/test_edits.py
-"""
-import os
-import sys
+"""Tests of the table of wrong bodies, docs/EDITS.md: that it is what the edits say, and that each names a promise."""
 import types
 
-TOP = os.path.dirname(os.path.dirname(os.path.dirname(os.path.abspath(__file__))))
-sys.path.insert(0, f"{TOP}/tools")
-
-import edits  # noqa: E402
+import edits
+from served import TOP
 
 FOUND = [("low", "first", ("Part::call", "it does nothing")), ("low", "second", None), ("top", "third", ("run", "it runs twice"))]
 TABLES = """

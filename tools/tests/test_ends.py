@@ -1,15 +1,12 @@
 """How sessions of a served program end: half-closed clients, quitting ones, pieces of exactly a read's size, and what they leave."""
 import contextlib
-import os
 import signal
 import socket
 import subprocess
 import sys
-import threading
 import time
 
 import pytest
-import served
 import tries
 from asking import ask, hit
 from served import read_exactly, read_till_closed, read_to_end
@@ -126,20 +123,16 @@ def test_each_of_eighty_that_quit_and_stay_gets_its_answer_and_nothing_more(serv
         stream.close()
 
 
-def descriptors(server):
-    return len(os.listdir(f"/proc/{server.process.pid}/fd"))
-
-
 def seconds_until_closed(server):
     """How long a session that quits is held, whose client neither closes nor sends."""
     with server.connect() as stream:
         stream.sendall(b"get a\r\nquit\r\n")
         assert read_to_end(stream) == b"END\r\n"
-        began, held = time.monotonic(), descriptors(server)
-        while descriptors(server) == held and time.monotonic() - began < 10:
+        began, held = time.monotonic(), server.descriptors()
+        while server.descriptors() == held and time.monotonic() - began < 10:
             time.sleep(0.02)
         took = time.monotonic() - began
-        assert descriptors(server) == held - 1 and took > 1
+        assert server.descriptors() == held - 1 and took > 1
         return took
 
 

@@ -1,6 +1,7 @@
 """The values of `stats` that no clause speaks of, beside the clock, the machine and what was done."""
 import contextlib
 import os
+import re
 import resource
 import struct
 import threading
@@ -49,6 +50,28 @@ def test_each_thread_has_a_name_of_its_own(serve):
             names.append(file.read().strip())
     # (the first thread has the program's name)
     assert {*workers, "storage", "listener"} < set(names) and len(names) == 11 == len(set(names))
+
+
+def processor_times(process):
+    """The process's own times in user mode and in the system, in seconds, as the system tells them."""
+    with open(f"/proc/{process.pid}/stat", encoding="ascii") as file:
+        words = file.read().rpartition(")")[2].split()
+    return tuple(int(it) / os.sysconf("SC_CLK_TCK") for it in words[11:13])
+
+
+def test_processor_times_are_told(serve):
+    """They are at most 1.1 seconds old, so two seconds after the last work they are those of then."""
+    server = serve("--lenient")
+    with server.connect() as stream:
+        for _ in range(20):
+            ask(stream, (b"get" + b" k" * 15_000 + b"\r\n") * 10, b"END\r\n" * 10)
+        until = time.monotonic() + 60
+        while sum(processor_times(server.process)) < 0.1 and time.monotonic() < until:
+            ask(stream, (b"get" + b" k" * 15_000 + b"\r\n") * 10, b"END\r\n" * 10)
+        time.sleep(2)
+        found, real = told(stream), processor_times(server.process)
+    for name, it in zip(("rusage_user", "rusage_system"), real):
+        assert re.fullmatch(r"[0-9]+\.[0-9]{6}", found[name]) and abs(float(found[name]) - it) <= 0.05, (found[name], it)
 
 
 # ---- busy times
@@ -156,6 +179,17 @@ def test_the_longest_merge_is_kept(serve):
     assert 0 < longest[-1] < 10_000_000
 
 
+def test_lookups_of_expired_items_are_counted(serve):
+    """Those of items that are alive and of keys that never had one are not."""
+    with serve("--lenient", "--exact-ttls").connect() as stream:
+        ask(stream, b"set a 0 1 1\r\nx\r\nset b 0 0 1\r\nx\r\nget b c\r\n", b"STORED\r\nSTORED\r\nVALUE b 0 1\r\nx\r\nEND\r\n")
+        assert numbers(stream)["get_expired"] == 0
+        time.sleep(2.1)
+        ask(stream, b"get a\r\nget a b\r\n", b"END\r\nVALUE b 0 1\r\nx\r\nEND\r\n")
+        found = numbers(stream)
+    assert (found["get_expired"], found["get_misses"]) == (2, 3)
+
+
 def test_failed_accepts_are_no_rejected_connections(serve):
     """A process of 64 descriptors can't accept 150 connections, which wait in the system's queue."""
     server = serve("--lenient", limits={resource.RLIMIT_NOFILE: 64})
@@ -208,7 +242,8 @@ def test_what_is_not_stored_as_too_large_is_counted_and_nothing_else(serve):
 
 
 def test_connections_closed_for_unread_output_are_told(serve):
-    """Of forty replies of 7.8 MB a worker keeps no more than 64 MiB, and each socket some four MB."""
+    """Of forty replies of 7.8 MB a worker keeps no more than 64 MiB, and each socket some four MB. After ten seconds clients that
+    took nothing are closed for those that wait."""
     server = serve("--lenient", "--workers", "1", "--segment-size", "1048576")
     with contextlib.ExitStack() as streams:
         stream = streams.enter_context(server.connect())
@@ -217,9 +252,9 @@ def test_connections_closed_for_unread_output_are_told(serve):
         for _ in range(40):
             slow = streams.enter_context(server.connect(receive_buffer=65536))
             slow.sendall(b"get" + b" large" * 60 + b"\r\n")
-        until = time.monotonic() + 20
-        while numbers(stream)["closed_unread"] < 10 and time.monotonic() < until:
+        until = time.monotonic() + 30
+        while numbers(stream)["closed_unread"] < 3 and time.monotonic() < until:
             time.sleep(0.05)
         found = numbers(stream)
-        assert 10 <= found["closed_unread"] < 40
+        assert 3 <= found["closed_unread"] < 40
         assert found["curr_connections"] == 41 - found["closed_unread"]

@@ -46,31 +46,15 @@ def test_it_prints_its_real_port_and_ends_after_its_sessions(serve):
 
 @pytest.mark.parametrize("words, in_force", [
     ("", "--workers 2 --segment-size 65536 --segments 64"),
-    ("--segments 9 --lenient --spin 0 --storage workers --update-in-place --exact-ttls --idle 60 --sessions 3 --connections 65536 "
+    ("--segments 9 --quiet --lenient --spin 0 --storage workers --update-in-place --exact-ttls --idle 60 --sessions 3 --connections 65536 "
      "--segment-size 4096 --workers 3",
-     "--workers 3 --segment-size 4096 --segments 9 --connections 65536 --sessions 3 --idle 60 --spin 0 --storage workers --exact-ttls "
-     "--lenient --update-in-place"),
+     "--workers 3 --segment-size 4096 --segments 9 --connections 65536 --sessions 3 --idle 60 --spin 0 --storage workers --quiet "
+     "--exact-ttls --lenient --update-in-place"),
 ], ids=["the least options", "all options"])
 def test_it_says_on_standard_error_first_which_options_are_in_force(serve, words, in_force):
     errors = serve(*words.split()).process.stderr
     assert select.select([errors], [], [], 10)[0]
     assert errors.readline() == f"segcached: --listen 127.0.0.1:0 {in_force}\n"
-
-
-def names_of_threads(server):
-    folder, names = f"/proc/{server.process.pid}/task", []
-    for task in os.listdir(folder):
-        with open(f"{folder}/{task}/comm", encoding="ascii") as file:
-            names.append(file.read().strip())
-    return sorted(names)
-
-
-def test_its_threads_have_names(serve):
-    server, wanted = serve("--workers", "3"), ["listener", "segcached", "storage", "worker 0", "worker 1", "worker 2"]
-    until = time.monotonic() + 5
-    while names_of_threads(server) != wanted and time.monotonic() < until:
-        time.sleep(0.01)
-    assert names_of_threads(server) == wanted
 
 
 def test_with_few_descriptors_it_serves_all_of_its_sessions_and_then_ends(serve):
@@ -194,7 +178,7 @@ def test_another_request_gets_in_no_sooner(full):
 def test_the_probe_passes_a_full_server(full):
     """Also while connections beyond those that wait come without end."""
     server, _, connect = full
-    probe = [f"{served.TOP}/examples/probe.sh", "127.0.0.1", str(server.port)]
+    probe = [f"{served.TOP}/packaging/examples/probe.sh", "127.0.0.1", str(server.port)]
     for _ in range(WAITING):
         connect()
     assert subprocess.run(probe, timeout=20).returncode == 0

@@ -1,7 +1,6 @@
 """When the ports of a served program hear of connections, by the time that this takes: of new ones, of those that wait for room, and of those that
 were shut and are read a little longer."""
 import contextlib
-import os
 import time
 
 import pytest
@@ -12,10 +11,6 @@ from stats_of import wait_for
 
 # How long a session that was shut is read, in seconds.
 LINGERING = 2
-
-
-def descriptors(server):
-    return len(os.listdir(f"/proc/{server.process.pid}/fd"))
 
 
 # ---- new ones
@@ -54,7 +49,8 @@ def full_worker(serve):
             ask(it, b"get none\r\n", b"END\r\n")
         for _ in range(74):
             streams.enter_context(server.connect())
-        wait_for(opened[0], rejected_connections=10, connections_waiting=64)
+        wait_for(opened[0], rejected_connections=10, listen_disabled_num=1, curr_connections=1024,
+                 connections_waiting=64)
         yield server, opened
 
 
@@ -88,14 +84,14 @@ def test_after_some_were_closed_others_wait_for_room_again(serve):
 
 def time_until_closed(server):
     """How long the stream of a session that was shut stays open once its peer has closed it."""
-    held = descriptors(server)
+    held = server.descriptors()
     with server.connect() as stream:
         stream.sendall(b"quit\r\n")
         assert stream.recv(1) == b""
         # (until nothing of it is left to be read)
         time.sleep(0.2)
     began = time.monotonic()
-    while descriptors(server) > held and time.monotonic() - began < 10:
+    while server.descriptors() > held and time.monotonic() - began < 10:
         time.sleep(0.005)
     return time.monotonic() - began
 
@@ -130,12 +126,12 @@ def most_held(server, clients):
     """How many more streams are open at once while so many sessions are shut, whose clients stay; None if that takes long."""
     with contextlib.ExitStack() as streams:
         ask(streams.enter_context(server.connect()), b"get none\r\n", b"END\r\n")
-        held, began, most = descriptors(server), time.monotonic(), 0
+        held, began, most = server.descriptors(), time.monotonic(), 0
         for _ in range(clients):
             stream = streams.enter_context(server.connect())
             stream.sendall(b"quit\r\n")
             assert stream.recv(1) == b""
-            most = max(most, descriptors(server) - held)
+            most = max(most, server.descriptors() - held)
         return most if time.monotonic() - began < LINGERING else None
 
 

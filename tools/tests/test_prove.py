@@ -1,7 +1,5 @@
-"""Tests of what comes before and around the proofs: what is kept, the minutes, and what `make run` says if something is missing.
+"""Tests of what comes before and around the proofs: what is kept, and what `make run` says if something is missing.
 They prove nothing and take a few seconds.
-
-    python3 -m pytest tools/tests/test_prove.py
 """
 import os
 import re
@@ -12,36 +10,26 @@ import sys
 import threading
 import time
 
+import machine
+import prove
 import pytest
-
-TOP = os.path.dirname(os.path.dirname(os.path.dirname(os.path.abspath(__file__))))
-sys.path.insert(0, f"{TOP}/tools")
-
-import gate_times  # noqa: E402
-import machine  # noqa: E402
-import prove  # noqa: E402
+from served import TOP
 
 # base is below all; left and right stand on it, top on both; aside stands on base alone.
 CRATES = {"base": [], "left": ["base"], "right": ["base"], "aside": ["base"], "top": ["left", "right"]}
-MINUTES = {"base": 2.0, "left": 5.0, "right": 1.0, "aside": 0.5, "top": 1.0}
+LINES = {"base": 20, "left": 50, "right": 10, "aside": 5, "top": 10}
 
 
 def test_the_longest_way_goes_through_what_is_left():
-    assert prove.ways_to_the_top(CRATES, MINUTES) == {"base": 8.0, "left": 6.0, "right": 2.0, "aside": 0.5, "top": 1.0}
-    assert prove.ways_to_the_top(CRATES, {name: MINUTES[name] for name in ("right", "aside", "top")})["right"] == 2.0
+    ways = {"base": 80, "left": 60, "right": 20, "aside": 5, "top": 10}
+    assert prove.ways_to_the_top(CRATES, LINES) == ways
+    left = {name: LINES[name] for name in ("right", "aside", "top")}
+    assert prove.ways_to_the_top(CRATES, left)["right"] == 20
     assert prove.ways_to_the_top(CRATES, {}) == {}
 
 
-def test_what_is_left_takes_its_longest_way_or_all_processors(monkeypatch):
-    monkeypatch.setattr(prove, "SHARE_USED", 1)
-    monkeypatch.setattr(machine, "processors", lambda: 4)
-    assert prove.minutes_left(CRATES, MINUTES) == 4.0
-    monkeypatch.setattr(machine, "processors", lambda: 1)
-    assert prove.minutes_left(CRATES, MINUTES) == 9.5
-
-
 def test_those_with_the_longest_way_start_first(monkeypatch):
-    ways = prove.ways_to_the_top(CRATES, MINUTES)
+    ways = prove.ways_to_the_top(CRATES, LINES)
     monkeypatch.setattr(machine, "at_once", lambda: 2)
     assert prove.to_start(CRATES, ways, set(), {}) == ["base"]
     assert prove.to_start(CRATES, ways, {"base"}, {}) == ["left", "right"]
@@ -52,7 +40,7 @@ def test_those_with_the_longest_way_start_first(monkeypatch):
 
 
 def test_the_one_with_the_longest_way_of_all_has_all_processors(monkeypatch):
-    ways = prove.ways_to_the_top(CRATES, MINUTES)
+    ways = prove.ways_to_the_top(CRATES, LINES)
     monkeypatch.setattr(machine, "processors", lambda: 4)
     assert prove.copies_for("base", ways, set()) == 4
     assert [prove.copies_for(it, ways, {"base"}) for it in ("left", "right", "aside")] == [4, 1, 1]
@@ -66,15 +54,10 @@ def test_a_library_leaves_its_statements_and_the_program_its_object():
     assert ["--jobs", "4"] == prover.words("net", 4)[4:6]
 
 
-def test_each_crate_of_the_repository_has_its_minutes():
-    crates = prove.read_crates()
-    assert set(crates) == {name for name in os.listdir(f"{TOP}/crates") if os.path.isdir(f"{TOP}/crates/{name}/src")}
-    assert all(minutes > 0 for minutes in prove.minutes_of(set(crates)).values())
-
-
-def test_a_crate_that_was_never_measured_is_guessed_by_its_lines(monkeypatch):
-    monkeypatch.setattr(gate_times, "read_minutes", lambda _: {})
-    assert prove.minutes_of({"proto"})["proto"] > 1
+def test_each_crate_of_the_repository_has_lines():
+    crates, folder = prove.read_crates(), f"{TOP}/crates"
+    assert set(crates) == {it for it in os.listdir(folder) if os.path.isdir(f"{folder}/{it}/src")}
+    assert prove.lines_of("proto") > prove.lines_of("segcached") > 10
 
 
 @pytest.fixture
@@ -199,51 +182,8 @@ def test_an_interrupt_ends_what_runs_and_keeps_what_is_proved(unproved, capsys):
     assert capsys.readouterr().out.splitlines()[-1].startswith("Interrupted: 1 of 2 crates are proved and kept")
 
 
-def test_the_minutes_are_read_as_they_were_written(tmp_path):
-    minutes = {"left": {"proofs": 1.5, "tests": 0.0, "edits": 3.0}, "right": {"proofs": 0.5, "tests": 2.0, "edits": 0.0}}
-    path = str(tmp_path / "minutes.tsv")
-    gate_times.write_minutes(path, minutes, "a run")
-    assert gate_times.read_minutes(path) == minutes
-    assert gate_times.notes_of(path) == ["a run"]
-    assert gate_times.sums_in_words(minutes) == "7 processor minutes of the prover, 2 for proofs, 2 for tests, 3 for edits"
-    table = gate_times.table_of(minutes)
-    assert [line.split() for line in table.splitlines()] == [
-        ["proofs", "tests", "edits", "in", "all"],
-        ["left", "1.5", "3.0", "4.5"],
-        ["right", "0.5", "2.0", "2.5"],
-        ["all", "2", "2", "3", "7"],
-    ]
-
-
-def test_with_the_minutes_stands_what_a_run_and_a_gate_took(tmp_path, monkeypatch):
-    path, whole, recorded = (tmp_path / name for name in ("minutes.tsv", "took", "recorded.tsv"))
-    gate_times.write_minutes(str(path), {"left": {"proofs": 1.5, "tests": 0.0, "edits": 3.0}}, "the prover")
-    whole.write_text("make run: 10:30\n")
-    monkeypatch.setattr(gate_times, "WHOLES", (str(tmp_path / "none"), str(whole)))
-    monkeypatch.setattr(gate_times, "MINUTES", str(recorded))
-    gate_times.take(str(path))
-    assert gate_times.notes_of(str(recorded)) == ["make run: 10:30", "the prover"]
-    assert gate_times.read_minutes(str(recorded)) == gate_times.read_minutes(str(path))
-
-
-@pytest.mark.parametrize("folder, words, kind", [
-    ("/r/crates/low", ["rattle", "check"], "proofs"),
-    ("/r/crates/low", ["rattle", "check", "--test"], "tests"),
-    (f"/tmp/{gate_times.EDITED}x1", ["rattle", "check"], "edits"),
-])
-def test_what_a_check_is_for_is_known_by_its_folder_and_words(monkeypatch, folder, words, kind):
-    monkeypatch.setattr(os, "readlink", lambda _: folder)
-    assert gate_times.kind_of("1", words) == kind
-
-
-def test_the_page_has_the_recorded_minutes():
-    with open(gate_times.PAGE, encoding="utf-8") as file:
-        page = file.read()
-    assert gate_times.table_of(gate_times.read_minutes(gate_times.MINUTES)) in page
-
-
 def test_the_readme_names_the_logic():
-    with open(f"{gate_times.TOP}/README.md", encoding="utf-8") as file:
+    with open(f"{TOP}/README.md", encoding="utf-8") as file:
         assert f"`{machine.logic()}`" in file.read()
 
 

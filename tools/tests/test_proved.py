@@ -36,9 +36,7 @@ def test_a_log_says_what_was_proved_of_each_crate_and_not_of_its_tests(tmp_path)
 
 def test_the_program_names_its_version_and_the_logic_that_it_is_proved_with(program):
     lines = subprocess.run([program, "--version"], capture_output=True, text=True, check=True).stdout.splitlines()
-    with open(f"{served.TOP}/crates/proto/src/version.rt", encoding="utf-8") as file:
-        number = re.search(r'VERSION: &str = "([0-9]+\.[0-9]+\.[0-9]+)";', file.read())[1]
-    assert lines[0] == f"segcached {number}"
+    assert lines[0] == f"segcached {served.version()}"
     assert lines[1] == f"proved with Rattle's {machine.logic()}"
 
 

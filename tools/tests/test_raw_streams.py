@@ -1,8 +1,9 @@
-"""Tests of where a client's raw stream stands: in the two files of net's module `sockets`, whose types have these calls and no others, so
+"""Tests of where a client's raw stream of either kind stands: in the three files of net's module `sockets`, whose types have these calls and no others, so
 that nothing reads from a stream or writes to it beside its log, nor by its descriptor's number. They take no time.
 
     python3 -m pytest tools/tests/test_raw_streams.py
 """
+import collections
 import glob
 import os
 import re
@@ -10,26 +11,34 @@ import re
 TOP = os.path.dirname(os.path.dirname(os.path.dirname(os.path.abspath(__file__))))
 SOURCES = f"{TOP}/crates/net/src"
 
-# The calls of each type that has a raw stream, or makes one. A served stream's bytes are logged by `read` and `write`. Of a new one the first
+# The calls of each type that has a raw stream, or makes one. A served stream's bytes are logged by `read` and `write`; `peer` asks the system for an address. Of a new one the first
 # bytes are looked at, which leaves them there; or it is refused, and closed.
 CALLS = {
     "sockets.rt": {
-        "Acceptor": {"bind", "register", "accept"},
+        "Acceptor": {"new", "add", "port", "accept"},
         "NewStream": {"serve", "has_probe", "refuse"},
         "EndedStream": {"of", "drain"},
     },
-    "sockets/logged_stream.rt": {"LoggedStream": {"new", "into_stream", "read", "write"}},
+    "sockets/logged_stream.rt": {"LoggedStream": {"new", "into_stream", "read", "write", "peer"}},
+    "sockets/raw.rt": {
+        "RawStream": {"watch", "peek", "end_sending", "peer"},
+        "Read": {"read"},
+        "Write": {"write", "flush"},
+        "RawListener": {"bind", "bind_path", "watch", "accept", "port"},
+    },
 }
 
 # Libraries whose safe calls take any descriptor by its number. Of `os` and of `libc` the product uses these calls alone, which take none.
 BY_NUMBER = {"io", "std_io"}
 OF_OS = "set_thread_name"
 OF_LIBC = "getpid"
-# What it uses of `std::os`: the type of such a number, for standard error.
-OF_STD_OS = "fd::RawFd"
+# What it uses of `std::os`: the type of such a number, for standard error; and what a file is, and its mode.
+OF_STD_OS = {"fd::RawFd", "unix::fs::"}
 
-# Calls that only these two files can make.
-PRIVATE = {"sockets/logged_stream.rt": {"new", "into_stream"}}
+# Functions of these files: the one accepts a stream, the other clears a path.
+FUNCTIONS = {"sockets.rt": {"accept_in_turn"}, "sockets/raw.rt": {"clear_path"}}
+# Calls that only these files can make.
+PRIVATE = {"sockets/logged_stream.rt": {"new", "into_stream"}, "sockets/raw.rt": {"watch", "peek", "end_sending", "peer", "accept", "port"}}
 
 
 def read(path):
@@ -48,8 +57,11 @@ def naming(word):
 
 
 def test_only_these_files_name_a_raw_stream():
-    assert naming("TcpStream") == set(CALLS)
-    assert naming("TcpListener") == {"sockets.rt"}
+    assert naming("RawStream") == set(CALLS)
+    for kind in ("TcpStream", "TcpListener", "UnixListener"):
+        assert naming(kind) == {"sockets/raw.rt"}
+    # (a hand wakes its port by a pair of its own)
+    assert naming("UnixStream") == {"sockets/raw.rt", "hand.rt"}
 
 
 def test_no_other_crate_names_one():
@@ -57,15 +69,19 @@ def test_no_other_crate_names_one():
 
 
 def test_they_have_these_calls_alone():
-    assert {os.path.basename(it) for it in glob.glob(f"{SOURCES}/sockets/**/*", recursive=True)} == {"logged_stream.rt"}
+    assert {os.path.basename(it) for it in glob.glob(f"{SOURCES}/sockets/**/*", recursive=True)} == {"logged_stream.rt", "raw.rt"}
     for name, types in CALLS.items():
         text = read(f"{SOURCES}/{name}")
         blocks = re.findall(r"^impl(?:<[^{]*>)? (\w+)[^{]*\{(.*?)^\}", text, re.DOTALL | re.MULTILINE)
-        found = {it: set(re.findall(r"\bfn (\w+)", block)) for it, block in blocks if "fn " in block}
+        found = collections.defaultdict(set)
+        for it, block in blocks:
+            found[it].update(re.findall(r"\bfn (\w+)", block))
+        found = {it: calls for it, calls in found.items() if calls}
         assert found == types, name
-        assert len(re.findall(r"\bfn ", text)) == sum(map(len, types.values())), name
+        assert set(re.findall(r"^(?:pub(?:\(\w+\))? )?fn (\w+)", text, re.MULTILINE)) == FUNCTIONS.get(name, set()), name
+        assert len(re.findall(r"\bfn ", text)) == sum(map(len, types.values())) + len(FUNCTIONS.get(name, ())), name
         assert set(re.findall(r"pub\(super\) fn (\w+)", text)) == PRIVATE.get(name, set()), name
-        assert not re.search(r"pub(\(\w+\))? \w+:[^,]*\bTcp(Stream|Listener)\b", text), name
+        assert not re.search(r"pub(\(\w+\))? \w+:[^,]*\b(Tcp|Unix|Raw)Stream\b", text), name
 
 
 def test_no_safe_call_takes_a_descriptors_number():
@@ -73,7 +89,7 @@ def test_no_safe_call_takes_a_descriptors_number():
         libraries = {word for line in file for word in line.partition("#")[0].partition(":")[2].split()}
     assert "os" in libraries and not libraries & BY_NUMBER
     uses = [(name, *it) for name, text in sources().items() for it in re.findall(r"(std::|)\bos\b(?:::([\w:]+))?", text)]
-    assert {it[1:] for it in uses} == {("", OF_OS), ("std::", OF_STD_OS)}, uses
+    assert {it[1:] for it in uses} == {("", OF_OS), *(("std::", it) for it in OF_STD_OS)}, uses
     assert {it for text in sources().values() for it in re.findall(r"\blibc\b(?:::([\w:]+))?", text)} == {OF_LIBC}
 
 

@@ -1,19 +1,21 @@
-"""tools/script_of.py refused: what it says that segcached refuses is what segcached refuses."""
-import random
+"""tools/script_of.py refused: which lines of a client the program refuses, by which error."""
 import signal
 import socket
 import subprocess
 import sys
 
 import pytest
-import refused_lines
-from refused_lines import BAD_BLOCK, BAD_FORM, BINARY, NO_RETURN, SPACES, TOO_LARGE, TOO_LONG, UNKNOWN
+import script_of
+from script_of import BINARY, TOO_LARGE
 from served import TOP, read_to_end
 
 TOOL = [sys.executable, f"{TOP}/tools/script_of.py"]
-MEBIBYTE = 1_048_576
 LONG_KEY = b"k" * 250
-# By docs/CLIENTS.md: what a client sends, and why segcached refuses it, if it does.
+BAD_FORM = b"CLIENT_ERROR bad command line format"
+NO_RETURN = SPACES = BAD_FORM
+BAD_BLOCK = b"CLIENT_ERROR bad data chunk"
+TOO_LONG, UNKNOWN = b"CLIENT_ERROR line too long", b"ERROR"
+# By docs/CLIENTS.md: what a client sends, and by which error it is refused, if it is.
 CASES = [
     (b"get a\r\n", None),
     (b"gets a b noreply\r\n", None),
@@ -84,7 +86,7 @@ LENIENT_CASES = [(sent, LENIENT.get(sent, why)) for sent, why in CASES] + [
     (b"prepend a 4294967296 0 1\r\nx\r\n", BAD_FORM),
     (b"touch a -1 noreply\r\n", None),
     (b"cache_memlimit 64 noreply\r\n", None),
-    (b"cache_memlimit 64\r\n", BAD_FORM),
+    (b"cache_memlimit 64\r\n", UNKNOWN),
     (b"touch a\r\n", BAD_FORM),
     (b"touch a 10000000000\r\n", BAD_FORM),
     (b"stats \r\n", None),
@@ -92,101 +94,67 @@ LENIENT_CASES = [(sent, LENIENT.get(sent, why)) for sent, why in CASES] + [
     (b"stats reset\r\n", BAD_FORM),
     (b"stats resets\r\n", None),
     (b"lru_crawler metadump all\r\n", None),
-    (b"lru_crawler enable\r\n", BAD_FORM),
+    (b"lru_crawler enable\r\n", UNKNOWN),
     (b"get   \r\n", BAD_FORM),
     (b"get  a \r\n", SPACES),
     (b"   \r\n", UNKNOWN),
     (b"get" + b" %b" % LONG_KEY * 130 + b" %b\r\n" % (b"k" * 132), None),
     (b"get" + b" %b" % LONG_KEY * 130 + b" %b\r\n" % (b"k" * 134), TOO_LONG),
 ]
-COMMANDS = [b"get", b"gets", b"set", b"add", b"cas", b"delete", b"incr", b"flush_all", b"append", b"touch"]
-WORDS = [*COMMANDS, b"noreply", b"a", b"\x7f", b"", b"0", b"00", b"7", b"-1", b"-0", b"1x"]
 
 
-def said_of(pieces, is_lenient=False):
-    refusals = refused_lines.Refusals(MEBIBYTE, is_lenient)
-    session = refusals.session()
+def cut(*pieces):
+    """The lines that come in these pieces, each with its block's length and whether that ends."""
+    asked = []
+    cutter = script_of.Cutter(lambda line, why=None, *block: asked.append(why or (line, *block)))
     for piece in pieces:
-        session.send(piece)
-    return refusals
+        cutter.send(piece)
+    return asked
 
 
-def reason_of(data, is_lenient=False):
-    reasons = [why for _, why in said_of([data], is_lenient).counts]
-    assert len(reasons) < 2
-    return reasons[0] if reasons else None
-
-
-def refuses(program, streams, folder, *dialect):
-    """Whether the program answers each stream, and what ends it, in a session of its own with an error."""
-    lines = [f"open 0 {n}\nsend 0 {n} {(data + extra).hex()}\n" for n, (data, extra) in enumerate(streams, 1)]
-    (folder / "script").write_text("".join(lines))
-    words = [program, "replay", "--segment-size", str(MEBIBYTE), str(folder / "script"), *dialect]
-    answers = subprocess.run(words, capture_output=True, check=True, timeout=60).stdout.decode().splitlines()
-    return [has_error(bytes.fromhex(line.split()[2].replace("-", ""))) for line in answers]
-
-
-def has_error(answers):
-    return any(line.startswith((b"ERROR", b"CLIENT_ERROR", b"SERVER_ERROR")) for line in answers.splitlines())
-
-
-def block_for(line):
-    length = refused_lines.block_length(line)
-    return bytes(length - 2) + b"\r\n" if length else b""
-
-
-@pytest.mark.parametrize(("sent", "why"), CASES)
-def test_a_line_is_refused_for_its_reason(sent, why):
-    assert reason_of(sent) == why
-
-
-@pytest.mark.parametrize(("sent", "why"), LENIENT_CASES)
-def test_a_line_is_refused_for_its_reason_where_lines_are_lenient(sent, why):
-    assert reason_of(sent, is_lenient=True) == why
-
-
-def with_ends(cases):
-    """What is sent, and a whole line after one whose end isn't seen as such."""
-    return [(sent, b"get z\r\n" if why == NO_RETURN else b"") for sent, why in cases]
-
-
-def test_the_program_refuses_the_same_lines(program, tmp_path):
-    assert refuses(program, with_ends(CASES), tmp_path) == [why is not None for _, why in CASES]
-
-
-def test_the_program_refuses_the_same_lines_where_they_are_lenient(program, tmp_path):
-    refused = refuses(program, with_ends(LENIENT_CASES), tmp_path, "--lenient")
-    assert refused == [why is not None for _, why in LENIENT_CASES]
-
-
-def random_lines(count):
-    """Lines of random words, with the block that a good storage line asks for; after a bad one the session is closed."""
-    chosen = random.Random(37)
-    lines = [b" ".join(chosen.choices(WORDS, k=chosen.randint(1, 7))) + b"\r\n" for _ in range(count)]
-    return [(line, block_for(line)) for line in lines]
-
-
-@pytest.mark.parametrize("dialect", [[], ["--lenient"]], ids=["strict", "lenient"])
-def test_the_program_refuses_the_same_of_random_lines(program, tmp_path, dialect):
-    streams = random_lines(3_000)
-    found = [reason_of(line + extra, is_lenient=bool(dialect)) is not None for line, extra in streams]
-    assert found == refuses(program, streams, tmp_path, *dialect)
-    assert 100 < sum(found) < 2_900
+@pytest.mark.parametrize("words, cases", [([], CASES), (["--lenient"], LENIENT_CASES)],
+                         ids=["strict", "lenient"])
+def test_a_line_is_refused_for_its_reason(program, words, cases):
+    asked = [cut(sent) for sent, _ in cases]
+    assert all(len(it) == 1 for it in asked)
+    options = ["--segment-size", "1048576", *words]
+    found = script_of.refusals(program, options, [it for it, in asked])
+    assert dict(zip(cases, found)) == {it: it[1] for it in cases}
 
 
 def test_a_stream_is_cut_the_same_however_it_comes():
     stream = b"".join(sent for sent, why in CASES if why not in (BAD_BLOCK, NO_RETURN))
-    at_once, by_bytes = said_of([stream]), said_of([stream[at : at + 1] for at in range(len(stream))])
-    assert at_once.lines == by_bytes.lines == sum(1 for _, why in CASES if why not in (BAD_BLOCK, NO_RETURN))
-    assert at_once.counts == by_bytes.counts
+    pieces = [stream[at : at + 1] for at in range(len(stream))]
+    assert cut(stream) == cut(*pieces)
+    assert len(cut(stream)) == sum(1 for _, why in CASES if why not in (BAD_BLOCK, NO_RETURN))
 
 
 def test_the_binary_protocol_is_named():
-    assert reason_of(b"\x80\x00\x00\x01" + bytes(20) + b"\r\n") == BINARY
+    assert cut(b"\x80\x00\x00\x01" + bytes(20) + b"\r\n") == [BINARY]
 
 
-def test_the_proxy_counts_what_passes_through_it(serve):
-    words = [*TOOL, "refused", "--to", f"127.0.0.1:{serve('--workers', '1').port}"]
+# What a client sends, and by which errors its lines are refused.
+STREAMS = {
+    b"set a 0 0 7\r\nget  \r\n\r\nincr a 1\r\n": [],
+    b"set a 0 0 200000 noreply\r\n" + bytes(200_000) + b"\r\nget a\r\n": [TOO_LARGE],
+    b"set a 0 0 131048 noreply\r\n" + bytes(131_048) + b"\r\nget a\r\n": [TOO_LARGE],
+    b"gat 5 a\r\nget a\n": [UNKNOWN, BAD_FORM],
+}
+
+
+@pytest.mark.parametrize("sent", STREAMS, ids=lambda it: str(it[:20]))
+def test_what_a_client_sent_is_counted(program, tmp_path, sent):
+    (tmp_path / "sent").write_bytes(sent)
+    words = [*TOOL, "refused", "--program", program, "--lenient", str(tmp_path / "sent")]
+    said = subprocess.run(words, capture_output=True, text=True, check=True).stdout.splitlines()
+    assert said[0] == f"{len(STREAMS[sent])} refused of 2 lines"
+    for error in STREAMS[sent]:
+        assert any(f" {error.decode()}; the first: " in line for line in said[1:])
+
+
+def test_the_proxy_counts_what_passes_through_it(program, serve):
+    words = [*TOOL, "refused", "--program", program, "--to"]
+    words.append(f"127.0.0.1:{serve('--workers', '1').port}")
     with subprocess.Popen(words, stdout=subprocess.PIPE, stderr=subprocess.PIPE) as proxy:
         port = int(proxy.stderr.readline().rpartition(b":")[2])
         for _ in range(2):
@@ -195,4 +163,5 @@ def test_the_proxy_counts_what_passes_through_it(serve):
                 assert read_to_end(peer) == b"STORED\r\nVALUE a 0 1\r\nx\r\nEND\r\nERROR\r\n"
         proxy.send_signal(signal.SIGINT)
         said, _ = proxy.communicate(timeout=60)
-    assert said == b"2 refused of 8 lines\n         2  version    there is no such command; the first: version\\r\\n\n"
+    assert said.splitlines()[0] == b"2 refused of 8 lines"
+    assert said.splitlines()[1:] == [b"         2  version    ERROR; the first: version\\r\\n"]

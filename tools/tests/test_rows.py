@@ -3,6 +3,7 @@
 All values stand here as they were worked out by hand from the protocol. The rows of evictions stand in test_evictions.py.
 """
 from asking import hit
+from model import VERSION
 from replays import all_given, given
 
 BAD_LINE = b"CLIENT_ERROR bad command line format\r\n"
@@ -179,7 +180,7 @@ COMMANDS = {
     b"prepend a 0 0 5\r\nget b\r\nget a\r\n": (b"STORED\r\nVALUE a 0 6\r\nget bx\r\nEND\r\n", ERROR + END + HIT),
     b"append b 0 0 0\r\n\r\n": (b"NOT_STORED\r\n", ERROR + ERROR),
     b"append a 0 0 1 noreply\r\ny\r\nget a\r\n": (b"VALUE a 0 2\r\nxy\r\nEND\r\n", ERROR + ERROR + HIT),
-    b"version\r\n": (b"VERSION 1.6.0-segcached-0.7.0\r\n", ERROR),
+    b"version\r\n": (VERSION, ERROR),
     b"verbosity 1\r\n": (b"OK\r\n", ERROR),
     b"verbosity 1 noreply\r\nget a\r\n": (HIT, ERROR + HIT),
     b"cache_memlimit 64 noreply\r\nget a\r\n": (HIT, ERROR + HIT),

@@ -5,7 +5,6 @@ A thread that looks for work is running or waits for a processor, and one that s
 import contextlib
 import ctypes
 import os
-import re
 import time
 
 import pytest
@@ -46,12 +45,6 @@ def runs(thread):
         return file.read().rpartition(")")[2].split()[0] == "R"
 
 
-def sleeps(thread):
-    """How often a thread has gone to sleep."""
-    with open(f"/proc/{thread}/status", encoding="ascii") as file:
-        return int(re.search(r"^voluntary_ctxt_switches:\s+(\d+)", file.read(), re.MULTILINE)[1])
-
-
 def shares(server, seconds):
     """In which share of looks during the next seconds each of two threads runs."""
     threads, looks, found = server.threads(), 0, dict.fromkeys(THREADS, 0)
@@ -85,8 +78,8 @@ def test_a_worker_that_waits_for_an_answer_looks_for_it(serve, words, spins):
         threads = server.threads()
         with stopped(threads["storage"]):
             stream.sendall(b"get a\r\n")
-            before = sleeps(threads["worker 0"])
+            before = server.sleeps(threads["worker 0"])
             share = shares(server, SPIN)["worker 0"]
-            count = sleeps(threads["worker 0"]) - before
+            count = server.sleeps(threads["worker 0"]) - before
         assert stream.recv(5) == b"END\r\n"
     assert share > 0.5 or count > 40 if spins else share < 0.3 and count < 20, (share, count)

@@ -16,8 +16,8 @@ from stats_of import told, wait_for
 
 TOO_LARGE = b"SERVER_ERROR object too large for cache\r\n"
 BAD_LINE = b"CLIENT_ERROR bad command line format\r\n"
-# What monitors of Debian need of memcached's fields, but for `rusage_user` and `rusage_system`.
-NEEDED = """pid uptime time version pointer_size curr_connections total_connections rejected_connections listen_disabled_num threads cmd_get cmd_set
+# What monitors of Debian need of memcached's fields.
+NEEDED = """pid uptime time version pointer_size rusage_user rusage_system curr_connections total_connections rejected_connections listen_disabled_num threads cmd_get cmd_set
     cmd_flush cmd_touch get_hits get_misses delete_hits delete_misses incr_hits incr_misses decr_hits decr_misses cas_hits cas_misses cas_badval
     touch_hits touch_misses bytes_read bytes_written limit_maxbytes bytes curr_items total_items evictions reclaimed""".split()
 KINDS = "get gets set add replace append prepend cas delete incr decr touch".split()
@@ -169,18 +169,6 @@ def test_connections_are_told(serve):
         wait_for(stream, curr_connections=3, total_connections=7, rejected_connections=0, listen_disabled_num=0, connections_waiting=0)
 
 
-def test_full_workers_are_told(serve):
-    """Of 74 connections beside the 1,024 of one worker 64 wait for it, and the others are refused after a second."""
-    server = serve("--lenient", "--workers", "1")
-    with contextlib.ExitStack() as streams:
-        opened = [streams.enter_context(server.connect()) for _ in range(1024)]
-        for it in opened:
-            ask(it, b"get none\r\n", b"END\r\n")
-        for _ in range(74):
-            streams.enter_context(server.connect())
-        wait_for(opened[0], rejected_connections=10, listen_disabled_num=1, curr_connections=1024, connections_waiting=64)
-
-
 def test_bytes_are_told(serve):
     value = b"set a 0 0 100000\r\n%b\r\n" % (b"v" * 100_000)
     with serve("--lenient", "--segment-size", "1048576").connect() as stream:
@@ -281,13 +269,27 @@ def test_storage_is_busy_as_long_as_it_executes(serve, storage):
 ROWS = {
     b"stats items\r\n": b"END\r\n",
     b"stats slabs \r\n": b"END\r\n",
-    b"stats settings\r\nstats sizes\r\n": b"END\r\nEND\r\n",
+    b"stats settings all\r\nstats sizes\r\n": b"END\r\nEND\r\n",
     b"lru_crawler metadump all\r\n": b"END\r\n",
     b"lru_crawler enable\r\n": b"ERROR\r\n",
     b"stats reset\r\n": BAD_LINE,
     b"stat\r\n": b"ERROR\r\n",
     b"STATS\r\n": b"ERROR\r\n",
 }
+
+
+def test_settings_are_told(serve):
+    """By the names of memcached 1.6, in `stats settings` as in `stats`."""
+    server = serve("--lenient", "--workers", "2", "--connections", "100", "--segment-size", "1048576")
+    wanted = {
+        "maxbytes": str(64 << 20), "maxconns": "200", "num_threads": "2", "tcpport": str(server.port), "item_size_max": "131072",
+        "cas_enabled": "yes"}
+    with server.connect() as stream:
+        wait_for(stream, maxconns=200)
+        for found in (told(stream), told(stream, b"stats settings\r\n"), told(stream, b"stats settings  \r\n")):
+            assert {name: found.get(name) for name in wanted} == wanted and found["threads"] == found["num_threads"]
+        stream.sendall(b"version\r\n")
+        assert stream.recv(100) == b"VERSION %b\r\n" % told(stream)["version"].encode()
 
 
 @pytest.mark.parametrize("line", ROWS, ids=[it.decode().strip() for it in ROWS])

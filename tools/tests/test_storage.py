@@ -1,7 +1,6 @@
 """`--storage`: which thread executes requests. What is answered doesn't depend on it, and a worker that executes wakes no thread."""
 import concurrent.futures
 import random
-import re
 import time
 
 import replays
@@ -74,24 +73,18 @@ def test_random_scripts_are_answered_alike(program, say):
 
 # ---- who is woken
 
-def sleeps(thread):
-    """How often a thread has gone to sleep."""
-    with open(f"/proc/{thread}/status", encoding="ascii") as file:
-        return int(re.search(r"^voluntary_ctxt_switches:\s+(\d+)", file.read(), re.MULTILINE)[1])
-
-
 def storage_sleeps(server, requests):
     """How often the storage thread goes to sleep while so many requests come one at a time, beside once in 100 milliseconds."""
     with server.connect() as stream:
         # (once it has answered, each thread has its name)
         ask(stream, b"get a\r\n", b"END\r\n")
         storage = server.threads()["storage"]
-        before, start = sleeps(storage), time.monotonic()
+        before, start = server.sleeps(storage), time.monotonic()
         for _ in range(requests):
             ask(stream, b"get a\r\n", b"END\r\n")
             # (so long that it has gone to sleep again)
             time.sleep(0.001)
-        return sleeps(storage) - before - 10 * (time.monotonic() - start)
+        return server.sleeps(storage) - before - 10 * (time.monotonic() - start)
 
 
 def test_a_lone_request_wakes_no_thread_where_workers_execute(serve):

@@ -94,7 +94,7 @@ def test_a_client_that_spreads_keys_loses_those_of_a_stopped_cache_alone(caches,
 @contextlib.contextmanager
 def twemproxy(ports, folder):
     """`nutcracker` in front of these ports, by the example's configuration with ports in place of its own."""
-    with open(f"{served.TOP}/examples/twemproxy/three_caches.yml", encoding="utf-8") as file:
+    with open(f"{served.TOP}/packaging/examples/twemproxy/three_caches.yml", encoding="utf-8") as file:
         text = file.read()
     for written, port in zip((11311, 11312, 11313), ports):
         text = text.replace(f"127.0.0.1:{written}", f"127.0.0.1:{port}")

@@ -14,10 +14,10 @@ NAME = "cache.example"
 @pytest.fixture(scope="module")
 def stunnel():
     """Debian's stunnel, if it is there or can be installed."""
-    if subprocess.run(["dpkg", "-s", "stunnel4"], capture_output=True).returncode:
-        install = ["apt-get", "install", "-y", "--no-install-recommends", "stunnel4"]
-        if subprocess.run(install, capture_output=True).returncode:
-            pytest.skip("stunnel can't be installed")
+    try:
+        served.install("stunnel4")
+    except subprocess.CalledProcessError:
+        pytest.skip("stunnel can't be installed")
     return "/usr/bin/stunnel4"
 
 

@@ -124,7 +124,7 @@ def test_a_stopped_process_takes_connections_and_does_not_answer(serve):
 
 def test_the_probe_says_whether_it_answers(program):
     with served.Server(program) as server:
-        probe = [f"{served.TOP}/examples/probe.sh", "127.0.0.1", str(server.port)]
+        probe = [f"{served.TOP}/packaging/examples/probe.sh", "127.0.0.1", str(server.port)]
         assert subprocess.run(probe).returncode == 0
         server.process.send_signal(signal.SIGSTOP)
         assert subprocess.run(probe).returncode != 0
@@ -168,6 +168,11 @@ def test_a_taken_port_is_seen_before_a_start(serve):
     address = f"127.0.0.1:{serve().port}"
     done = subprocess.run([*taken, address], stdout=subprocess.PIPE, text=True, timeout=20)
     assert (done.returncode, done.stdout) == (0, f"{address}\n")
+    # (of several addresses it is the first of TCP)
+    several = ["unix:/run/none", f"--listen={address}", "--listen", "127.0.0.1:1"]
+    done = subprocess.run([*taken, *several], stdout=subprocess.PIPE, text=True, timeout=20)
+    assert (done.returncode, done.stdout) == (0, f"{address}\n")
+    assert subprocess.run([*taken, "unix:/run/none"], timeout=20).returncode == 1
     for free in (f"127.0.0.1:{served.free_port()}", "127.0.0.1:0"):
         assert subprocess.run([*taken, free], timeout=20).returncode == 1
 
@@ -178,7 +183,7 @@ def ignored_signals(file):
         return re.search(r"(/usr/bin/env)\W+(--ignore-signal=[A-Z0-9,]+)\W+/usr/(?:local/)?bin/segcached\b", text.read()).groups()
 
 
-@pytest.mark.parametrize("file", ["systemd/segcached.service", "examples/Containerfile"])
+@pytest.mark.parametrize("file", ["packaging/systemd/segcached.service", "packaging/examples/Containerfile"])
 def test_started_as_a_service_it_ignores_what_nobody_expects_to_end_it(program, file):
     with served.Process([*ignored_signals(file), program, "serve", "--listen", "127.0.0.1:0"]) as server:
         port = int(server.process.stdout.readline().rpartition(":")[2])

@@ -1,4 +1,4 @@
-"""Items of a served program expire by seconds of its clock. (All waits are in four tests, of twelve seconds, three, five and four.)"""
+"""Items of a served program expire by seconds of its clock. (All waits are in three tests, of twelve seconds, three and five.)"""
 import threading
 import time
 
@@ -85,21 +85,3 @@ def test_an_item_expires_however_few_requests_come(serve):
     for thread in threads:
         thread.join()
     assert late == []
-
-
-def test_a_counter_keeps_its_ttl_if_it_is_counted_in_place(serve):
-    """Written anew at each count, a counter of 16 seconds is one of 8 after the first, and of one second after the next."""
-    servers = {is_in_place: serve("--workers", "1", *["--update-in-place"] * is_in_place) for is_in_place in (False, True)}
-    with servers[False].connect() as anew, servers[True].connect() as in_place:
-        for stream in (anew, in_place):
-            ask(stream, b"set n 0 16 1\r\n1\r\n", b"STORED\r\n")
-        counts = {anew: 1, in_place: 1}
-        for _ in range(9):
-            time.sleep(0.4)
-            counts[in_place] += 1
-            ask(in_place, b"incr n 1\r\n", b"%d\r\n" % counts[in_place])
-            anew.sendall(b"incr n 1\r\n")
-            assert anew.recv(100) in (b"%d\r\n" % (counts[anew] + 1), b"NOT_FOUND\r\n")
-            counts[anew] += 1
-        ask(anew, b"get n\r\n", b"END\r\n")
-        ask(in_place, b"get n\r\n", hit(b"n", b"10"))

@@ -1,6 +1,4 @@
 """Tests of tools/wrong_bodies.py over a small crate: which edits it passes, which it fails, and what it keeps. Each of a few checks takes some seconds.
-
-    python3 -m pytest tools/tests/test_wrong_bodies.py
 """
 import dataclasses
 import os
@@ -9,17 +7,14 @@ import sys
 import time
 import types
 
+import edited_copies
+import edits
+import functions
+import kept_verdicts
+import prove
 import pytest
-
-TOP = os.path.dirname(os.path.dirname(os.path.dirname(os.path.abspath(__file__))))
-sys.path.insert(0, f"{TOP}/tools")
-
-import edited_copies  # noqa: E402
-import edits  # noqa: E402
-import functions  # noqa: E402
-import kept_verdicts  # noqa: E402
-import prove  # noqa: E402
-import wrong_bodies  # noqa: E402
+import wrong_bodies
+from served import TOP
 
 SOURCE = """#![tactic(auto)]
 
@@ -296,8 +291,8 @@ def test_what_changed_during_its_check_is_not_kept(low, kept):
 def test_the_sum_of_the_tools_has_each_that_decides():
     imported = {word for it in kept_verdicts.TOOLS for word in re.findall(r"^import (\w+)$", edited_copies.read(f"{TOP}/tools/{it}.py"), re.MULTILINE)}
     of_tools = {word for word in imported if os.path.exists(f"{TOP}/tools/{word}.py")}
-    # (the others say how many checks run side by side, and what they cost)
-    assert of_tools - {"machine", "gate_times"} <= set(kept_verdicts.TOOLS)
+    # (the other one says how many checks run side by side)
+    assert of_tools - {"machine"} <= set(kept_verdicts.TOOLS)
 
 
 def test_each_edit_of_the_repository_can_be_placed():

@@ -18,7 +18,7 @@ pub record IsReplayInRange (o : Options) : Type 0 where
   pub accept : o.accept ≤ 65536
 
 -- the same of workers and segments; and if they are given, 1 to 65,536 connections, at least one session, 1 to
--- 4,294,967,295 seconds of silence, and at most 1,000,000 microseconds
+-- 4,294,967,295 seconds of silence, and at most 1,000,000 microseconds; and a mode of nine bits
 pub record IsServeInRange (o : ServeOptions) : Type 0 where
   pub workers : (1 ≤ o.workers) × (o.workers ≤ 8)
   pub segment_size : (4096 ≤ o.segment_size) × (o.segment_size ≤ 1048576)
@@ -27,6 +27,7 @@ pub record IsServeInRange (o : ServeOptions) : Type 0 where
   pub sessions : IfSome o.sessions (λ n. 1 ≤ n)
   pub idle : IfSome o.idle (λ n. (1 ≤ n) × (n ≤ 4294967295))
   pub spin : IfSome o.spin (λ n. n ≤ 1000000)
+  pub socket_mode : o.socket_mode ≤ 511
 
 abbrev pub IsJob : Job → Type 0
 IsJob (Help text) = ⊤

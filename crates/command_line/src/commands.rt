@@ -11,6 +11,8 @@ pub(crate) const FILE: &str = "file";
 
 pub(crate) const LISTEN: &str = "listen";
 
+pub(crate) const SOCKET_MODE: &str = "socket-mode";
+
 pub(crate) const LENIENT: &str = "lenient";
 
 pub(crate) const UPDATE_IN_PLACE: &str = "update-in-place";
@@ -23,6 +25,8 @@ pub(crate) const EVICT: &str = "evict";
 pub(crate) const EXACT_TTLS: &str = "exact-ttls";
 
 pub(crate) const STORAGE: &str = "storage";
+
+pub(crate) const QUIET: &str = "quiet";
 
 /// The values of `--storage`.
 const BY_THREAD: &str = "thread";
@@ -46,6 +50,12 @@ const EXACT_TTLS_HELP: &str =
 const STORAGE_HELP: &str =
     "Who executes requests: the storage thread, or the workers, which then wake no thread";
 
+const LISTEN_HELP: &str =
+    "An IP address and a port, where port 0 is any free one; or unix: and a path. It may be given eight times";
+
+const QUIET_HELP: &str =
+    "Write no line on standard error for connections that are closed for what they sent, for silence or for memory";
+
 const EVICT_HELP: &str =
     "Which segments are merged or evicted: the oldest, or of the first quarter those whose items were read least";
 
@@ -60,7 +70,7 @@ For each session that was opened, in order of worker and session, the line `W S 
 Exit status: 0 done, 1 a fault (one line on standard error), 2 bad words";
 
 const SERVE_HELP: &str =
-    "The first line on standard output is `listening on ADDR`, with the real port. The first line on standard error has all options that are in force.
+    "The first line on standard output is `listening on ADDR`, with the first address and its real port. The first line on standard error has all options that are in force.
 
 Exit status: 0 done, 1 a fault (the last line on standard error), 2 wrong options, 3 the address cannot be had";
 
@@ -138,13 +148,21 @@ fn serve<'a>(alloc: Global) -> Result<Command<'a>, AllocError> {
     let listen = Arg::new(alloc, LISTEN)
         .long(LISTEN)
         .value_name("ADDR")
-        .help("An IP address and a port; port 0 is any free one")
+        .help(LISTEN_HELP)
+        .action(ArgAction::Append)
         .required(true);
+    let socket_mode = Arg::new(alloc, SOCKET_MODE)
+        .long(SOCKET_MODE)
+        .value_name("MODE")
+        .help("The mode of the files of sockets, in octal")
+        .default_values(&["0700"]);
     let command = Command::new(alloc, "serve")
-        .about("Listens on an address and serves")
+        .about("Listens on addresses and serves")
         .override_usage("segcached serve [OPTIONS] --listen <ADDR>")
         .after_help(SERVE_HELP);
-    let command = command.arg(listen)?.arg(workers(alloc, &["2"]))?;
+    let command = command.arg(listen)?.arg(socket_mode)?;
+    let command = command.arg(workers(alloc, &["2"]))?;
+    let command = command.arg(flag(alloc, QUIET, QUIET_HELP))?;
     with_options(alloc, command, &SERVE_OPTIONS)
 }
 

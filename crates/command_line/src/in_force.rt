@@ -1,7 +1,8 @@
 //! The options with which a server runs, as words.
 
 use crate::commands::{
-    BY_WORKERS, EVICT, EXACT_TTLS, LEAST_READ, LENIENT, LISTEN, STORAGE, UPDATE_IN_PLACE,
+    BY_WORKERS, EVICT, EXACT_TTLS, LEAST_READ, LENIENT, LISTEN, QUIET, SOCKET_MODE, STORAGE,
+    UPDATE_IN_PLACE,
 };
 use crate::number_option::{
     CONNECTIONS, IDLE, NumberOption, SEGMENT_SIZE, SEGMENTS, SESSIONS, SPIN, WORKERS,
@@ -71,16 +72,36 @@ fn push_rules(line: &mut String, options: &ServeOptions) -> Result<(), AllocErro
     if options.storage == Storage::Workers {
         push_value(line, STORAGE, BY_WORKERS)?;
     }
+    push_flag(line, QUIET, options.quiet)?;
     push_flag(line, EXACT_TTLS, options.exact_ttls)?;
     push_flag(line, LENIENT, options.dialect == Dialect::Lenient)?;
     push_flag(line, UPDATE_IN_PLACE, options.update_in_place)
+}
+
+/// Adds the addresses, and the mode of sockets' files if there may be some.
+fn push_addresses(
+    alloc: Global,
+    line: &mut String,
+    options: &ServeOptions,
+) -> Result<(), AllocError> {
+    let mut has_path = options.listen.starts_with("unix:");
+    push_value(line, LISTEN, options.listen.as_str())?;
+    for addr in &options.also {
+        has_path = has_path || addr.starts_with("unix:");
+        push_value(line, LISTEN, addr.as_str())?;
+    }
+    if has_path {
+        let mode = format!(in alloc; "{:04o}", options.socket_mode)?;
+        push_value(line, SOCKET_MODE, mode.as_str())?;
+    }
+    Ok(())
 }
 
 /// All options of a server that are in force, as words that ask for the same: `--listen ADDR --workers 2 ..`. An
 /// option that is left out is not in force. Fails only if out of memory.
 pub fn options_in_force(alloc: Global, options: &ServeOptions) -> Result<String, AllocError> {
     let mut line = String::new(alloc);
-    push_value(&mut line, LISTEN, options.listen.as_str())?;
+    push_addresses(alloc, &mut line, options)?;
     push_numbers(alloc, &mut line, options)?;
     push_rules(&mut line, options)?;
     Ok(line)

@@ -34,8 +34,12 @@ pub struct Options {
 /// What `segcached serve` is told.
 #[derive(Drop)]
 pub struct ServeOptions {
-    /// The address: an IP address and a port.
+    /// The first address: an IP address and a port, or `unix:` and the path of a socket.
     pub listen: String,
+    /// Up to seven further ones.
+    pub also: Vec<String>,
+    /// The mode of the files of sockets, 0 to 0o777.
+    pub socket_mode: u32,
     /// How many workers run, 1 to 8.
     pub workers: u64,
     /// How many connections each worker serves at a time, 1 to 65,536; None is 1,024.
@@ -47,6 +51,8 @@ pub struct ServeOptions {
     /// For how many microseconds a thread looks for work before it sleeps, 0 to 1,000,000; None leaves it to each
     /// thread. It does nothing if workers execute requests.
     pub spin: Option<u32>,
+    /// Whether no line is written for connections that are closed.
+    pub quiet: bool,
     /// The bytes of a segment, 4,096 to 1,048,576. Whether it is a power of two is tested later.
     pub segment_size: u64,
     /// The number of segments, 8 to 65,536.

@@ -9,8 +9,8 @@ ghost use Rattle.command_line.specs.declared.words.WordsFault.TheVariants as wor
 ghost use Rattle.command_line.specs.Words.{IsJob, IsReplayInRange, IsServeInRange, IsInRange};
 
 use crate::commands::{
-    BY_WORKERS, EVICT, EXACT_TTLS, FILE, LEAST_READ, LENIENT, LISTEN, STORAGE, UPDATE_IN_PLACE,
-    command,
+    BY_WORKERS, EVICT, EXACT_TTLS, FILE, LEAST_READ, LENIENT, LISTEN, QUIET, SOCKET_MODE, STORAGE,
+    UPDATE_IN_PLACE, command,
 };
 use crate::number_option::{
     ACCEPT, CONNECTIONS, FAIL_GIVE, IDLE, NOW, NumberOption, SEGMENT_SIZE, SEGMENTS, SESSIONS,
@@ -24,6 +24,9 @@ use proto::{Dialect, Eviction, Storage};
 use std::alloc::{AllocError, Global};
 use std::io;
 use thiserror::Error;
+
+/// The most addresses of a server.
+const MAX_ADDRESSES: usize = 8;
 
 /// Why the words ask for nothing.
 #[derive(Debug, Drop, Error)]
@@ -124,6 +127,35 @@ fn replay_options(alloc: Global, matches: &ArgMatches<'_>) -> Result<Options, Wo
     })
 }
 
+/// The mode that the octal digits say.
+fn socket_mode(alloc: Global, matches: &ArgMatches<'_>) -> Result<u32, WordsFault>
+    ensures { IfOk result (λ mode. mode ≤ 511) }
+{
+    let text = matches.get_str(SOCKET_MODE).unwrap_or("");
+    match u32::from_str_radix(text, 8) {
+        Ok(mode) if mode <= 0o777 => Ok(mode),
+        _ => Err(WordsFault::BadWords(format!(in alloc;
+            "error: invalid value '{text}' for '--socket-mode <MODE>': {text} is not in 0..=777, in octal\n"
+        )?)),
+    }
+}
+
+/// The addresses after the first one.
+fn further_addresses(alloc: Global, given: &[&str]) -> Result<Vec<String>, WordsFault> {
+    if given.len() > MAX_ADDRESSES {
+        return Err(WordsFault::BadWords(format!(in alloc;
+            "error: --listen may be given {MAX_ADDRESSES} times at most\n"
+        )?));
+    }
+    let mut further = Vec::with_capacity(alloc, MAX_ADDRESSES)?;
+    for addr in given.iter().skip(1) {
+        if further.push(String::from_str(alloc, addr)?).is_err() {
+            return Err(WordsFault::NoMemory);
+        }
+    }
+    Ok(further)
+}
+
 fn serve_options(alloc: Global, matches: &ArgMatches<'_>) -> Result<ServeOptions, WordsFault>
     ensures { IfOk result IsServeInRange }
 {
@@ -133,6 +165,7 @@ fn serve_options(alloc: Global, matches: &ArgMatches<'_>) -> Result<ServeOptions
         sessions: number_or_none(alloc, matches, &SESSIONS)?,
         idle: number_or_none(alloc, matches, &IDLE)?,
         spin: number_or_none(alloc, matches, &SPIN)?.map(|micros| micros as u32),
+        quiet: matches.get_flag(QUIET),
         segment_size: number(alloc, matches, &SEGMENT_SIZE)?,
         segments: number(alloc, matches, &SEGMENTS)?,
         dialect: dialect(matches),
@@ -141,6 +174,8 @@ fn serve_options(alloc: Global, matches: &ArgMatches<'_>) -> Result<ServeOptions
         storage: storage(matches),
         exact_ttls: matches.get_flag(EXACT_TTLS),
         listen: String::from_str(alloc, matches.get_str(LISTEN).unwrap_or(""))?,
+        also: further_addresses(alloc, matches.get_strs(LISTEN).unwrap_or(&[]))?,
+        socket_mode: socket_mode(alloc, matches)?,
     })
 }
 

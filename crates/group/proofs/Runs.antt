@@ -87,7 +87,7 @@ module _ {P : Type 0} (told : P → Option PortTrace) (leads_to : P → P → Ty
         strangers = kept.strangers;
         listed = λ trace tells. (kept.reported trace tells).listed;
         answered = λ trace tells t cause messages rest listed reads.
-            subst (λ n. IsSessionAnswered trace.events s.history n t cause messages) is
+            subst (λ n. IsSessionAnswered trace.dialect trace.events s.history n t cause messages) is
             ((kept.reported trace tells).answered s.history (sym all.0) sent t cause messages rest listed reads);
         given_by = λ trace tells. starts_trans s.history r.worker_end.seen trace.history counted.compared.seen
             (kept.whose trace tells).later;

@@ -43,7 +43,7 @@ pub record IsWorkerOf {P : Type 0} (told : P → Option PortTrace) (leads_to : P
   pub answered : (trace : PortTrace) → told worker.port ≡ Some trace
       → (s : ℕ) (cause : EndCause) (messages : List Message) (rest : List ℕ)
       → cause_of worker.sessions.items s ≡ Some cause → Reads trace.dialect (fed s trace.events) messages rest
-      → IsSessionAnswered trace.events history w s cause messages
+      → IsSessionAnswered trace.dialect trace.events history w s cause messages
   pub spelled : (first trace : PortTrace) → told port ≡ Some first → told worker.port ≡ Some trace
       → trace.dialect ≡ first.dialect
   pub given_by : (trace : PortTrace) → told worker.port ≡ Some trace → StartsWith history trace.history

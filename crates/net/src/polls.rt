@@ -7,10 +7,6 @@ use worker_port::MAX_PIECE;
 /// request may be answered before the first of these polls.
 const CALLS_EACH_POLL: u32 = 4;
 
-/// This many such calls in a row are taken not to end: the worker has output for peers that take none. From then on each poll
-/// waits a little.
-const STALLED_CALLS: u32 = 8192;
-
 /// The sockets are polled at each so many calls at least, whatever is known, so that a client that sends or reads fast doesn't keep
 /// the others from being heard. Each whole piece of output that was accepted counts as a call.
 const MOST_UNPOLLED: usize = 32;
@@ -20,9 +16,6 @@ const WAIT_MILLIS: u64 = 100;
 
 /// How long it waits while sessions that were shut are read.
 const DRAINING_WAIT_MILLIS: u64 = 5;
-
-/// How long it waits for peers that take no output.
-const STALLED_WAIT_MILLIS: u64 = 1;
 
 /// The calls in a row that found no event, and the time after the last event for which polls don't wait.
 #[derive(Clone, Copy, Default)]
@@ -78,8 +71,7 @@ impl Polls {
             true if self.spins(rt) => 0,
             true if is_draining => DRAINING_WAIT_MILLIS,
             true => WAIT_MILLIS,
-            false if calls < STALLED_CALLS => 0,
-            false => STALLED_WAIT_MILLIS,
+            false => 0,
         };
         Some(Duration::from_millis(millis))
     }

@@ -10,20 +10,21 @@ ghost use Rattle.worker_port.specs.Giving.{HasAskedOnly};
 ghost use Rattle.net.specs.Shown.{shown_stream};
 ghost use Rattle.net.specs.Ties.{OpenAgrees, BytesAgree, SocketsAgree};
 
+use crate::closings::Closing;
 use crate::fault::{NetFault, Refusal};
 use crate::hand::Hand;
 use crate::interval::Interval;
+use crate::peer::Peer;
 use crate::polls::Polls;
 use crate::streams::{Owner, Streams};
 use exchange::{ExchangeName, WorkerBatch};
 use mio::{Events, Poll};
 use proto::{Gauge, Gauges};
 use std::alloc::Global;
-use std::mem;
 use std::net::Net;
 use std::sync::Wait;
 use std::time::Clock;
-use worker_port::{Gone, Port, PortEvent, ToldHistory};
+use worker_port::{CloseReason, Gone, Port, PortEvent, ToldHistory};
 
 /// Events of one poll.
 const EVENTS: usize = 256;
@@ -142,6 +143,7 @@ impl<R: Wait + Clock + Drop> MioPort<R> {
         if self.has_idle {
             if let Some(event) = self.served.end_idle() {
                 self.idle_kicks = self.idle_kicks.saturating_add(1);
+                self.tell_closing(self.served.idle_peer, CloseReason::Idle, b"");
                 return event;
             }
             self.has_idle = false;
@@ -192,6 +194,12 @@ impl<R: Wait + Clock + Drop> MioPort<R> {
         true
     }
 
+    /// Leaves word of a connection that is closed.
+    fn tell_closing(&self, peer: Peer, reason: CloseReason, line: &[u8]) {
+        self.hand
+            .explain(&self.rt, Closing::new(peer, reason, line));
+    }
+
     /// Opens a session for the next stream that waits in the hand and can be served.
     fn open_next(&mut self) -> Option<PortEvent>
         requires { GoesOn (trace_of self.old.served) }
@@ -231,7 +239,7 @@ impl<R: Wait + Clock + Drop> Port for MioPort<R> {
             return PortEvent::Idle;
         }
         let event = self.next_event(sender);
-        if mem::take(&mut self.served.has_room) || !matches!(event, PortEvent::Idle) {
+        if !matches!(event, PortEvent::Idle) {
             self.polls.restart();
         }
         event
@@ -255,6 +263,16 @@ impl<R: Wait + Clock + Drop> Port for MioPort<R> {
 
     fn shut(&mut self, session: u64) {
         self.served.shut(&self.rt, session);
+    }
+
+    fn explain(&self, session: u64, reason: CloseReason, line: &[u8]) {
+        if let Some(open) = self.served.open.get(&session) {
+            self.tell_closing(open.stream.peer(), reason, line);
+        }
+    }
+
+    fn rooms(&self) -> Option<u64> {
+        Some(self.served.rooms.wrapping_add(self.served.looks))
     }
 
     fn set_gauges(&self, gauges: &Gauges) {

@@ -5,15 +5,17 @@ ghost use Rattle.std.specs.Prelude.{◌≡◌, [], ◌∷◌, ◌++◌, OnErr, I
 ghost use Rattle.net.specs.Sockets.{socket_of, IsNewLog};
 
 mod logged_stream;
+mod raw;
 
 use crate::probes::{PROBE_BYTES, is_probe};
 use logged_stream::LoggedStream;
 pub(crate) use logged_stream::ServedStream;
-use mio::net::{TcpListener, TcpStream};
-use mio::{Interest, Poll, Token};
+use mio::{Poll, Token};
 use proto::{Noted, Trace};
-use std::io::{self, Read, Write};
-use std::net::{Net, Shutdown, SocketAddr};
+pub(crate) use raw::RawListener;
+use raw::RawStream;
+use std::alloc::{AllocError, Global};
+use std::io::{self, ErrorKind, Read, Write};
 use std::snapshot::Snapshot;
 
 /// What a client is told that no worker can take.
@@ -24,12 +26,15 @@ const DROPPED_BYTES: usize = 4096;
 
 const DROPS: usize = 16;
 
-/// A socket that accepts streams. For clauses alone it knows which it accepted.
+/// The most sockets of a listener.
+const MAX_LISTENERS: usize = 8;
+
+/// The sockets that accept streams. For clauses alone it knows which they accepted.
 #[derive(Drop)]
 pub(crate) struct Acceptor {
-    listener: TcpListener,
-    /// The port that it listens on.
-    pub(crate) port: u16,
+    listeners: Vec<RawListener>,
+    /// The one that is asked first for the next stream.
+    turn: usize,
     pub(crate) accepted: Trace<i32>,
 }
 
@@ -44,23 +49,31 @@ impl Noted<i32> for SocketNote<'_> {
 }
 
 impl Acceptor {
-    pub(crate) fn bind<R: Net>(rt: &R, addr: SocketAddr) -> io::Result<Acceptor>
+    /// No socket yet.
+    pub(crate) fn new(alloc: Global) -> Result<Acceptor, AllocError>
         ensures { IfOk result (λ acceptor. acceptor.accepted.items ≡ []) }
     {
-        let listener = TcpListener::bind(rt, addr)?;
         Ok(Acceptor {
-            port: listener.local_addr()?.port(),
-            listener,
+            listeners: Vec::with_capacity(alloc, MAX_LISTENERS)?,
+            turn: 0,
             accepted: Trace::new(),
         })
     }
 
-    /// Has the poll return when a stream waits.
-    pub(crate) fn register(&mut self, poll: &Poll) -> io::Result<()>
+    /// Adds a socket, and has the poll return when a stream waits there.
+    pub(crate) fn add(&mut self, poll: &Poll, mut listener: RawListener) -> io::Result<()>
         ensures { self.new.accepted.items ≡ self.old.accepted.items }
     {
-        poll.registry()
-            .register(&mut self.listener, Token(0), Interest::READABLE)
+        listener.watch(poll)?;
+        self.listeners
+            .push(listener)
+            .map_err(|_| io::Error::from(ErrorKind::OutOfMemory))
+    }
+
+    /// The port of the first socket of TCP, 0 if there is none.
+    pub(crate) fn port(&self) -> u16 {
+        let mut ports = self.listeners.iter().filter_map(|listener| listener.port());
+        ports.next().unwrap_or(0)
     }
 
     /// The next stream that waits; `WouldBlock` if none does.
@@ -69,7 +82,7 @@ impl Acceptor {
             (λ stream. self.new.accepted.items ≡ self.old.accepted.items ++ socket_of stream ∷ []) }
         ensures err { OnErr result (self.new.accepted.items ≡ self.old.accepted.items) }
     {
-        let (stream, _) = self.listener.accept()?;
+        let stream = accept_in_turn(self.listeners.as_slice(), &mut self.turn)?;
         let stream = NewStream { stream };
         let accepted = Snapshot::of(&stream);
         self.accepted.note_as(&SocketNote { stream: &accepted });
@@ -77,10 +90,28 @@ impl Acceptor {
     }
 }
 
+/// The next stream that waits at one of the sockets, asked in turn; `WouldBlock` if none does.
+fn accept_in_turn(listeners: &[RawListener], turn: &mut usize) -> io::Result<RawStream> {
+    for _ in 0..listeners.len() {
+        if *turn >= listeners.len() {
+            *turn = 0;
+        }
+        let Some(listener) = listeners.get(*turn) else {
+            break;
+        };
+        *turn += 1;
+        match listener.accept() {
+            Err(error) if error.kind() == ErrorKind::WouldBlock => {}
+            done => return done,
+        }
+    }
+    Err(io::Error::from(ErrorKind::WouldBlock))
+}
+
 /// An accepted stream that nobody serves yet. It can be handed on, served or closed.
 #[derive(Drop)]
 pub(crate) struct NewStream {
-    stream: TcpStream,
+    stream: RawStream,
 }
 
 impl NewStream {
@@ -90,11 +121,7 @@ impl NewStream {
         ensures { IfSome result (IsNewLog (socket_of self)) }
     {
         let mut stream = self.stream;
-        stream.set_nodelay(true).ok()?;
-        let both = Interest::READABLE | Interest::WRITABLE;
-        poll.registry()
-            .register(&mut stream, Token(session as usize), both)
-            .ok()?;
+        stream.watch(poll, Token(session as usize)).ok()?;
         Some(LoggedStream::new(stream))
     }
 
@@ -111,7 +138,7 @@ impl NewStream {
     /// closed with unread input, and the line might be lost.
     pub(crate) fn refuse(mut self) {
         let _ = self.stream.write(TOO_MANY);
-        let _ = self.stream.shutdown(Shutdown::Write);
+        let _ = self.stream.end_sending();
         let mut dropped = [0u8; DROPPED_BYTES];
         for _ in 0..DROPS {
             if !matches!(self.stream.read(&mut dropped), Ok(DROPPED_BYTES)) {
@@ -124,7 +151,7 @@ impl NewStream {
 /// A stream whose sending half is ended. Its input can only be discarded.
 #[derive(Drop)]
 pub(crate) struct EndedStream {
-    stream: TcpStream,
+    stream: RawStream,
 }
 
 impl EndedStream {
@@ -134,7 +161,7 @@ impl EndedStream {
             return None;
         }
         let stream = served.into_stream();
-        stream.shutdown(Shutdown::Write).ok()?;
+        stream.end_sending().ok()?;
         Some(EndedStream { stream })
     }
 

@@ -12,6 +12,7 @@ ghost use Rattle.net.specs.Ties.{Ties, SocketTies};
 use crate::hand::WAKER;
 use crate::lingering::LingeringStreams;
 use crate::open_stream::{Heard, OpenStream, Reading};
+use crate::peer::Peer;
 use crate::sockets::{EndedStream, NewStream, SocketNote};
 use exchange::{ExchangeName, WorkerBatch};
 use mio::{Events, Poll};
@@ -41,14 +42,16 @@ pub(crate) struct Streams {
     pub(crate) open: HashMap<u64, OpenStream>,
     /// The sessions whose streams are to be read.
     pub(crate) ready: VecDeque<u64>,
-    /// A stream has room that had none.
-    pub(crate) has_room: bool,
+    /// How often a stream had room that had none.
+    pub(crate) rooms: u64,
     pub(crate) lingering: LingeringStreams,
     scratch: Vec<u8>,
     /// The number of the session that was opened last.
     pub(crate) last: u64,
     /// How often idle sessions were looked for.
     pub(crate) looks: u64,
+    /// The peer of the session that was ended last as idle.
+    pub(crate) idle_peer: Peer,
     pub(crate) told: Trace<PortRecord>,
     /// The end was told.
     pub(crate) has_ended: bool,
@@ -80,11 +83,12 @@ impl Streams {
             alloc,
             open: HashMap::with_capacity(alloc, OPEN_SESSIONS)?,
             ready: VecDeque::with_capacity(alloc, OPEN_SESSIONS)?,
-            has_room: false,
+            rooms: 0,
             lingering: LingeringStreams::new(alloc)?,
             scratch: Vec::from_elem(alloc, 0u8, MAX_PIECE)?,
             last: 0,
             looks: 0,
+            idle_peer: Peer::Unknown,
             told: Trace::new(),
             has_ended: false,
             owner,
@@ -143,7 +147,7 @@ impl Streams {
                 continue;
             };
             let has_room = open.hear(heard, self.looks, &mut self.ready);
-            self.has_room = self.has_room || has_room;
+            self.rooms = self.rooms.wrapping_add(u64::from(has_room));
         }
         was_woken
     }
@@ -218,7 +222,8 @@ impl Streams {
         let mut entries = self.open.iter();
         let idle = entries.find(|(_, open)| open.is_idle(self.looks));
         let session = idle.map(|(session, _)| *session)?;
-        let _ = self.open.remove(&session)?;
+        let ended = self.open.remove(&session)?;
+        self.idle_peer = ended.stream.peer();
         self.told.note_as(&PortNote::Gone(session));
         Some(PortEvent::Gone(session))
     }

@@ -2,6 +2,7 @@
 
 use net::{Hand, ListenReport, Listener, Notices, StreamSender};
 use std::alloc::Global;
+use std::fs::Files;
 use std::io::{Read, Write};
 use std::net::{Net, TcpStream};
 use std::process::Abort;
@@ -9,8 +10,8 @@ use std::sync::Wait;
 use std::time::Clock;
 
 /// A listener at a free port of this machine.
-pub(crate) fn listener<R: Net + Abort>(rt: &R, alloc: Global) -> Listener {
-    Listener::bind(rt, alloc, "127.0.0.1:0").expect(rt, "a listener")
+pub(crate) fn listener<R: Net + Files + Abort>(rt: &R, alloc: Global) -> Listener {
+    Listener::bind(rt, alloc, "127.0.0.1:0", 0o700).expect(rt, "a listener")
 }
 
 /// Both ends of a hand for so many streams.

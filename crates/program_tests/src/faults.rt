@@ -3,12 +3,13 @@
 use crate::clients::listener;
 use net::{Listener, NetFault, Refusal};
 use std::alloc::Global;
+use std::fs::Files;
 use std::net::Net;
 use std::process::Abort;
 
 /// Why nothing can be bound at this address.
-fn fault_at<R: Net>(rt: &R, alloc: Global, addr: &str) -> Option<NetFault> {
-    Listener::bind(rt, alloc, addr).err()
+fn fault_at<R: Net + Files>(rt: &R, alloc: Global, addr: &str) -> Option<NetFault> {
+    Listener::bind(rt, alloc, addr, 0o700).err()
 }
 
 #[test]
@@ -19,8 +20,16 @@ fn words_that_are_no_address_are_refused(rt: HostRuntime) {
     }
 }
 
+#[test]
+fn paths_that_no_socket_has_are_refused(rt: HostRuntime) {
+    let fault = fault_at(&rt, rt.alloc(), "unix:");
+    assert!(rt; matches!(fault, Some(NetFault::BadPath)));
+    let fault = fault_at(&rt, rt.alloc(), "unix:/nowhere/at/all");
+    assert!(rt; matches!(fault, Some(NetFault::Refused(Refusal::NoFolder))));
+}
+
 /// A listener's own port can't be bound.
-fn check_bound_once<R: Net + Abort>(rt: &R, alloc: Global, listener: &Listener) {
+fn check_bound_once<R: Net + Files + Abort>(rt: &R, alloc: Global, listener: &Listener) {
     let port = listener.port();
     assert!(*rt; port > 0);
     let addr = format!(in alloc; "127.0.0.1:{port}").expect(rt, "memory");

@@ -5,6 +5,7 @@ use crate::clients::{Unheard, connect_all, hand, handed_out, listener, read_all}
 use crate::common::check_same;
 use net::{Hand, ListenReport, Listener, Notices, StreamSender};
 use std::alloc::Global;
+use std::fs::Files;
 use std::net::{Net, TcpStream};
 use std::process::Abort;
 use std::sync::Wait;
@@ -48,7 +49,7 @@ fn a_full_hand_has_64_streams_and_the_next_is_closed(rt: HostRuntime) {
 /// A listener closes those of 264 streams that find no room in a hand, in about a second.
 fn check_closed<R>(rt: &R, alloc: Global, listener: &mut Listener, hand: StreamSender)
 where
-    R: Wait + Clock + Net<Stream = TcpStream> + Abort,
+    R: Wait + Clock + Net<Stream = TcpStream> + Files + Abort,
 {
     let clients = connect_all(rt, alloc, listener.port(), 264);
     let since = Instant::now(rt).expect(rt, "a clock");
@@ -80,7 +81,7 @@ fn sessions_of<R: Wait + Clock + Net + Abort + Copy + Drop>(
 /// A listener takes three of four streams for a hand for one and another one for two, and ends.
 fn check_used_up<R>(rt: &R, alloc: Global, small: StreamSender, large: StreamSender)
 where
-    R: Wait + Clock + Net<Stream = TcpStream> + Abort,
+    R: Wait + Clock + Net<Stream = TcpStream> + Files + Abort,
 {
     let mut listener = listener(rt, alloc);
     let clients = connect_all(rt, alloc, listener.port(), 4);
@@ -234,7 +235,16 @@ where
 
 fn full_worker<R>(rt: R, alloc: Global) -> FullWorker<R>
 where
-    R: Threads + Wait + Clock + Net<Stream = TcpStream> + Abort + Copy + Drop + Send + 'static,
+    R: Threads
+        + Wait
+        + Clock
+        + Net<Stream = TcpStream>
+        + Files
+        + Abort
+        + Copy
+        + Drop
+        + Send
+        + 'static,
 {
     let mut hands = Vec::new(alloc);
     let mut port = port_of_hand(rt, alloc, &mut hands);
@@ -258,7 +268,7 @@ fn share_of_full<R>(
     count: u64,
 ) -> u64
 where
-    R: Wait + Clock + Net<Stream = TcpStream> + Abort + Drop,
+    R: Wait + Clock + Net<Stream = TcpStream> + Files + Abort + Drop,
 {
     let clients = connect_all(rt, alloc, full.listener.port(), count);
     let hands = full.hands.as_mut_slice();
@@ -280,7 +290,7 @@ where
 /// Beside an empty worker a full one gets streams once it has room.
 fn check_room<R>(rt: R, alloc: Global, full: &mut FullWorker<R>)
 where
-    R: Wait + Clock + Net<Stream = TcpStream> + Abort + Copy + Drop,
+    R: Wait + Clock + Net<Stream = TcpStream> + Files + Abort + Copy + Drop,
 {
     let mut empty = port_of_hand(rt, alloc, &mut full.hands);
     check_shares(&rt, alloc, full, &mut empty);
@@ -289,7 +299,7 @@ where
 /// All streams go to the empty worker, until the full one has room too.
 fn check_shares<R>(rt: &R, alloc: Global, full: &mut FullWorker<R>, empty: &mut AskedPort<R>)
 where
-    R: Wait + Clock + Net<Stream = TcpStream> + Abort + Drop,
+    R: Wait + Clock + Net<Stream = TcpStream> + Files + Abort + Drop,
 {
     check_same(
         rt,
@@ -329,7 +339,7 @@ impl Notices for Said {
 /// Of 70 further streams 6 are closed, which is said once.
 fn check_said<R>(rt: &R, alloc: Global, full: &mut FullWorker<R>)
 where
-    R: Wait + Clock + Net<Stream = TcpStream> + Abort + Drop,
+    R: Wait + Clock + Net<Stream = TcpStream> + Files + Abort + Drop,
 {
     let clients = connect_all(rt, alloc, full.listener.port(), 70);
     let mut said = Said {
@@ -358,7 +368,16 @@ enum Check {
 
 fn check_full<R>(rt: R, alloc: Global, check: Check)
 where
-    R: Threads + Wait + Clock + Net<Stream = TcpStream> + Abort + Copy + Drop + Send + 'static,
+    R: Threads
+        + Wait
+        + Clock
+        + Net<Stream = TcpStream>
+        + Files
+        + Abort
+        + Copy
+        + Drop
+        + Send
+        + 'static,
 {
     let mut full = full_worker(rt, alloc);
     match check {

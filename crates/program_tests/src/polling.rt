@@ -8,8 +8,7 @@ use std::process::Abort;
 use std::sync::Wait;
 use std::time::{Clock, Duration, Instant};
 
-/// So many calls in a row that find nothing are not yet taken not to end. Each fourth of them
-/// polls.
+/// So many calls in a row find nothing. Each fourth of them polls.
 const CALLS: usize = 8_000;
 
 /// So long all of them may take. With polls that wait a millisecond they take two seconds.

@@ -5,6 +5,7 @@ use crate::clients::{connect_all, hand, handed_out, listener, read_all, send};
 use crate::common::check_same;
 use net::StreamSender;
 use std::alloc::Global;
+use std::fs::Files;
 use std::net::{Net, Shutdown, TcpStream};
 use std::process::Abort;
 use std::sync::Wait;
@@ -38,7 +39,7 @@ fn next<R: Wait + Clock + Drop>(port: &mut AskedPort<R>, calls: usize) -> Came {
 /// The clients' ends of `count` streams that a listener has handed out.
 fn clients_with<R>(rt: &R, alloc: Global, hand: StreamSender, count: u64) -> Vec<TcpStream>
 where
-    R: Wait + Clock + Net<Stream = TcpStream> + Abort,
+    R: Wait + Clock + Net<Stream = TcpStream> + Files + Abort,
 {
     let mut listener = listener(rt, alloc);
     let clients = connect_all(rt, alloc, listener.port(), count);
@@ -408,7 +409,7 @@ where
 /// Makes a port with `count` clients, and checks this of it.
 fn check_port<R>(rt: R, alloc: Global, count: u64, check: Check)
 where
-    R: Wait + Clock + Net<Stream = TcpStream> + Abort + Copy + Drop,
+    R: Wait + Clock + Net<Stream = TcpStream> + Files + Abort + Copy + Drop,
 {
     let (of_listener, of_port) = hand(&rt, alloc, count);
     let mut clients = clients_with(&rt, alloc, of_listener, count);

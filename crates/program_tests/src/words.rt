@@ -15,8 +15,8 @@ const IN_FORCE: [(&str, &str); 9] = [
         "--listen 127.0.0.1:0 --workers 2 --segment-size 65536 --segments 64",
     ),
     (
-        "serve --spin 0 --counters-in-place --listen [::1]:11211 --sessions 3",
-        "--listen [::1]:11211 --workers 2 --segment-size 65536 --segments 64 --sessions 3 --spin 0 --update-in-place",
+        "serve --spin 0 --counters-in-place --quiet --listen [::1]:11211 --sessions 3",
+        "--listen [::1]:11211 --workers 2 --segment-size 65536 --segments 64 --sessions 3 --spin 0 --quiet --update-in-place",
     ),
     (
         "serve --listen 127.0.0.1:0 --lenient",

@@ -1,13 +1,13 @@
 -- The lines of `stats`.
-use Rattle.std.proofs.Common.{◌≡◌, ℕ, ◌^◌, ◌<◌, ◌&&◌, ◌||◌, Bool, true, List, [], ◌∷◌, ◌++◌, length, refl, sym, ap, ◌∙◌, append_assoc}
-use Rattle.std.specs.Prelude.{◌==◌, IsTrue, decimal, nat_le, flat_map}
+use Rattle.std.proofs.Common.{◌≡◌, ℕ, ◌^◌, ◌<◌, ◌&&◌, ◌||◌, Bool, true, List, [], ◌∷◌, ◌++◌, length, refl, sym, ap, ◌∙◌, append_assoc, arith}
+use Rattle.std.specs.Prelude.{◌==◌, ◌≤◌, IsTrue, codes, decimal, drop, nat_le, flat_map}
 use Rattle.std.specs.Char.{is_ascii_digit, is_ascii_alphanumeric}
 use Rattle.std.specs.List.{list_all}
 use Rattle.std.specs.Str.{all_ascii_digits}
 use Rattle.std.proofs.lemmas.Bool.{and_parts, and_from, le-leb}
 use Rattle.std.proofs.lemmas.Fmt.{digits_decimal, decimal_nonempty}
 use Rattle.std.proofs.lemmas.Grind.{flat_map-append}
-use Rattle.std.proofs.lemmas.List.{append-nil}
+use Rattle.std.proofs.lemmas.List.{append-nil, length-append}
 use Rattle.std.proofs.lemmas.List.Folds.{list_all-append}
 use Rattle.std.proofs.lemmas.Str.Parse.{numerals_by_value, tells_all_ascii_digits}
 use Rattle.proto.specs.declared.counts.Counts.{Counts}
@@ -34,6 +34,29 @@ decimal_plain n small =
     let digits = digits_decimal (numerals_by_value (λ ds. all_ascii_digits ds ≡ true) tells_all_ascii_digits) n small in
     and_from (nat_le 1 (length (decimal n))) (list_all is_plain_byte (decimal n))
     (le-leb 1 (length (decimal n)) (decimal_nonempty n small)) (digits_plain (decimal n) digits)
+
+-- what is plain byte for byte is so behind its first byte
+behind_plain : (l : List ℕ) → list_all is_plain_byte l ≡ true → list_all is_plain_byte (drop 1 l) ≡ true
+behind_plain [] e = refl
+behind_plain (c ∷ cs) e = (and_parts (is_plain_byte c) (list_all is_plain_byte cs) e).1
+
+-- a number, a point and what is behind the first digit of a number are a plain word
+pub seconds_plain : (n m : ℕ) → n < 2 ^ 64 → m < 2 ^ 64
+    → IsTrue (is_plain ((decimal n ++ codes ".") ++ drop 1 (decimal m)))
+seconds_plain n m small few =
+    let whole = and_parts (nat_le 1 (length (decimal n))) (list_all is_plain_byte (decimal n)) (decimal_plain n small) in
+    let part = and_parts (nat_le 1 (length (decimal m))) (list_all is_plain_byte (decimal m)) (decimal_plain m few) in
+    let front : list_all is_plain_byte (decimal n ++ codes ".") ≡ true =
+    list_all-append is_plain_byte (decimal n) (codes ".") ∙ and_from (list_all is_plain_byte (decimal n)) true whole.1 refl in
+    let all : list_all is_plain_byte ((decimal n ++ codes ".") ++ drop 1 (decimal m)) ≡ true =
+    list_all-append is_plain_byte (decimal n ++ codes ".") (drop 1 (decimal m))
+    ∙ and_from (list_all is_plain_byte (decimal n ++ codes ".")) (list_all is_plain_byte (drop 1 (decimal m))) front
+    (behind_plain (decimal m) part.1) in
+    let some : 1 ≤ length ((decimal n ++ codes ".") ++ drop 1 (decimal m)) =
+    let a = length-append (decimal n ++ codes ".") (drop 1 (decimal m)) in
+    let b = length-append (decimal n) (codes ".") in
+    let c = decimal_nonempty n small in omega (arith, a, b, c) in
+    and_from (nat_le 1 (length ((decimal n ++ codes ".") ++ drop 1 (decimal m)))) _ (le-leb 1 _ some) all
 
 -- a line of a gauge
 abbrev is_line : Counts → List ℕ × List ℕ → Bool

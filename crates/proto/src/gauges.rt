@@ -19,6 +19,9 @@ pub enum Gauge {
     /// The moment of the `stats`.
     Time,
     PointerSize,
+    /// Microseconds for which processors ran the process, and the system for it.
+    UserTime,
+    SystemTime,
     Threads,
     /// Connections that workers have open.
     CurrConnections,
@@ -34,6 +37,8 @@ pub enum Gauge {
     MaxConnections,
     /// 1 while a worker has room for a connection, else 0.
     AcceptingConnections,
+    /// The port of TCP, or 0.
+    TcpPort,
     /// Connections that were ended as idle.
     IdleKicks,
     BytesRead,
@@ -60,6 +65,10 @@ pub enum Gauge {
     /// Bytes of the current items.
     Bytes,
     CurrItems,
+    /// The most bytes that an item may take.
+    ItemLimit,
+    /// How often an item was looked up whose deadline had come.
+    GetExpired,
     Evictions,
     EvictedByMerge,
     EvictedByClearing,
@@ -97,17 +106,24 @@ pub const WORKER_GAUGES: [Gauge; 14] = [
 ];
 
 /// What the listener tells.
-pub const LISTENER_GAUGES: [Gauge; 5] = [
+pub const LISTENER_GAUGES: [Gauge; 8] = [
     Gauge::RejectedConnections,
     Gauge::ListenDisabled,
     Gauge::ConnectionsWaiting,
     Gauge::MaxConnections,
     Gauge::AcceptingConnections,
+    Gauge::TcpPort,
+    Gauge::UserTime,
+    Gauge::SystemTime,
 ];
 
-/// Each gauge with the name under which it is told, in the order in which they are told.
+/// How many gauges there are.
+const GAUGES: usize = Gauge::MergeLongest as usize + 1;
+
+/// Each gauge that is told as a whole number, with its name, in the order in which they are told. Those that memcached tells as
+/// settings come once more, under their names there.
 #[tactic(auto, unfolding(crate::specs::StatTexts::names_gauge, crate::specs::StatTexts::count_lines, crate::specs::StatTexts::total_lines, crate::specs::StatTexts::tally_lines))]
-pub(crate) fn gauge_names() -> [(Gauge, &'static [u8]); 40]
+pub(crate) fn gauge_names() -> [(Gauge, &'static [u8]); 46]
     ensures { (c : Counts) → IsTrue (list_all (λ row. names_gauge c row.1.now) result) }
 {
     [
@@ -139,6 +155,7 @@ pub(crate) fn gauge_names() -> [(Gauge, &'static [u8]); 40]
         (Gauge::LimitBytes, b"limit_maxbytes"),
         (Gauge::Bytes, b"bytes"),
         (Gauge::CurrItems, b"curr_items"),
+        (Gauge::GetExpired, b"get_expired"),
         (Gauge::Evictions, b"evictions"),
         (Gauge::EvictedByMerge, b"evicted_by_merge"),
         (Gauge::EvictedByClearing, b"evicted_by_clearing"),
@@ -151,6 +168,11 @@ pub(crate) fn gauge_names() -> [(Gauge, &'static [u8]); 40]
         (Gauge::Merges, b"merges"),
         (Gauge::SegmentsCleared, b"segments_cleared"),
         (Gauge::MergeLongest, b"merge_us_max"),
+        (Gauge::LimitBytes, b"maxbytes"),
+        (Gauge::MaxConnections, b"maxconns"),
+        (Gauge::TcpPort, b"tcpport"),
+        (Gauge::Threads, b"num_threads"),
+        (Gauge::ItemLimit, b"item_size_max"),
     ]
 }
 
@@ -195,9 +217,8 @@ impl Gauges {
     ///
     /// AllocError if out of memory.
     pub fn new(alloc: Global) -> Result<Gauges, AllocError> {
-        let gauges = gauge_names();
-        let mut words = Vec::with_capacity(alloc, gauges.len())?;
-        for _ in gauges {
+        let mut words = Vec::with_capacity(alloc, GAUGES)?;
+        for _ in 0..GAUGES {
             words.push(AtomicU64::new(0))?;
         }
         Ok(Gauges {

@@ -58,6 +58,6 @@ pub use storage_line::{StorageLineView, StoreMode};
 pub use system_clock::{ClockAnswer, SystemClock};
 pub use terms::Terms;
 pub use trace::{Noted, Trace};
-pub use version::VERSION;
+pub use version::{TOLD_VERSION, VERSION};
 pub use view::{MessageView, NextView, next_view, next_view_behind};
 pub use words::{Words, number};

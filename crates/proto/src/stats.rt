@@ -1,6 +1,6 @@
 //! The lines of a `stats`, as text.
 
-ghost use Rattle.std.specs.Prelude.{◌≡◌, ◌++◌, IsTrue, IfOk, OnOk, decimal, flat_map};
+ghost use Rattle.std.specs.Prelude.{◌≡◌, ◌++◌, IsTrue, IfOk, OnOk, decimal, drop, flat_map};
 ghost use Rattle.proto.specs.StatTexts.{stat_bytes, number_bytes, tally_lines, count_lines, is_plain};
 ghost use Rattle.proto.specs.StatTexts.{names_gauge, IsStats};
 
@@ -15,6 +15,19 @@ use std::snapshot::Snapshot;
 
 /// The room that is taken first: the lines have less than 3,000 bytes.
 const FIRST_ROOM: usize = 4096;
+
+/// The room of a number of seconds: twenty digits at most, a point and six more.
+const SECONDS_ROOM: usize = 32;
+
+/// The bytes behind the first one.
+fn behind_first(bytes: &[u8]) -> &[u8]
+    ensures { result.now ≡ drop 1 bytes.now }
+{
+    match bytes.split_first() {
+        Some((_, behind)) => behind,
+        None => bytes,
+    }
+}
 
 /// Appends a line.
 #[tactic(auto, unfolding(crate::specs::StatTexts::stat_bytes))]
@@ -126,6 +139,27 @@ impl StatsText {
     {
         let mut buffer = Buffer::new();
         self.with_word(name, buffer.format(n).as_bytes())
+    }
+
+    /// The same, of a gauge whose value is a number of microseconds. It is told in seconds, with six digits behind the point.
+    pub fn with_seconds(
+        self,
+        alloc: Global,
+        name: &[u8],
+        micros: u64,
+    ) -> Result<StatsText, NoMemory>
+        requires name { IsTrue (names_gauge self name.now) }
+        ensures { IfOk result (λ text. text ≡ self) }
+    {
+        let mut whole = Buffer::new();
+        let mut part = Buffer::new();
+        let mut value = Vec::with_capacity(alloc, SECONDS_ROOM)?;
+        value.extend_from_slice(whole.format(micros / 1_000_000).as_bytes())?;
+        value.extend_from_slice(b".")?;
+        // (six digits behind a first one)
+        let digits = part.format(1_000_000 + micros % 1_000_000).as_bytes();
+        value.extend_from_slice(behind_first(digits))?;
+        self.with_word(name, value.as_slice())
     }
 
     /// The same with a line for each gauge.

@@ -1,8 +1,8 @@
 //! Sessions are opened, fed, read and answered after a refusal.
 
 use bytes::Bytes;
-use proto::{Answered, ClockAnswers, Dialect, NoMemory, Reply, Request};
-use session_book::{Book, EndCause, OpenFault, Received, Settled};
+use proto::{Answered, ClockAnswers, Dialect, Reply, Request};
+use session_book::{Book, EndCause, OpenFault, Received, Settled, Unasked};
 use std::alloc::Global;
 
 const INPUT: &[u8] = b"set key 0 0 5\r\nvalue\r\nfoo\r\ndelete key\r\nquit\r\nget key\r\n";
@@ -33,7 +33,7 @@ fn begin(book: &mut Book) -> Option<()> {
 }
 
 /// Asks for the next request, again if out of memory.
-fn next_ask(book: &mut Book) -> Result<Option<(Request, u64)>, NoMemory> {
+fn next_ask(book: &mut Book) -> Result<Option<(Request, u64)>, Unasked> {
     match book.next_ask(1) {
         Ok(asked) => Ok(asked),
         Err(_) => book.next_ask(1),

@@ -99,14 +99,15 @@ any_opened s (was.Accepted t bytes ∷ events) = any_opened s events
 any_opened s (was.Shut t ∷ events) = any_opened s events
 
 -- a cause that fits the list and the messages of a session fits the messages alone
-may_end : (events : List PortRecord) (s : ℕ) → is_in (was.EndOfInput s) events ≡ false → (messages : List Message) (cause : EndCause)
-    → IsCauseOf events s messages cause → MayEnd messages cause
-may_end events s never messages causes.Drained caused = caused.3
-may_end events s never messages causes.EndOfInput caused = true≢false (sym caused.0 ∙ never)
-may_end events s never messages causes.Quit caused = caused.1
-may_end events s never messages causes.Fatal caused = (caused.1, caused.2)
-may_end events s never messages causes.Gone caused = tt
-may_end events s never messages causes.NoMemory caused = tt
+may_end : (d : Dialect) (events : List PortRecord) (s : ℕ) → is_in (was.EndOfInput s) events ≡ false → (messages : List Message)
+    (cause : EndCause) → IsCauseOf d events s messages cause → MayEnd d messages cause
+may_end d events s never messages causes.Drained caused = caused.3
+may_end d events s never messages causes.EndOfInput caused = true≢false (sym caused.0 ∙ never)
+may_end d events s never messages causes.Quit caused = caused.1
+may_end d events s never messages causes.Fatal caused = (caused.1, caused.2)
+may_end d events s never messages causes.Gone caused = tt
+may_end d events s never messages causes.NoMemory caused = tt
+may_end d events s never messages causes.Unread caused = caused.1
 
 -- what holds of the sessions of all requests of a list, as they were posted, holds of an entry's
 posted_there : (P : ℕ → Type 0) (entries : List Answered) → All (λ (p : Posted). P p.session) (asked_posted entries)
@@ -122,7 +123,7 @@ module _ (d : Dialect) (history : List Answered) (w : ℕ) (events : List Script
     (listed : AreListed worker.port.player.records worker.sent worker.sessions.items worker.unopened)
     (answered : (s : ℕ) (cause : EndCause) (messages : List Message) (rest : List ℕ)
     → cause_of worker.sessions.items s ≡ Some cause → Reads d (fed s worker.port.player.records) messages rest
-    → IsSessionAnswered worker.port.player.records history w s cause messages)
+    → IsSessionAnswered d worker.port.player.records history w s cause messages)
     (played : IsPlayed events worker.port.player.records can_fail) (asked_to : can_fail ≡ true → 0 < fail_give) where
   one_outcome : (s : ℕ) → IsOutcomeOf d history w fail_give events (outcome_of worker s)
   one_outcome s =
@@ -138,7 +139,7 @@ module _ (d : Dialect) (history : List Answered) (w : ℕ) (events : List Script
           reads = reading.2;
           answers = a.answers;
           complete = a.complete;
-          may_end = may_end l s (played.never_over s) reading.0 cause a.caused;
+          may_end = may_end d l s (played.never_over s) reading.0 cause a.caused;
         };
         gone_by = λ found. ⊎_elim (λ line. inl line) (λ could. inr (asked_to could))
             (played.gone_by s (answered s causes.Gone reading.0 reading.1 found reading.2).caused);
@@ -246,8 +247,10 @@ replayed sizes d exact clock workers accept fail_give text scripts read exchange
           subst (AreOutcomesOf d run.history w fail_give events) x.2
           (worker_outcomes d run.history w events x.0 fail_give x.0.port.player.can_fail of.exactly
           (of.listed (script_trace x.0.port) told_is)
-          (λ s cause messages rest found reads. of.answered (script_trace x.0.port) told_is s cause messages rest found
-          (subst (λ (e : Dialect). Reads e (fed s x.0.port.player.records) messages rest) (sym dialect_is) reads))
+          (λ s cause messages rest found reads.
+          subst (λ (e : Dialect). IsSessionAnswered e x.0.port.player.records run.history w s cause messages) dialect_is
+          (of.answered (script_trace x.0.port) told_is s cause messages rest found
+          (subst (λ (e : Dialect). Reads e (fed s x.0.port.player.records) messages rest) (sym dialect_is) reads)))
           (subst (λ (s : List ScriptEvent). IsPlayed s x.0.port.player.records x.0.port.player.can_fail) script_is
           (played w x.0 x.1 plays))
           (λ could. lt_true 0 fail_give (sym can_fail_is ∙ could)));

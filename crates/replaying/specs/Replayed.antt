@@ -5,6 +5,7 @@ use Rattle.std.specs.List.{list_any, last_or}
 use mathlib.Core.Option.{some}
 use lib.ListN.{get_elem?}
 use Rattle.proto.specs.declared.dialect.Dialect.{Dialect}
+use Rattle.proto.specs.declared.dialect.Dialect.TheVariants.{Lenient}
 use Rattle.proto.specs.declared.message.FatalKind.{FatalKind}
 use Rattle.proto.specs.declared.message.Message.{Message}
 use Rattle.proto.specs.declared.message.Message.TheVariants.{Quit, Fatal}
@@ -33,14 +34,15 @@ pub record SessionOutcome : Type 0 where
   pub given : List ℕ
   pub cause : Option EndCause
 
--- a session whose bytes spell these messages may have ended so
-abbrev pub MayEnd : List Message → EndCause → Type 0
-MayEnd messages causes.Drained = list_any ends_session messages ≡ false
-MayEnd messages causes.EndOfInput = ⊥
-MayEnd messages causes.Gone = ⊤
-MayEnd messages causes.NoMemory = ⊤
-MayEnd messages causes.Quit = last_or None messages ≡ Some Quit
-MayEnd messages causes.Fatal = (kind : FatalKind) × (last_or None messages ≡ Some (Fatal kind))
+-- a session whose bytes spell these messages in this dialect may have ended so
+abbrev pub MayEnd : Dialect → List Message → EndCause → Type 0
+MayEnd d messages causes.Drained = list_any ends_session messages ≡ false
+MayEnd d messages causes.EndOfInput = ⊥
+MayEnd d messages causes.Gone = ⊤
+MayEnd d messages causes.NoMemory = ⊤
+MayEnd d messages causes.Unread = d ≡ Lenient
+MayEnd d messages causes.Quit = last_or None messages ≡ Some Quit
+MayEnd d messages causes.Fatal = (kind : FatalKind) × (last_or None messages ≡ Some (Fatal kind))
 
 -- What came of a session spells some messages in this dialect. Its requests in the history are the first of theirs, and
 -- it was given a beginning of their answers there; of all messages, and all answers, where it drained or ended by Quit
@@ -51,10 +53,10 @@ pub record GivesAnswersOf (d : Dialect) (history : List Answered) (worker : ℕ)
   pub rest : List ℕ
   pub reads : Reads d outcome.came messages rest
   pub answers : BeginsAnswers history worker outcome.number outcome.given messages
-  pub complete : cause ≢ causes.Gone → cause ≢ causes.NoMemory
+  pub complete : cause ≢ causes.Gone → cause ≢ causes.NoMemory → cause ≢ causes.Unread
       → (asked (session_share history worker outcome.number) ≡ asks messages)
       × (outcome.given ≡ said messages (had (session_share history worker outcome.number)))
-  pub may_end : MayEnd messages cause
+  pub may_end : MayEnd d messages cause
 
 -- A beginning of the bytes that the script sends a session came, and all of them where it drained. One that found no
 -- room was given nothing; each other one was given its answers. It ended as gone only where the script says that its

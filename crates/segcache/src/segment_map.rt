@@ -36,6 +36,8 @@ pub struct SegmentMap {
     read_ahead: AtomicU64,
     /// For `stats` alone.
     pub(crate) counts: StoreCounts,
+    /// How often an item was looked up whose deadline had come.
+    expired_gets: AtomicU64,
 }
 
 impl Model for SegmentMap {
@@ -291,6 +293,8 @@ impl LiveMap for SegmentMap {
             (Gauge::Segments, segments),
             (Gauge::SegmentsFree, free),
             (Gauge::CurrItems, self.index.len() as u64),
+            (Gauge::ItemLimit, u64::from(geometry.item_limit())),
+            (Gauge::GetExpired, self.expired_gets.load(Ordering::Relaxed)),
             (Gauge::Bytes, counts.bytes),
             (Gauge::DeadBytes, used.saturating_sub(counts.bytes)),
             (Gauge::Evictions, counts.evicted_keys()),
@@ -315,6 +319,9 @@ impl LiveMap for SegmentMap {
         let place = self.index.look_up(&self.pool, key)?;
         let entry = entry_at(&self.pool, place);
         if has_arrived(entry.deadline, self.moment) {
+            let expired = self.expired_gets.load(Ordering::Relaxed);
+            self.expired_gets
+                .store(expired.wrapping_add(1), Ordering::Relaxed);
             return None;
         }
         Some((entry, place))
@@ -399,6 +406,7 @@ impl StoreMap for SegmentMap {
             moment: 0,
             read_ahead: AtomicU64::new(0),
             counts: StoreCounts::default(),
+            expired_gets: AtomicU64::new(0),
         })
     }
 

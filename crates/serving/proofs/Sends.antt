@@ -21,6 +21,14 @@ use Rattle.net.specs.contracts.streams.Streams as streams
 use Rattle.net.specs.contracts.hand.Hand as hand
 use Rattle.net.specs.contracts.hand.Shared as ends
 use Rattle.net.specs.contracts.sockets.NewStream as new_stream
+use Rattle.net.specs.contracts.lingering.LingeringStreams as lingering
+use Rattle.net.specs.contracts.peer.Peer as peer
+use Rattle.net.specs.contracts.closings.Closing as closing
+use Rattle.net.specs.contracts.closings.Slot as slot
+use Rattle.bytes.specs.contracts.shared.Bytes as bytes
+use Rattle.bytes.proofs.Crosses.{block-send, block-sync}
+use Rattle.bytes.proofs.block.Seen.TheSendSync.Send.{send as seen-send}
+use Rattle.bytes.proofs.block.Seen.TheSendSync.Sync.{sync as seen-sync}
 use Rattle.crossbeam_queue.specs.contracts.array_queue.plain.ArrayQueue as queue
 use Rattle.atomic_table.proofs.Rights.{right_send}
 use Rattle.std_heap.specs.contracts.Global as heap
@@ -46,8 +54,14 @@ name_sends = search (crosses, sendable) depth 20
 opened_sends : IsSend opened.the_row
 opened_sends = search (crosses, trace_sends, sendable) depth 30
 
+peer_sends : IsSend peer.the_row
+peer_sends = search (crosses, sendable) depth 30
+
+lingering_sends : IsSend lingering.the_row
+lingering_sends = search (crosses, sendable) depth 40 fits 20000
+
 streams_send : IsSend (Struct (shape streams.the_type))
-streams_send = search (crosses, maps.crosses, opened_sends, told_sends, name_sends, trace_sends, sendable) depth 40
+streams_send = search (crosses, maps.crosses, opened_sends, lingering_sends, peer_sends, told_sends, name_sends, trace_sends, sendable) depth 40 fits 20000
 
 shared_send : (S V K P : RattleType) (g : Ghosts P.Denot S.Denot V.Denot K.Denot) → IsSend S → IsSend (shared.the_row S V K P g)
 shared_send S V K P g s = record {
@@ -79,11 +93,29 @@ lease_sync T A g f = record { shared = λ d b o ν q. part_keyless (lease.the_ro
 queue_sync : IsSync (Struct (shape (queue.the_type new_stream.the_row heap.the_row ghosts)))
 queue_sync = search (crosses, new_sends, shared_sync, lease_sync, sendable) depth 60
 
+bytes_send : IsSend (bytes.the_row heap.the_row ghosts)
+bytes_send = search (crosses, block-send, block-sync, seen-send, seen-sync, sendable) depth 60 fits 20000
+
+closing_sends : IsSend closing.the_row
+closing_sends = search (crosses, bytes_send, peer_sends, sendable) depth 60
+
+told_queue_send : IsSend (Struct (shape (queue.the_type closing.the_row heap.the_row ghosts)))
+told_queue_send = search (crosses, closing_sends, shared_send, right_send, sendable) depth 60
+
+told_queue_sync : IsSync (Struct (shape (queue.the_type closing.the_row heap.the_row ghosts)))
+told_queue_sync = search (crosses, closing_sends, shared_sync, lease_sync, sendable) depth 60
+
+slot_send : IsSend slot.the_row
+slot_send = search (crosses, told_queue_send, sendable) depth 30
+
+slot_sync : IsSync slot.the_row
+slot_sync = search (crosses, told_queue_sync, sendable) depth 30
+
 ends_send : IsSend ends.the_row
-ends_send = search (crosses, queue_send, sendable) depth 30
+ends_send = search (crosses, queue_send, slot_send, sendable) depth 30 fits 5000
 
 ends_sync : IsSync ends.the_row
-ends_sync = search (crosses, queue_sync, sendable) depth 30
+ends_sync = search (crosses, queue_sync, slot_sync, sendable) depth 30 fits 5000
 
 hand_sends : IsSend (Struct (shape hand.the_type))
 hand_sends = search (crosses, ends_send, ends_sync, sendable) depth 60
@@ -94,14 +126,17 @@ port_sends R sends =
     let fields : AllSend (shape port_type).fields = (
       sends,
       (
-        hand_sends,
+        search (crosses, sendable) depth 30,
         (
-          search (crosses, sendable) depth 30,
+          hand_sends,
           (
             search (crosses, sendable) depth 30,
             (
-              streams_send,
-              (search sendable depth 30, (search sendable depth 30, (search sendable, (search sendable, (search sendable, tt))))),
+              search (crosses, sendable) depth 30,
+              (
+                streams_send,
+                (search sendable depth 30, (search sendable depth 30, (search sendable, (search sendable, (search sendable, tt))))),
+              ),
             ),
           ),
         ),

@@ -1,14 +1,16 @@
 -- What `segcached serve` prints once it listens.
-use Rattle.std.specs.Prelude.{◌≡◌, ℕ, List, ◌++◌, codes, decimal, Option}
+use Rattle.std.specs.Prelude.{◌≡◌, ◌⊎◌, ℕ, List, ◌++◌, codes, decimal, Option, true}
+use Rattle.net.specs.Listening.{is_path}
 use Rattle.std.specs.Io.KnownBytes.{Appends}
 use Rattle.std.specs.Str.Pattern.{SplitsAroundMatch, RFindsChar}
 
--- the line of an address, with the real port in place of what follows its last colon
+-- the line of an address: of a path itself, and else with the real port in place of what follows its last colon
 abbrev pub IsListeningLine : List ℕ → ℕ → List ℕ → Type 0
 IsListeningLine listen port line =
-    (host : List ℕ) × (rest : List ℕ)
+    ((is_path listen ≡ true) × (line ≡ codes "listening on " ++ listen ++ codes "\n"))
+    ⊎ ((host : List ℕ) × (rest : List ℕ)
     × SplitsAroundMatch (RFindsChar 58) listen host rest
-    × (line ≡ codes "listening on " ++ host ++ codes ":" ++ decimal port ++ codes "\n")
+    × (line ≡ codes "listening on " ++ host ++ codes ":" ++ decimal port ++ codes "\n"))
 
 -- what a writer was given, as far as it tells, grew by this line of an address, with some port
 abbrev pub IsAnnounced : List ℕ → Option (List ℕ) → Option (List ℕ) → Type 0

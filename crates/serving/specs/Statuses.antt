@@ -8,6 +8,7 @@ use Rattle.serving.specs.declared.fault.Fault.TheVariants as fault
 -- 2 where the options name no address, else 3: the address can't be had now
 abbrev pub listen_status : NetFault → ℕ
 listen_status net.BadAddress = 2
+listen_status net.BadPath = 2
 listen_status (net.Refused refusal) = 3
 listen_status net.NoMemory = 3
 

@@ -42,7 +42,7 @@ impl Fault {
         match self {
             Fault::BadGeometry => 2,
             Fault::CannotListen(_, why) => match why {
-                NetFault::BadAddress => 2,
+                NetFault::BadAddress | NetFault::BadPath => 2,
                 _ => 3,
             },
             _ => 1,

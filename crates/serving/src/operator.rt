@@ -1,9 +1,13 @@
 //! What an operator is told while it serves.
 
+use crate::closing_text::ClosingText;
+use crate::memory::mebibytes;
+use crate::usage::processor_times;
 use mio::unix::SourceFd;
 use mio::{Events, Interest, Poll, Token};
-use net::Notices;
+use net::{Closing, Notices, ProcessorTimes};
 use std::alloc::Global;
+use std::fs::Files;
 use std::io::Eprint;
 use std::net::Net;
 use std::os::fd::RawFd;
@@ -52,12 +56,18 @@ impl Watch {
 pub(crate) struct Operator<H: Drop> {
     pub(crate) rt: H,
     pub(crate) watch: Option<Watch>,
+    /// Tells of no connections that were closed.
+    pub(crate) is_quiet: bool,
 }
 
 impl<H: Eprint + Net + Drop> Operator<H> {
     pub(crate) fn new(rt: H, alloc: Global) -> Operator<H> {
         let watch = Watch::new(&rt, alloc);
-        Operator { rt, watch }
+        Operator {
+            rt,
+            watch,
+            is_quiet: false,
+        }
     }
 }
 
@@ -76,6 +86,22 @@ impl<H: Eprint + Drop> Operator<H> {
         }
     }
 
+    /// Tells how much memory it may take at most, and warns if its control group has a limit below that.
+    pub(crate) fn may_take(&mut self, most: u64, limit: Option<u64>) {
+        let most_mebibytes = mebibytes(most);
+        if self.can_write() {
+            let _ = eprintln!(self.rt; "segcached: takes {most_mebibytes} MiB of memory at most");
+        }
+        if let Some(limit) = limit {
+            if limit < most && self.can_write() {
+                let limit = mebibytes(limit);
+                let _ = eprintln!(self.rt;
+                    "segcached: warning: its control group may have {limit} MiB, so the kernel may kill it"
+                );
+            }
+        }
+    }
+
     /// Tells that it has ended.
     pub(crate) fn has_ended(&mut self) {
         if self.can_write() {
@@ -84,7 +110,7 @@ impl<H: Eprint + Drop> Operator<H> {
     }
 }
 
-impl<H: Eprint + Drop> Notices for Operator<H> {
+impl<H: Eprint + Files + Drop> Notices for Operator<H> {
     fn workers_are_full(&mut self, waiting: usize, closed: u64) {
         if self.can_write() {
             let _ = eprintln!(self.rt;
@@ -99,5 +125,16 @@ impl<H: Eprint + Drop> Notices for Operator<H> {
                 "connections can't be accepted, {failed} times so far: descriptors or memory are missing"
             );
         }
+    }
+
+    fn connection_closed(&mut self, closing: &Closing, more: u64) {
+        if !self.is_quiet && self.can_write() {
+            let text = ClosingText { closing, more };
+            let _ = eprintln!(self.rt; "{text}");
+        }
+    }
+
+    fn processor_times(&mut self) -> Option<ProcessorTimes> {
+        processor_times(&self.rt)
     }
 }

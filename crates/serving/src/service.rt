@@ -10,14 +10,16 @@ ghost use Rattle.net.specs.Traces.{trace_of, IsNew};
 ghost use Rattle.serving.specs.Runs.{AreNewPorts, IsSetUp, IsServed};
 
 use crate::fault::Fault;
+use crate::memory::{group_limit, most_bytes};
 use crate::operator::{Operator, Watch};
 use command_line::{ServeOptions, on_one_line, options_in_force};
 use exchange::Exchange;
 use group::{Config, GroupReport, Runtime, run_group};
-use net::{Hand, ListenReport, Listener, MioPort, NetFault, Owner, StreamSender};
+use net::{Hand, ListenReport, Listener, MioPort, NetFault, Owner, StreamSender, is_path};
 use proto::{Geometry, Storage, SystemClock, Terms};
 use segcache::Store;
 use std::alloc::Global;
+use std::fs::Files;
 use std::io::{Eprint, Write};
 use std::net::Net;
 use std::sync::Wait;
@@ -26,19 +28,19 @@ use std::time;
 use worker::OpenGate;
 
 /// What serving asks of the system.
-pub trait System: Runtime + Net + Eprint + Copy + Drop + Send + 'static {}
+pub trait System: Runtime + Net + Files + Eprint + Copy + Drop + Send + 'static {}
 
-impl<H: Runtime + Net + Eprint + Copy + Drop + Send + 'static> System for H {}
+impl<H: Runtime + Net + Files + Eprint + Copy + Drop + Send + 'static> System for H {}
 
 /// What a served group leaves.
 pub type Report<H> = GroupReport<MioPort<H>, SystemClock<H>>;
 
-/// That it can't listen, for this reason.
-fn cannot_listen(alloc: Global, options: &ServeOptions, fault: NetFault) -> Fault {
+/// That it can't listen at the address, for this reason.
+fn cannot_listen(alloc: Global, addr: &str, fault: NetFault) -> Fault {
     if matches!(fault, NetFault::NoMemory) {
         return Fault::NoMemory;
     }
-    match on_one_line(alloc, options.listen.as_str()) {
+    match on_one_line(alloc, addr) {
         Ok(addr) => Fault::CannotListen(addr, fault),
         Err(_) => Fault::NoMemory,
     }
@@ -110,14 +112,20 @@ fn make_ports<H: Wait + Net + time::Clock + Copy + Drop>(
     Ok((hands, ports))
 }
 
-/// The line of the options' address, with the real port after its last colon.
+/// The line of the options' first address: a path, or an address with the real port after its last colon.
 fn listening_line(alloc: Global, options: &ServeOptions, port: u16) -> Result<String, Fault>
     ensures { IfOk result (λ line. IsListeningLine (string_bytes options.entry.now.listen) port (string_bytes line)) }
 {
-    let Some((host, _)) = options.listen.rsplit_once(':') else {
-        return Err(cannot_listen(alloc, options, NetFault::BadAddress));
-    };
+    let listen = options.listen.as_str();
     let mut line = String::from_str(alloc, "listening on ")?;
+    if is_path(listen) {
+        line.push_str(listen)?;
+        line.push_str("\n")?;
+        return Ok(line);
+    }
+    let Some((host, _)) = listen.rsplit_once(':') else {
+        return Err(cannot_listen(alloc, listen, NetFault::BadAddress));
+    };
     line.push_str(host)?;
     line.push_str(":")?;
     line.push_str(port.to_string(alloc)?.as_str())?;
@@ -125,11 +133,12 @@ fn listening_line(alloc: Global, options: &ServeOptions, port: u16) -> Result<St
     Ok(line)
 }
 
-/// Tells the operator the options in force, and prints that it listens, with the real port.
-fn announce<H: Eprint + Net + Drop, W: Write>(
+/// Tells the operator the options in force and the memory that they may take, and prints that it listens, with the real port.
+fn announce<H: Eprint + Net + Files + Drop, W: Write>(
     rt: H,
     alloc: Global,
     options: &ServeOptions,
+    geometry: Geometry,
     port: u16,
     out: &mut W,
 ) -> Result<(), Fault>
@@ -137,7 +146,10 @@ fn announce<H: Eprint + Net + Drop, W: Write>(
         × Appends (W.contents out.old) (W.contents out.new) line) }
 {
     let in_force = options_in_force(alloc, options)?;
-    Operator::new(rt, alloc).serves_with(in_force.as_str());
+    let limit = group_limit(&rt, alloc);
+    let mut operator = Operator::new(rt, alloc);
+    operator.serves_with(in_force.as_str());
+    operator.may_take(most_bytes(options, geometry), limit);
     let line = listening_line(alloc, options, port)?;
     if out.write_all(line.as_bytes()).is_err() || out.flush().is_err() {
         return Err(Fault::CannotWrite);
@@ -167,8 +179,27 @@ struct Opened<H: Drop> {
     store: Store,
 }
 
-/// Listens on the options' address, and makes the rest.
-fn open<H: Wait + Net + time::Clock + Copy + Drop>(
+/// Listens on the options' addresses.
+fn listen<H: Net + Files>(
+    rt: &H,
+    alloc: Global,
+    options: &ServeOptions,
+) -> Result<Listener, Fault> {
+    let (first, mode) = (options.listen.as_str(), options.socket_mode);
+    let mut listener = match Listener::bind(rt, alloc, first, mode) {
+        Ok(listener) => listener,
+        Err(fault) => return Err(cannot_listen(alloc, first, fault)),
+    };
+    for addr in &options.also {
+        if let Err(fault) = listener.also(rt, addr.as_str(), mode) {
+            return Err(cannot_listen(alloc, addr.as_str(), fault));
+        }
+    }
+    Ok(listener)
+}
+
+/// Listens on the options' addresses, and makes the rest.
+fn open<H: Wait + Net + Files + time::Clock + Copy + Drop>(
     rt: H,
     alloc: Global,
     options: &ServeOptions,
@@ -178,14 +209,11 @@ fn open<H: Wait + Net + time::Clock + Copy + Drop>(
     ensures { IfOk result (λ opened. IsSetUp geometry seed options.entry.now opened.exchange opened.ports.items
         opened.store) }
 {
-    let listener = match Listener::bind(&rt, alloc, options.listen.as_str()) {
-        Ok(listener) => listener,
-        Err(fault) => return Err(cannot_listen(alloc, options, fault)),
-    };
+    let listener = listen(&rt, alloc, options)?;
     let exchange = Exchange::new(alloc, options.workers as usize, terms_of(geometry))?;
     let (hands, ports) = match make_ports(rt, alloc, geometry, &exchange, options) {
         Ok(made) => made,
-        Err(fault) => return Err(cannot_listen(alloc, options, fault)),
+        Err(fault) => return Err(cannot_listen(alloc, options.listen.as_str(), fault)),
     };
     let store = Store::seeded(
         alloc,
@@ -239,17 +267,22 @@ fn announce_and_listen<H: System, W: Write>(
     mut listener: Listener,
     mut hands: Vec<StreamSender>,
     options: &ServeOptions,
+    geometry: Geometry,
     out: &mut W,
 ) -> Result<JoinHandle<ListenReport>, Fault>
     ensures { OnOk result (IsAnnounced (string_bytes options.entry.now.listen)
         (W.contents out.old) (W.contents out.new)) }
 {
-    announce(rt, alloc, options, listener.port(), out)?;
+    announce(rt, alloc, options, geometry, listener.port(), out)?;
     let watch = Watch::new(&rt, alloc);
-    let limit = options.sessions;
+    let (limit, is_quiet) = (options.sessions, options.quiet);
     thread::spawn(&rt, move || {
         os::set_thread_name(b"listener");
-        let mut operator = Operator { rt, watch };
+        let mut operator = Operator {
+            rt,
+            watch,
+            is_quiet,
+        };
         listener.run_heard(&rt, hands.as_mut_slice(), limit, &mut operator)
     })
     .map_err(|_| Fault::NoThread)
@@ -285,7 +318,7 @@ pub fn serve<H: System, W: Write>(
         ports,
         store,
     } = open(rt, alloc, options, geometry, seed)?;
-    let listening = announce_and_listen(rt, alloc, listener, hands, options, out)?;
+    let listening = announce_and_listen(rt, alloc, listener, hands, options, geometry, out)?;
     let report = run_workers(rt, alloc, ports, exchange, store, geometry, seed, options)?;
     listening.join(&rt);
     Operator::new(rt, alloc).has_ended();

@@ -3,7 +3,7 @@ use Rattle.std.proofs.Common.{◌≡◌, ℕ, ◌+◌, ◌<◌, List, [], ◌∷
 use Rattle.std.proofs.Common.{Some, None, Result, Ok, Err, refl, sym, ap, subst, ◌∙◌, arith, add-zero, length-append}
 use Rattle.std.proofs.lemmas.List.{append-nil}
 use Rattle.proto.specs.declared.message.Request.{Request}
-use Rattle.proto.specs.declared.no_memory.NoMemory.{NoMemory}
+use Rattle.session_book.specs.declared.causes.Unasked.{Unasked}
 use Rattle.session_book.specs.declared.causes.Unsettled.{Unsettled}
 use Rattle.proto.specs.declared.limits.TheConstants.{WINDOW}
 use Rattle.proto.specs.declared.limits.TheConstants.{MAX_POSTS}
@@ -11,14 +11,14 @@ use Rattle.session_book.specs.Session.{SessionState, ReadsUpTo, ReadsAsk, given_
 use Rattle.session_book.specs.Book.{BookState, session_of, OnlyAt, NextAsk, given_in, stops}
 
 -- a session that was read from s to t: it is open, and the only one that has changed
-pub record Asked (before after : BookState) (session : ℕ) (r : Result (Option Request) NoMemory) (t : SessionState)
+pub record Asked (before after : BookState) (session : ℕ) (r : Result (Option Request) Unasked) (t : SessionState)
     (s : SessionState) : Type 0 where
   pub was_open : session_of before session ≡ Some s
   pub only : OnlyAt before after session (Some t)
   pub reads : ReadsAsk s before.looks r t after.looks
 
 -- it is the one that is open in the book that this is
-same_session : (before after now : BookState) (session : ℕ) (r : Result (Option Request) NoMemory) (s t x : SessionState)
+same_session : (before after now : BookState) (session : ℕ) (r : Result (Option Request) Unasked) (s t x : SessionState)
     → before ≡ now → Asked before after session r t s → session_of now session ≡ Some x → Asked before after session r t x
 same_session before after now session r s t x same h at =
     let found : Some s ≡ Some x = sym h.was_open ∙ ap (λ (b : BookState). session_of b session) same ∙ at in
@@ -26,16 +26,16 @@ same_session before after now session r s t x same h at =
     subst (λ (y : SessionState). Asked before after session r t y) s_is h
 
 -- a session that is what another one is was read as that one
-pub reads_to : (s t u : SessionState) (looks looks_after : ℕ) (r : Result (Option Request) NoMemory) → u ≡ t
+pub reads_to : (s t u : SessionState) (looks looks_after : ℕ) (r : Result (Option Request) Unasked) → u ≡ t
     → ReadsAsk s looks r t looks_after → ReadsAsk s looks r u looks_after
 reads_to s t u looks looks_after r same h = subst (λ (x : SessionState). ReadsAsk s looks r x looks_after) (sym same) h
 
 -- an open session gives no request
-pub asks_none : (before after now : BookState) (session : ℕ) (s t x : SessionState) (r : Result (Option Request) NoMemory)
-    (result : Result (Option (Request × ℕ)) NoMemory)
+pub asks_none : (before after now : BookState) (session : ℕ) (s t x : SessionState) (r : Result (Option Request) Unasked)
+    (result : Result (Option (Request × ℕ)) Unasked)
     → before ≡ now → Asked before after session r t s
     → given_request r ≡ [] → given_in result ≡ [] → (result ≡ Ok None → r ≡ Ok None)
-    → ((e : NoMemory) → result ≡ Err e → r ≡ Err e)
+    → ((e : Unasked) → result ≡ Err e → r ≡ Err e)
     → after ≡ record before { sessions = after.sessions; looks = after.looks }
     → session_of now session ≡ Some x → NextAsk now session x result after
 asks_none before after now session s t x r result same asked none given why failed rest at =
@@ -58,7 +58,7 @@ asks_none before after now session s t x r result same asked none given why fail
 
 -- an open session gives a request
 pub asks_given : (before after now : BookState) (session : ℕ) (s t x : SessionState) (q : Request)
-    (r : Result (Option Request) NoMemory) → before ≡ now
+    (r : Result (Option Request) Unasked) → before ≡ now
     → Asked before after session r t s → r ≡ Ok (Some q) → length before.unsettled < WINDOW
     → before.numbered < MAX_POSTS
     → after ≡ record before {

@@ -1,5 +1,5 @@
 -- Where the data of a request stands in its spelling: in front of the last two bytes.
-use Rattle.std.proofs.Common.{◌≡◌, ℕ, ◌+◌, ◌-◌, ◌≤◌, Bool, true, false, List, [], ◌∷◌, ◌++◌, length, take, drop, Some}
+use Rattle.std.proofs.Common.{◌≡◌, ℕ, ◌+◌, ◌-◌, ◌≤◌, Bool, true, false, List, [], ◌∷◌, ◌++◌, length, take, drop, Option, Some, None}
 use Rattle.std.proofs.Common.{refl, sym, ap, ◌∙◌, arith, inl, inr, append_assoc, take_at, drop_at, take-append-drop, length-take-le, length-append}
 use Rattle.std.proofs.lemmas.Bool.{both_ways, leb-true}
 use Rattle.std.proofs.lemmas.List.{drop-drop, drop-take}
@@ -22,8 +22,8 @@ use Rattle.proto.specs.Lines.{IsSearched, line_text}
 use Rattle.proto.specs.Needs.{NeedsMore}
 use Rattle.proto.specs.PlainReader.{message_by}
 use Rattle.proto.proofs.Options.{some_is, none_is_some}
-use Rattle.session_book.specs.Input.{InputState, MayDrop, Takes}
-use Rattle.session_book.proofs.Inputs.{none_gone}
+use Rattle.session_book.specs.Input.{InputState, MayDrop, Takes, HoldsMessage}
+use Rattle.session_book.proofs.Inputs.{none_gone, holds_none}
 use Rattle.session_book.proofs.Needing.{needs_one}
 use Rattle.std.proofs.Common.{subst}
 
@@ -129,13 +129,14 @@ taken_put i d gone kept left need n how found made quiet q same none within spel
     (subst (λ (m : Message). Spells d (take n kept) m) (sym message) spells) left_is
 
 -- what is left is read anew
-pub taken_anew : (d : Dialect) (gone kept left : List ℕ) (old count : ℕ) (quiet_then quiet : Bool)
-    → MayDrop d gone kept old quiet_then → old ≤ MAX_KEPT → length gone ≡ count
-    → (length gone ≡ count) × NeedsMore d (gone ++ left) 1 × IsSearched left 0 × MayDrop d gone left 1 quiet
-taken_anew d gone kept left old count quiet_then quiet may few same = (
+pub taken_anew : (d : Dialect) (gone kept left : List ℕ) (old count : ℕ) (quiet_then quiet : Bool) (held : Option (Message × ℕ))
+    → MayDrop d gone kept old quiet_then → old ≤ MAX_KEPT → length gone ≡ count → held ≡ None
+    → (length gone ≡ count) × NeedsMore d (gone ++ left) 1 × (IsSearched left 0 × HoldsMessage d (gone ++ left) held)
+    × MayDrop d gone left 1 quiet
+taken_anew d gone kept left old count quiet_then quiet held may few same none = (
   same,
   needs_one d (gone ++ left),
-  record { within = omega arith; no_end = refl },
+  (record { within = omega arith; no_end = refl }, holds_none d (gone ++ left) held none),
   inr (leb-true 1 MAX_KEPT refl, none_gone d gone kept old quiet_then may few),
 )
 

@@ -22,6 +22,7 @@ use Rattle.proto.specs.declared.history.Answered.{Answered}
 use Rattle.proto.specs.declared.no_memory.NoMemory.{NoMemory}
 use Rattle.proto.specs.Reading.{asks}
 use Rattle.proto.specs.Answers.{said}
+use Rattle.session_book.specs.declared.causes.Unasked.{Unasked}
 use Rattle.session_book.specs.declared.causes.Unsettled.{Unsettled}
 use Rattle.session_book.specs.declared.causes.Received.{Received}
 use Rattle.session_book.specs.declared.causes.Received.TheVariants as receptions
@@ -134,7 +135,7 @@ begins_read : (s t : SessionState) (ms : List Message) → ReadsMessages s ms t 
 begins_read s t ms h = begins_asked_by t.queue (s.queue ++ ms) [] h.queue
 
 -- a session that has read no request fits as before
-pub fits_unasked : (s t : SessionState) (looks looks_after : ℕ) (r : Result (Option Request) NoMemory)
+pub fits_unasked : (s t : SessionState) (looks looks_after : ℕ) (r : Result (Option Request) Unasked)
     → ReadsAsk s looks r t looks_after → given_request r ≡ [] → FitsBook t (length (asks s.queue))
 fits_unasked s t looks looks_after r h none = record {
   asked = begins_read s t h.messages h.reading.reads;
@@ -154,7 +155,7 @@ count_more (u ∷ us) number session other b e =
 
 -- a session has read a request, which is unsettled
 pub asks_book : (before after : BookState) (session number : ℕ) (s t : SessionState) (q : Request)
-    (r : Result (Option Request) NoMemory) (looks looks_after : ℕ) → IsBook before → session_of before session ≡ Some s
+    (r : Result (Option Request) Unasked) (looks looks_after : ℕ) → IsBook before → session_of before session ≡ Some s
     → OnlyAt before after session (Some t) → after.greatest ≡ before.greatest
     → after.unsettled ≡ before.unsettled ++ record { number = number; session = session } ∷ []
     → r ≡ Ok (Some q) → ReadsAsk s looks r t looks_after → IsBook after
@@ -311,10 +312,10 @@ nothing_only a session o there q =
 -- ---- what the calls answer
 
 -- no request is given, and nothing was read
-pub idle_ask : (before : BookState) (session : ℕ) (s : SessionState) (result : Result (Option (Request × ℕ)) NoMemory)
+pub idle_ask : (before : BookState) (session : ℕ) (s : SessionState) (result : Result (Option (Request × ℕ)) Unasked)
     (after : BookState) → given_in result ≡ [] → after ≡ before → IsBook before
     → session_of before session ≡ Some s → (result ≡ Ok None → GivesNone before s)
-    → ((e : NoMemory) → result ≡ Err e → IsReady s) → NextAsk before session s result after
+    → ((e : Unasked) → result ≡ Err e → IsReady s) → NextAsk before session s result after
 idle_ask before session s result after none same is open_now cause failed = record {
   messages = [];
   read = s;

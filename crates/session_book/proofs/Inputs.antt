@@ -1,9 +1,10 @@
 -- What becomes of unread bytes, of which some may have been dropped.
-use Rattle.std.proofs.Common.{◌≡◌, ℕ, ◌-◌, ◌<◌, ◌≤◌, Bool, List, [], ◌++◌, length, take, drop, Some, refl, sym, ap, subst, ◌∙◌}
+use Rattle.std.proofs.Common.{◌≡◌, ℕ, ◌-◌, ◌<◌, ◌≤◌, Bool, List, [], ◌++◌, length, take, drop, Option, Some, None}
+use Rattle.std.proofs.Common.{refl, sym, ap, subst, ◌∙◌, length-append}
 use Rattle.std.proofs.Common.{arith, inl, inr, append_assoc, take_at, drop_at, take-append-drop, length-take-le}
-use Rattle.std.specs.Prelude.{◌⊎◌}
+use Rattle.std.specs.Prelude.{◌⊎◌, min}
 use Rattle.std.proofs.lemmas.Bool.{cases_lt}
-use Rattle.std.proofs.lemmas.List.{append-nil, nil_from_length, length-take}
+use Rattle.std.proofs.lemmas.List.{append-nil, nil_from_length, length-take, length-drop, take-append-le}
 use Rattle.proto.specs.declared.dialect.Dialect.{Dialect}
 use Rattle.proto.specs.declared.limits.TheConstants.{MAX_KEPT}
 use Rattle.proto.specs.declared.message.Message.{Message}
@@ -15,7 +16,7 @@ use Rattle.proto.specs.Needs.{NeedsMore, IsDropped}
 use Rattle.proto.specs.PlainReader.{Found, next}
 use Rattle.proto.proofs.MessageReader.{next_complete}
 use Rattle.proto.proofs.Options.{some_is}
-use Rattle.session_book.specs.Input.{InputState, IsDropping, MayDrop, Begins}
+use Rattle.session_book.specs.Input.{InputState, IsDropping, MayDrop, Begins, HoldsMessage}
 use Rattle.session_book.proofs.Needing.{spells_none, unfinished_short}
 
 -- ---- which bytes were dropped
@@ -81,6 +82,24 @@ appended d gone kept front behind piece need n quiet h few front_is behind_is =
           ∙ ap (λ (x : List ℕ). x ++ piece) (sym (ap (λ (x : List ℕ). gone ++ x) none.1 ∙ append-nil gone))
     ]
 
+-- as long as less than all of the message has gone, nothing is kept
+pub drops_more : (d : Dialect) (gone kept front behind piece : List ℕ) (need n : ℕ) (quiet : Bool) → IsDropping d gone kept need quiet
+    → n ≡ min (need - length gone) (length piece) → front ≡ take n piece → behind ≡ drop n piece
+    → IsDropping d (gone ++ front) (kept ++ behind) need quiet
+drops_more d gone kept front behind piece need n quiet h n_is front_is behind_is =
+    let taken : length front ≡ length (take n piece) = ap (λ (x : List ℕ). length x) front_is in
+    let left : length behind ≡ length (drop n piece) = ap (λ (x : List ℕ). length x) behind_is in
+    let within = h.within in record {
+      large = h.large;
+      within = omega (arith, n_is, within, taken, length-take n piece, length-append gone front);
+      nothing_kept = λ fewer.
+          let short : length gone < need = omega (arith, fewer, length-append gone front) in
+          let whole : length behind ≡ 0 =
+          omega (arith, n_is, fewer, taken, left, length-take n piece, length-drop n piece, length-append gone front) in
+          ap (λ (x : List ℕ). x ++ behind) (h.nothing_kept short) ∙ nil_from_length behind whole;
+      spells = λ more all. rw append_assoc (h.spells (front ++ more) (rw append_assoc at all));
+    }
+
 -- the bytes of the input alone have changed
 pub with_unread : (i : InputState) (d : Dialect) (b after : List ℕ) (need : ℕ) (f : List ℕ → List ℕ)
     → record { dialect = d; unread = b; need = need } ≡ i → after ≡ f b
@@ -104,12 +123,41 @@ whole_dropped i d gone kept need quiet same h enough =
       spells = rw (take_at gone kept need all) (rw append-nil at spelled);
     }) enough
 
+-- no message is held
+pub holds_none : (d : Dialect) (b : List ℕ) (held : Option (Message × ℕ)) → held ≡ None → HoldsMessage d b held
+holds_none d b held none = record { spells = rw none tt }
+
+-- the one is that was found
+pub holds_one : (i : InputState) (d : Dialect) (b : List ℕ) (need : ℕ) (m : Message) (n : ℕ)
+    → record { dialect = d; unread = b; need = need } ≡ i → Begins i m n → HoldsMessage d b (Some (m, n))
+holds_one i d b need m n same begins =
+    subst (λ (j : InputState). Begins j m n → HoldsMessage d b (Some (m, n))) same
+    (λ (found : Begins (record { dialect = d; unread = b; need = need }) m n).
+    record { spells = (found.within, found.spells) }) begins
+
+-- it is what the bytes begin with
+pub held_begins : (i : InputState) (d : Dialect) (b : List ℕ) (need : ℕ) (held : Option (Message × ℕ)) (m : Message) (n : ℕ)
+    → record { dialect = d; unread = b; need = need } ≡ i → HoldsMessage d b held → held ≡ Some (m, n) → Begins i m n
+held_begins i d b need held m n same h is =
+    let found : HoldsMessage d b (Some (m, n)) = subst (HoldsMessage d b) is h in
+    let s = found.spells in
+    subst (λ (j : InputState). Begins j m n) same (record { within = s.0; spells = s.1 })
+
+-- bytes that come behind leave it
+pub holds_behind : (d : Dialect) (b piece : List ℕ) (held : Option (Message × ℕ)) → HoldsMessage d b held
+    → HoldsMessage d (b ++ piece) held
+holds_behind d b piece None h = record { spells = tt }
+holds_behind d b piece (Some (m, n)) h = let s = h.spells in
+    let within : n ≤ length b = s.0 in record {
+      spells = (omega (arith, within, length-append b piece), rw (take-append-le n b piece within) s.1);
+    }
+
 -- the parser said that the message is to be dropped
 pub starts_dropping : (d : Dialect) (gone kept seen gone_now kept_now : List ℕ) (old need count : ℕ) (quiet_then quiet : Bool)
     → MayDrop d gone kept old quiet_then → old ≤ MAX_KEPT → seen ≡ kept → IsDropped d seen need quiet
     → gone_now ≡ gone ++ seen → count ≡ length kept → kept_now ≡ drop count kept
-    → (length gone_now ≡ count) × NeedsMore d (gone_now ++ kept_now) need × IsSearched kept_now 0
-    × MayDrop d gone_now kept_now need quiet
+    → (length gone_now ≡ count) × NeedsMore d (gone_now ++ kept_now) need
+    × (IsSearched kept_now 0 × HoldsMessage d (gone_now ++ kept_now) None) × MayDrop d gone_now kept_now need quiet
 starts_dropping d gone kept seen gone_now kept_now old need count quiet_then quiet may few seen_is h gone_is count_is kept_is =
     let none = none_gone d gone kept old quiet_then may few in
     let first : gone_now ≡ seen = gone_is ∙ ap (λ (x : List ℕ). x ++ seen) none in
@@ -122,7 +170,7 @@ starts_dropping d gone kept seen gone_now kept_now old need count quiet_then qui
     let total : length gone_now ≡ length seen = ap (λ (x : List ℕ). length x) first in (
       total ∙ len ∙ sym count_is,
       rw unread unfinished.needs_more,
-      record { within = omega arith; no_end = refl },
+      (record { within = omega arith; no_end = refl }, record { spells = tt }),
       inl (record {
         large = h.large;
         within = omega (arith, total, fewer);

@@ -28,6 +28,17 @@ spells_none d b need h fewer =
     let none : SpellsNone d (b ++ []) = h [] (rw append-nil fewer) in
     rw append-nil at none
 
+-- no beginning spells a message where too few bytes are there
+pub none_short : (d : Dialect) (b : List ℕ) (need n : ℕ) → n ≡ length b → NeedsMore d b need
+    → OnFalse (nat_le need n) (SpellsNone d b)
+none_short d b need n len h =
+    elim (cases_Bool (nat_le need n)) [
+      | inl enough ↦ rw enough tt
+      | inr short ↦
+          let fewer : length b < need = omega (arith, leb-false need n short, len) in
+          rw short (spells_none d b need h fewer)
+    ]
+
 -- a session whose unread bytes spell nothing has read all
 pub read_all : (now : SessionState) → SpellsNone now.dialect now.unread → (cause : Option EndCause) → HasReadAll (Some now) cause
 read_all now nothing cause is s same none =

@@ -9,6 +9,7 @@ use Rattle.proto.specs.declared.message.Message.{Message}
 use Rattle.proto.specs.declared.message.Message.TheVariants.{Ask, Local, Quit, Fatal}
 use Rattle.proto.specs.declared.dialect.Dialect.{Dialect}
 use Rattle.proto.specs.Grammar.{Spells}
+use Rattle.session_book.specs.declared.causes.Unasked.{Unasked}
 use Rattle.session_book.specs.Input.{InputState, Begins}
 use Rattle.proto.specs.Needs.{IsUnfinished}
 use Rattle.proto.specs.Reading.{asks}
@@ -19,7 +20,6 @@ use Rattle.session_book.specs.declared.session.TheConstants.{MAX_WAITING}
 use Rattle.session_book.specs.Session.{SessionState, messages_left, ended_by, need_after, begins_asked, ReadsMessages}
 use Rattle.session_book.specs.Session.{AskAtLast, Stops, no_message, IsReady, ReadsMessage, TakesNothing, ReadsAsk}
 use Rattle.session_book.specs.Session.{TriesNext, looked, at_rest}
-use Rattle.proto.specs.declared.no_memory.NoMemory.{NoMemory}
 use Rattle.session_book.proofs.Needing.{unfinished_short}
 use Rattle.session_book.proofs.Answering.{said-append, left-append, left_waits, said_waits}
 use Rattle.session_book.proofs.Reading.{ended_by-append, not_ended_before, none_ends}
@@ -319,10 +319,10 @@ reads_stops before now looks looks_now h stops = record {
 }
 
 -- there was no memory for a message, which stays unread
-pub reads_refused : (before now after : SessionState) (looks looks_now looks_after : ℕ) (no_memory : NoMemory)
+pub reads_refused : (before now after : SessionState) (looks looks_now looks_after : ℕ) (unasked : Unasked)
     → HasReadLocals before looks now looks_now → IsReady now → looks_after ≤ looks_now + 1 → after ≡ now
-    → ReadsAsk before looks (Err no_memory) after looks_after
-reads_refused before now after looks looks_now looks_after no_memory h ready one same = record {
+    → ReadsAsk before looks (Err unasked) after looks_after
+reads_refused before now after looks looks_now looks_after unasked h ready one same = record {
   messages = h.messages;
   reading = record {
     reads = rw same h.reads;
@@ -358,9 +358,9 @@ tries_none before now after looks looks_now looks_after h (at_rest stops none sa
     rw (same, looks_same) (reads_stops before now looks looks_now h stops)
 
 -- there was no memory for one
-pub tries_refused : (before now after : SessionState) (looks looks_now looks_after : ℕ) (no_memory : NoMemory)
-    → HasReadLocals before looks now looks_now → TriesNext now looks_now (Err no_memory) after looks_after
-    → ReadsAsk before looks (Err no_memory) after looks_after
-tries_refused before now after looks looks_now looks_after no_memory h (looked is one same) =
-    reads_refused before now after looks looks_now looks_after no_memory h is one same
-tries_refused before now after looks looks_now looks_after no_memory h (at_rest stops none same looks_same) = absurd cc
+pub tries_refused : (before now after : SessionState) (looks looks_now looks_after : ℕ) (unasked : Unasked)
+    → HasReadLocals before looks now looks_now → TriesNext now looks_now (Err unasked) after looks_after
+    → ReadsAsk before looks (Err unasked) after looks_after
+tries_refused before now after looks looks_now looks_after unasked h (looked is one same) =
+    reads_refused before now after looks looks_now looks_after unasked h is one same
+tries_refused before now after looks looks_now looks_after unasked h (at_rest stops none same looks_same) = absurd cc

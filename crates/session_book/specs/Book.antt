@@ -1,10 +1,11 @@
 -- The sessions of one worker.
 use Rattle.std.specs.Prelude.{◌≡◌, ℕ, ◌+◌, ◌<◌, ◌≤◌, ◌⊎◌, Bool, true, false, List, []}
 use Rattle.std.specs.Prelude.{◌∷◌, ◌++◌, map, length, Option, Some, None, Result, Ok, Err, IsSome}
-use Rattle.std.specs.Prelude.{slice_get, drop, max, filter, sum_by, ◌==◌, if◌then◌else◌}
+use Rattle.std.specs.Prelude.{slice_get, drop, max, filter, ◌==◌, if◌then◌else◌}
 use Rattle.std.specs.Map.{lookup}
 use Rattle.std.specs.Bool.{nat_eq}
 use Rattle.proto.specs.declared.dialect.Dialect.{Dialect}
+use Rattle.proto.specs.declared.dialect.Dialect.TheVariants.{Lenient}
 use Rattle.proto.specs.declared.message.Request.{Request}
 use Rattle.proto.specs.declared.message.Message.{Message}
 use Rattle.proto.specs.declared.history.Answered.{Answered}
@@ -12,6 +13,7 @@ use Rattle.proto.specs.declared.no_memory.NoMemory.{NoMemory}
 use Rattle.proto.specs.Answers.{said}
 use Rattle.proto.specs.Reading.{asks}
 use Rattle.session_book.specs.declared.causes.Unsettled.{Unsettled}
+use Rattle.session_book.specs.declared.causes.Unasked.{Unasked}
 use Rattle.session_book.specs.declared.causes.Received.{Received}
 use Rattle.session_book.specs.declared.causes.Received.TheVariants as received
 use Rattle.session_book.specs.declared.causes.Settled.{Settled}
@@ -19,7 +21,7 @@ use Rattle.session_book.specs.declared.causes.Settled.TheVariants as outcomes
 use Rattle.proto.specs.declared.limits.TheConstants.{WINDOW}
 use Rattle.proto.specs.declared.limits.TheConstants.{MAX_POSTS}
 use Rattle.proto.specs.Sessions.{most_sessions}
-use Rattle.session_book.specs.declared.book.TheConstants.{MAX_OUTPUT}
+use Rattle.session_book.specs.declared.load.TheConstants.{SMALL_ANSWER}
 use Rattle.session_book.specs.Session.{SessionState, begins_asked, TakesPiece, IsInputFull, held_fed, ReadsUpTo, IsReady, Stops, with_reply, IsEmptied}
 
 -- A worker's book: the worker's number; the dialect of its sessions' lines; the open sessions by their numbers; how many requests got a number;
@@ -104,7 +106,7 @@ abbrev pub IsKnown : BookState → ℕ → Type 0
 IsKnown book session = (session ≤ book.greatest) ⊎ (most_sessions book.dialect ≤ book.opened)
 
 -- the request with its number, where one is given
-abbrev pub given_in : Result (Option (Request × ℕ)) NoMemory → List (Request × ℕ)
+abbrev pub given_in : Result (Option (Request × ℕ)) Unasked → List (Request × ℕ)
 given_in (Ok (Some given)) = given ∷ []
 given_in (Ok None) = []
 given_in (Err e) = []
@@ -122,7 +124,7 @@ pub data GivesNone (before : BookState) (s : SessionState) : Type 0 where
 -- The session s is read up to the request that is given, with the worker's next number. Of the rest of the book
 -- only what is said here changes.
 pub record NextAsk (before : BookState) (session : ℕ) (s : SessionState)
-    (result : Result (Option (Request × ℕ)) NoMemory) (after : BookState) : Type 0 where
+    (result : Result (Option (Request × ℕ)) Unasked) (after : BookState) : Type 0 where
   pub messages : List Message
   pub read : SessionState
   pub reading : ReadsUpTo s before.looks messages (map (λ a. a.0) (given_in result)) read after.looks
@@ -137,7 +139,7 @@ pub record NextAsk (before : BookState) (session : ℕ) (s : SessionState)
   pub room : length after.unsettled ≤ max WINDOW (length before.unsettled)
   pub enough : after.numbered ≤ max MAX_POSTS before.numbered
   pub none : result ≡ Ok None → GivesNone before read
-  pub refused : (e : NoMemory) → result ≡ Err e → IsReady read
+  pub refused : (e : Unasked) → result ≡ Err e → IsReady read
 
 -- the answer is that of the oldest unsettled request
 abbrev pub IsOldest : BookState → Answered → Type 0
@@ -179,17 +181,9 @@ pub record IsUnemptied (book : BookState) (session : ℕ) : Type 0 where
   pub there : session_of book session ≡ Some s
   pub left : ¬ (IsEmptied s)
 
--- how many bytes of output wait, over all sessions
-abbrev pub all_output : List (ℕ × SessionState) → ℕ
-all_output sessions = sum_by (λ (e : ℕ × SessionState). length e.1.out) sessions
-
--- the session is open, and none has more output
-pub record IsFullest (book : BookState) (session : ℕ) : Type 0 where
+-- the sessions are lenient, and this one is open and has more output that wasn't given than a small answer has
+pub record IsUnread (book : BookState) (session : ℕ) : Type 0 where
+  pub lenient : book.dialect ≡ Lenient
   pub s : SessionState
   pub there : session_of book session ≡ Some s
-  pub most : (other : ℕ) (o : SessionState) → session_of book other ≡ Some o → length o.out ≤ length s.out
-
--- no more output waits than may, or a session has all of it
-abbrev pub IsWithinOutput : BookState → Type 0
-IsWithinOutput book = (all_output book.sessions ≤ MAX_OUTPUT)
-    ⊎ ((session : ℕ) × (s : SessionState) × (session_of book session ≡ Some s) × (all_output book.sessions ≤ length s.out))
+  pub output : SMALL_ANSWER < length s.out

@@ -1,6 +1,6 @@
 -- The unread bytes of a session, and what they begin with.
 use Rattle.std.specs.Prelude.{◌≡◌, ℕ, ◌-◌, ◌<◌, ◌≤◌, ◌⊎◌, Bool, List, [], ◌++◌, length, take, drop, nat_lt, if◌then◌else◌}
-use Rattle.std.specs.Prelude.{Result, Ok, Err}
+use Rattle.std.specs.Prelude.{Option, IfSome, Result, Ok, Err}
 use Rattle.proto.specs.declared.dialect.Dialect.{Dialect}
 use Rattle.proto.specs.declared.limits.TheConstants.{MAX_KEPT}
 use Rattle.proto.specs.declared.message.Message.{Message}
@@ -38,6 +38,10 @@ MayDrop d gone kept need quiet = IsDropping d gone kept need quiet ⊎ ((need �
 pub record Begins (i : InputState) (m : Message) (n : ℕ) : Type 0 where
   pub within : n ≤ length i.unread
   pub spells : Spells i.dialect (take n i.unread) m
+
+-- if a message is held, as many of the unread bytes as are held with it spell it
+pub record HoldsMessage (d : Dialect) (unread : List ℕ) (held : Option (Message × ℕ)) : Type 0 where
+  pub spells : IfSome held (λ (h : Message × ℕ). (h.1 ≤ length unread) × Spells d (take h.1 unread) h.0)
 
 -- the first n bytes, which spell the message, are taken away
 pub record Takes (before : InputState) (m : Message) (n : ℕ) (after : InputState) : Type 0 where

@@ -16,6 +16,7 @@ use Rattle.session_book.specs.Input.{kept_length}
 use Rattle.session_book.specs.declared.causes.EndCause.{EndCause}
 use Rattle.session_book.specs.declared.causes.EndCause.TheVariants as causes
 use Rattle.session_book.specs.declared.causes.Received.{Received}
+use Rattle.session_book.specs.declared.causes.Unasked.{Unasked}
 use Rattle.session_book.specs.declared.causes.Received.TheVariants as received
 use Rattle.session_book.specs.declared.session.TheConstants.{MAX_UNREAD, MAX_WAITING}
 
@@ -184,14 +185,14 @@ pub record TakesNothing (before after : SessionState) : Type 0 where
   pub unfinished : IsUnfinished before.dialect after.unread after.need
   pub rest : after ≡ record before { need = after.need }
 
--- The next message is read, or there is none yet; or there was no memory for it, and it stays unread.
-abbrev pub ReadsNext : SessionState → Result (Option Message) NoMemory → SessionState → Type 0
+-- The next message is read, or there is none yet; or there was no memory for it, or it waits, and it stays unread.
+abbrev pub ReadsNext : SessionState → Result (Option Message) Unasked → SessionState → Type 0
 ReadsNext before (Ok (Some m)) after = ReadsMessage before m after
 ReadsNext before (Ok None) after = TakesNothing before after
 ReadsNext before (Err e) after = after ≡ before
 
 -- The next message is looked for, and the call of the parser counted, where the session is ready; where it stops, nothing changes.
-pub data TriesNext (before : SessionState) (looks : ℕ) (result : Result (Option Message) NoMemory) (after : SessionState)
+pub data TriesNext (before : SessionState) (looks : ℕ) (result : Result (Option Message) Unasked) (after : SessionState)
     (looks_after : ℕ) : Type 0 where
   looked : IsReady before → looks_after ≤ looks + 1 → ReadsNext before result after
       → TriesNext before looks result after looks_after
@@ -210,16 +211,16 @@ pub record ReadsUpTo (before : SessionState) (looks : ℕ) (messages : List Mess
   pub most_looks : looks_after ≤ looks + length messages + 1
   pub no_look : length before.unread < before.need → looks_after ≡ looks
 
-abbrev pub given_request : Result (Option Request) NoMemory → List Request
+abbrev pub given_request : Result (Option Request) Unasked → List Request
 given_request (Ok (Some q)) = q ∷ []
 given_request (Ok None) = []
 given_request (Err e) = []
 
--- A session is read up to its next request; there is none only where it stops, and memory is refused only where the parser is to
--- be asked.
-pub record ReadsAsk (before : SessionState) (looks : ℕ) (result : Result (Option Request) NoMemory)
+-- A session is read up to its next request; there is none only where it stops, and one waits or finds no memory only where the
+-- parser is to be asked.
+pub record ReadsAsk (before : SessionState) (looks : ℕ) (result : Result (Option Request) Unasked)
     (after : SessionState) (looks_after : ℕ) : Type 0 where
   pub messages : List Message
   pub reading : ReadsUpTo before looks messages (given_request result) after looks_after
   pub none : result ≡ Ok None → Stops after
-  pub refused : (e : NoMemory) → result ≡ Err e → IsReady after
+  pub refused : (e : Unasked) → result ≡ Err e → IsReady after

@@ -2,10 +2,9 @@
 
 ghost use Rattle.std.specs.Prelude.{ℕ, ◌≡◌, ◌⊎◌, ◌+◌, ◌≤◌, ◌<◌, ◌↔◌, [], length, is_some, option_map};
 ghost use Rattle.std.specs.Prelude.{slice_get};
-ghost use Rattle.std.specs.Prelude.{IfSome, IsSome, OnOk, OnErr};
+ghost use Rattle.std.specs.Prelude.{IfSome, OnOk, OnErr, IsSome};
 ghost use Rattle.session_book.specs.Session.{SessionState, IsEmptied, new_session, gave, finished_by, once_input_ended};
 ghost use Rattle.session_book.specs.Session.{HasReadAll};
-ghost use Rattle.session_book.specs.declared.book.TheConstants.{MAX_OUTPUT};
 ghost use Rattle.std.specs.Bool.{OnTrue, OnFalse, nat_eq};
 ghost use Rattle.std.specs.Option.{option_and_then};
 ghost use Rattle.proto.specs.declared.limits.TheConstants.{WINDOW};
@@ -13,11 +12,12 @@ ghost use Rattle.indexmap.specs.IndexMap.{index_map_len};
 ghost use Rattle.std.specs.Map.{lookup};
 ghost use Rattle.session_book.specs.BookInside.{ChangesAt};
 
-use crate::causes::{EndCause, OpenFault, Received, Settled, Unsettled};
+use crate::causes::{EndCause, OpenFault, Received, Settled, Unasked, Unsettled};
+use crate::fault_line::FaultLine;
 use crate::load::Load;
 use crate::ready_queues::Task;
 use crate::session::{MAX_WAITING, Offer, Session};
-use crate::upkeep::Upkeep;
+use crate::upkeep::{Upkeep, key_count};
 use bytes::Bytes;
 use indexmap::IndexMap;
 use proto::{Answered, Dialect, Gauge, Gauges, MAX_POSTS, NoMemory, Request, WINDOW};
@@ -29,16 +29,9 @@ use std::marker::Model;
 /// 80 go to the words and numbers beside them.
 pub const MAX_HIT: usize = 131_128;
 
-/// Keys of unsettled requests, over all sessions, above which a `get` is put off whose answer may be large. So the others wait for
-/// one large answer at a time.
-pub const MANY_UNSETTLED: usize = 128;
-
-/// Bytes of waiting output, over all sessions, above which the session with the most is closed, unless no other has any.
-pub const MAX_OUTPUT: usize = 67_108_864;
-
 /// The sessions of a worker. Contracts see it as a `BookState`.
 ///
-/// It keeps which sessions have something to do, in five ready queues. Calls put a session into one, and its owner takes it
+/// It keeps which sessions have something to do, in six ready queues. Calls put a session into one, and its owner takes it
 /// out and does it; no clause says that a session stands in one.
 #[derive(Drop)]
 pub struct Book {
@@ -67,8 +60,7 @@ impl Model for Book {
 
 impl Book {
     ghost use Rattle.session_book.specs.Book.{session_of, out_of, ChangesSession, Receives, FeedsHeldOf};
-    ghost use Rattle.session_book.specs.Book.{OnlyAt, IsKnown, NextAsk, Settles, IsUnemptied, IsFullest};
-    ghost use Rattle.session_book.specs.Book.{IsWithinOutput, all_output};
+    ghost use Rattle.session_book.specs.Book.{OnlyAt, IsKnown, NextAsk, Settles, IsUnemptied, IsUnread};
 
     /// No session is open yet. The worker's number is kept for its owner.
     pub fn new(alloc: Global, worker: usize, dialect: Dialect) -> Self
@@ -152,9 +144,10 @@ impl Book {
     }
 
     /// The next request of a session with its number, which the caller posts. Messages that the book answers
-    /// itself are answered in their order; nothing is read while the window is full or all numbers were given. After
-    /// `NoMemory` the messages before the refused one stay read. A `get` is lent a spare buffer for its hits.
-    pub fn next_ask(&mut self, session: u64) -> Result<Option<(Request, u64)>, NoMemory>
+    /// itself are answered in their order; nothing is read while the window is full or all numbers were given. On Err
+    /// the messages before that one stay read; a session whose `get` waits is asked again once it needn't wait. A `get` is lent a
+    /// spare buffer for its hits.
+    pub fn next_ask(&mut self, session: u64) -> Result<Option<(Request, u64)>, Unasked>
         ensures closed { session_of self.old session ≡ None → (result ≡ Ok None) × (self.new ≡ self.old) }
         ensures open { (s : SessionState) → session_of self.old session ≡ Some s
             → NextAsk self.old session s result self.new }
@@ -171,9 +164,10 @@ impl Book {
         let Some(mut request) = read? else {
             return Ok(None);
         };
-        self.upkeep.asked(&mut request);
+        let key_bytes = open.key_bytes();
         self.numbered += 1;
         let number = self.numbered;
+        self.upkeep.asked(&mut request, number, key_bytes);
         self.unsettled
             .push_back_reserved(Unsettled { number, session });
         Ok(Some((request, number)))
@@ -198,7 +192,8 @@ impl Book {
             return Settled::Dropped;
         };
         let (_, open) = self.sessions.pair_mut(place);
-        let kept = open.settle(session, &mut answered.reply, &mut self.upkeep);
+        let keys = key_count(&answered.request);
+        let kept = open.settle(session, keys, &mut answered.reply, &mut self.upkeep);
         self.upkeep.settled(answered, kept.unwrap_or(0));
         match kept {
             Ok(_) => Settled::Kept,
@@ -291,54 +286,51 @@ impl Book {
         }
     }
 
-    /// Whether the session is asked later: the answer to the `get` that is read next may be large, and the unsettled requests have
-    /// many keys.
-    pub fn put_off(&mut self, session: u64) -> bool
-        ensures { self.new ≡ self.old }
-    {
-        if self.upkeep.load.keys <= MANY_UNSETTLED {
-            return false;
-        }
-        let Some(place) = find(&self.sessions, session, &mut self.upkeep.ready.place) else {
+    /// Whether the first of the sessions that wait for room has room by now.
+    fn has_room_for_first(&self) -> bool {
+        let Some((session, mut place)) = self.upkeep.ready.first(Task::AskForRoom) else {
             return false;
         };
-        let (_, open) = self.sessions.pair_mut(place);
-        open.put_off(session, &mut self.upkeep)
+        let Some(place) = find(&self.sessions, session, &mut place) else {
+            return true;
+        };
+        match self.sessions.get_index(place) {
+            Some((_, open)) => self.upkeep.load.has_room_for(open.likely_bytes()),
+            None => true,
+        }
     }
 
-    /// The session with the most output, if more than `MAX_OUTPUT` bytes of output wait, over all sessions, and not in it alone: one
-    /// strict answer may have 134 MB.
-    pub fn fullest(&self) -> Option<u64>
-        ensures above { IsSome result → MAX_OUTPUT < all_output self.now.sessions }
-        ensures fullest { IfSome result (IsFullest self.now) }
+    /// Whether a session waits for room for its next answer, and has none.
+    pub fn waits_for_room(&self) -> bool {
+        self.upkeep.ready.count(Task::AskForRoom) > 0 && !self.has_room_for_first()
+    }
+
+    /// Whether nothing can be done before a client takes output or sends something.
+    pub fn waits_for_clients(&self) -> bool {
+        self.upkeep.ready.only_wait() && !self.has_room_for_first()
+    }
+
+    /// A second has passed in which a session waited for room.
+    pub fn count_second(&mut self)
+        ensures { self.new ≡ self.old }
     {
-        if self.upkeep.load.output <= MAX_OUTPUT {
+        self.upkeep.seconds = self.upkeep.seconds.saturating_add(1);
+    }
+
+    /// A session whose client took none of its output in the last ten seconds that were counted, if it has more than 16,384 bytes
+    /// and the sessions are lenient.
+    pub fn find_unread(&self) -> Option<u64>
+        ensures { IfSome result (IsUnread self.now) }
+    {
+        if matches!(self.dialect, Dialect::Strict) {
             return None;
         }
-        self.find_fullest()
-    }
-
-    /// The same, however much was counted.
-    fn find_fullest(&self) -> Option<u64>
-        ensures above { IsSome result → MAX_OUTPUT < all_output self.now.sessions }
-        ensures fullest { IfSome result (IsFullest self.now) }
-        ensures none { result ≡ None → IsWithinOutput self.now }
-    {
-        let mut fullest = None;
-        let mut most: usize = 0;
-        let mut others: usize = 0;
         for (session, open) in self.sessions.iter() {
-            let length = open.out().len();
-            others = others.saturating_add(length.min(most));
-            if length > most {
-                most = length;
-                fullest = Some(*session);
+            if open.is_unread(&self.upkeep) {
+                return Some(*session);
             }
         }
-        if others == 0 || most.saturating_add(others) <= MAX_OUTPUT {
-            return None;
-        }
-        fullest
+        None
     }
 
     /// Whether the session that was asked last can be read further.
@@ -346,14 +338,23 @@ impl Book {
         self.upkeep.reads_on
     }
 
-    /// Takes out the next session that is to be asked. One that was put off comes if no other is to be asked, or once as many
-    /// others as a window has requests went before it. From then on no other is asked until the unsettled requests have few keys,
-    /// so that it doesn't wait for ever.
+    /// The line of the fatal message that ended the session, if it was asked last and that was read then.
+    pub fn fault(&self, session: u64) -> Option<&FaultLine> {
+        if self.upkeep.asked != session {
+            return None;
+        }
+        self.upkeep.fault.as_ref()
+    }
+
+    /// Takes out the next session that is to be asked. One whose `get` waits comes once it has room and no large answer is on its
+    /// way, if no other is to be asked, or once as many others as a window has requests went before it.
     pub fn next_to_ask(&mut self) -> Option<u64>
         ensures { self.new ≡ self.old }
     {
-        let has_room = self.upkeep.load.keys <= MANY_UNSETTLED;
-        self.upkeep.ready.take_to_ask(has_room)
+        let has_room = self.has_room_for_first();
+        self.upkeep
+            .ready
+            .take_to_ask(self.upkeep.load.is_free(), has_room)
     }
 
     /// Takes out the next session that is to be taken up for the task.
@@ -373,9 +374,9 @@ impl Book {
         self.upkeep.ready.are_empty()
     }
 
-    /// Whether more than 255 keys stand in unsettled requests, over all sessions, or those for 8 keys or fewer are likely to be answered
-    /// with more than 1,048,576 bytes. Its owner then asks for one request at a time: so the hits of the unsettled ones take 41,943,040
-    /// bytes at most, or in the strict dialect 167,772,160.
+    /// Whether more than 255 keys stand in unsettled requests, over all sessions, or these are likely to be answered with more than
+    /// 1,048,576 bytes. Its owner then asks for one request at a time: so the hits of the unsettled ones take 41,943,040 bytes at
+    /// most, or in the strict dialect 167,772,160.
     pub fn is_crowded(&self) -> bool {
         self.upkeep.load.is_crowded()
     }

@@ -1,5 +1,7 @@
 //! Why calls are refused, what becomes of an answer, and how sessions end.
 
+use proto::NoMemory;
+use std::alloc::AllocError;
 use thiserror::Error;
 
 /// Why a session isn't opened.
@@ -23,6 +25,28 @@ pub enum Received {
     Refused,
     /// The session isn't open.
     Unknown,
+}
+
+/// Why a session's next message isn't read. It stays unread.
+#[derive(Clone, Copy, Debug, PartialEq, Eq, Error)]
+pub enum Unasked {
+    #[error("out of memory")]
+    NoMemory,
+    /// It is a `get` whose answer is likely to be large: it waits for others, or for room.
+    #[error("the request waits for the answers to others, or for room")]
+    Waits,
+}
+
+impl From<AllocError> for Unasked {
+    fn from(_: AllocError) -> Unasked {
+        Unasked::NoMemory
+    }
+}
+
+impl From<NoMemory> for Unasked {
+    fn from(_: NoMemory) -> Unasked {
+        Unasked::NoMemory
+    }
 }
 
 /// What became of an answer.
@@ -50,8 +74,10 @@ pub enum EndCause {
     Fatal,
     /// The port told that the peer has gone. A socket's port tells it too of a session that it ended as idle.
     Gone,
-    /// There was no room for its input or its answer; or too much output waited over all sessions, and it had the most.
+    /// There was no memory for its input or its answer.
     NoMemory,
+    /// Its client took no output for some seconds, while others waited for the memory. Only lenient sessions end so.
+    Unread,
 }
 
 /// A request that was given with this number and has no reply yet.

@@ -42,13 +42,15 @@ pub(crate) struct Input {
     gone: Trace<u8>,
     /// Whether the message that they begin has `noreply`.
     noreply: bool,
+    /// The message that was found and is held, and how many bytes spell it.
+    held: Option<(Message, usize)>,
 }
 
 impl Model for Input {
     ghost use Rattle.std.specs.Prelude.{◌≡◌, ◌++◌, length};
     ghost use Rattle.proto.specs.Lines.{IsSearched};
     ghost use Rattle.proto.specs.Needs.{NeedsMore};
-    ghost use Rattle.session_book.specs.Input.{InputState, MayDrop};
+    ghost use Rattle.session_book.specs.Input.{InputState, MayDrop, HoldsMessage};
 
     ghost Value = { InputState };
 
@@ -56,7 +58,7 @@ impl Model for Input {
 
     ghost invariant = { λ a. (length a.gone.items ≡ a.dropped)
         × NeedsMore a.dialect (a.gone.items ++ a.kept) a.need
-        × IsSearched a.kept a.searched
+        × (IsSearched a.kept a.searched × HoldsMessage a.dialect (a.gone.items ++ a.kept) a.held)
         × MayDrop a.dialect a.gone.items a.kept a.need a.noreply };
 }
 
@@ -74,6 +76,7 @@ impl Input {
             dropped: 0,
             gone: Trace::new(),
             noreply: false,
+            held: None,
         }
     }
 
@@ -117,12 +120,15 @@ impl Input {
         Ok(())
     }
 
-    /// The message that the bytes begin with; or none, and the need is what the parser said. A line that isn't whole yet is searched
-    /// for its end from where the last search stopped.
+    /// The message that the bytes begin with: the held one, or what the parser finds; or none, and the need is what the parser said.
+    /// A line that isn't whole yet is searched for its end from where the last search stopped.
     pub fn next(&mut self, alloc: Global, spares: &mut SpareBuffers) -> Result<Found, NoMemory>
         requires { self.old.need ≤ length self.old.unread }
         ensures { Finds self.old result self.new }
     {
+        if let Some((message, length)) = self.held.take() {
+            return Ok(Found::Copied(message, length));
+        }
         if self.need > MAX_KEPT {
             // All bytes of a message that is dropped have come.
             let message = Message::Local(LocalKind::TooLarge(self.noreply));
@@ -163,6 +169,7 @@ impl Input {
         requires dropped { IsDropped self.old.dialect self.old.unread need noreply }
         ensures { Finds self.old (Ok result) self.new }
     {
+        self.held = None;
         self.gone.note(self.kept.as_slice());
         self.dropped = self.kept.len();
         self.kept.discard(self.dropped, Use::Input, spares);
@@ -172,11 +179,20 @@ impl Input {
         Found::Nothing
     }
 
+    /// Holds the message that was found, which is found again.
+    pub fn hold(&mut self, message: Message, n: usize)
+        requires { Begins self.old message n }
+        ensures { self.new ≡ self.old }
+    {
+        self.held = Some((message, n));
+    }
+
     /// Takes away the bytes of the message that was found.
     pub fn take(&mut self, n: usize, spares: &mut SpareBuffers)
         requires { (m : Message) × Begins self.old m n }
         ensures { self.new ≡ record self.old { unread = drop n self.old.unread; need = 1 } }
     {
+        self.held = None;
         self.kept.discard(n - self.dropped, Use::Input, spares);
         self.gone = Trace::new();
         self.dropped = 0;

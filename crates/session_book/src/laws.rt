@@ -7,8 +7,8 @@ ghost use Rattle.proto.specs.declared.dialect.Dialect.TheVariants.{Strict, Lenie
 ghost use Rattle.proto.specs.Sessions.{most_sessions};
 ghost use Rattle.proto.specs.Hits.{hit_room};
 ghost use Rattle.session_book.specs.declared.session.TheConstants.{MAX_UNREAD, MAX_WAITING};
-ghost use Rattle.session_book.specs.declared.load.TheConstants.{MAX_KEYS};
-ghost use Rattle.session_book.specs.declared.book.TheConstants.{MAX_HIT, MAX_OUTPUT};
+ghost use Rattle.session_book.specs.declared.load.TheConstants.{MAX_KEYS, OUTPUT_BUDGET, SMALL_ANSWER};
+ghost use Rattle.session_book.specs.declared.book.TheConstants.{MAX_HIT};
 ghost use Rattle.session_book.specs.Accounts.{StartsAccounts, FeedKeeps, ReadKeeps, SettleKeeps, GiveKeeps, ReadBegins};
 ghost use Rattle.session_book.specs.Accounts.{ReadIsWhole, SaidBegins, SaidIsWhole};
 
@@ -40,7 +40,8 @@ pub fn limits()
     ensures hit { (h : Hit) → 24 + length h.key + length h.value ≤ 131072 → hit_room h ≤ MAX_HIT }
     ensures hits { MAX_KEYS * MAX_HIT + MAX_ANSWER ≤ 41943040 }
     ensures strict_hits { (MAX_KEYS + 1021) * MAX_HIT ≤ 167772160 }
-    ensures output { MAX_OUTPUT ≡ 67108864 }
+    ensures output { OUTPUT_BUDGET ≡ 67108864 }
+    ensures small { SMALL_ANSWER ≡ 16384 }
     ensures sessions { most_sessions Strict ≡ 16777216 }
     ensures lenient_sessions { most_sessions Lenient ≡ 4611686018427387904 }
     ensures posts { MAX_POSTS ≡ 4611686018427387904 }

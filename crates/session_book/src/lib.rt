@@ -5,6 +5,7 @@
 mod book;
 mod buffer;
 mod causes;
+mod fault_line;
 mod input;
 pub mod laws;
 mod load;
@@ -13,5 +14,6 @@ mod session;
 mod upkeep;
 
 pub use book::Book;
-pub use causes::{EndCause, OpenFault, Received, Settled};
+pub use causes::{EndCause, OpenFault, Received, Settled, Unasked};
+pub use fault_line::FaultLine;
 pub use ready_queues::Task;

@@ -1,21 +1,31 @@
 //! How much is unfinished in all sessions of a book, and what it counts for `stats`.
 
-use proto::{FatalKind, Gauge, Gauges, LocalKind, Message, Request};
+use proto::{FatalKind, Gauge, Gauges, LocalKind, Message, WINDOW};
 
-/// The bytes above which an answer is large.
+/// The bytes up to which an answer is small: it waits for no room.
+pub const SMALL_ANSWER: usize = 16_384;
+
+/// The bytes above which an answer is large: one at a time is on its way.
 const LARGE_ANSWER: usize = 262_144;
 
-/// The keys up to which the answer to a `get` isn't taken to be large.
-const FEW_KEYS: usize = 8;
+/// The likely bytes of the answers that are on their way, over all sessions, above which one request at a time goes on. So the
+/// others wait for about 1 MiB of them.
+const MAX_COMING: usize = 1_048_576;
 
-/// Keys of unsettled requests, over all sessions, above which one request at a time goes on. Up to then each key has a hit at
-/// most, and the last request one answer: so before they are put into outputs, their hits take no more than 40 MiB leniently, and
-/// strictly, if a line has 1,021 keys at most, no more than 160 MiB.
+/// Keys of unsettled requests, over all sessions, above which one request at a time goes on, whatever their answers are likely to
+/// take. Up to then each key has a hit at most, and the last request one answer: so before they are put into outputs, their hits
+/// take no more than 40 MiB leniently, and strictly, if a line has 1,021 keys at most, no more than 160 MiB.
 pub const MAX_KEYS: usize = 255;
 
-/// The likely bytes of the answers to short `get`s, over all sessions, above which one request at a time goes on. So the others wait
-/// for about 1 MiB of them, unless they are longer than the last ones.
-const MAX_SHORT_ANSWERS: usize = 1_048_576;
+/// The bytes that waiting output and the answers on their way may take, over all sessions. A `get` that is likely to exceed
+/// them waits, but for one whose answer is small.
+pub const OUTPUT_BUDGET: usize = 67_108_864;
+
+/// The part of the budget that is enough for any `get`, since one strict answer may have 134 MB.
+const ENOUGH_FOR_ANY: usize = 33_554_432;
+
+/// The bytes of waiting output above which each `get` for more than one key waits, however little it is likely to take.
+const MOST_OUTPUT: usize = 201_326_592;
 
 /// What a book counts for `stats`. After the greatest number a count goes on from 0.
 #[derive(Clone, Copy, Default)]
@@ -33,27 +43,81 @@ struct BookCounts {
     too_large: u64,
 }
 
-/// How much is unfinished in all sessions of a book, and what it counts for `stats`. No clause speaks of it.
+/// The bytes that a key is likely to take in an answer: what each took in the last one, or half of what it was before, if that is
+/// more.
 #[derive(Clone, Copy, Default)]
+pub(crate) struct KeyBytes {
+    bytes: usize,
+}
+
+impl KeyBytes {
+    /// So many keys took so many bytes of output.
+    pub(crate) fn took(&mut self, keys: usize, length: usize) {
+        if keys > 0 {
+            self.bytes = (length / keys).max(self.bytes / 2).max(1);
+        }
+    }
+}
+
+/// How much is unfinished in all sessions of a book, and what it counts for `stats`. No clause speaks of it.
+#[derive(Clone, Copy)]
 pub(crate) struct Load {
     /// The keys of unsettled requests.
-    pub(crate) keys: usize,
-    /// The unsettled `get`s that are short: they have `FEW_KEYS` keys or fewer.
-    short_gets: usize,
-    /// The bytes of the last answer to a short `get`, or half of what this number was before, if that is more.
-    short_answer: usize,
-    /// The bytes that each key took in the last answer for more than `FEW_KEYS` keys, or half of what this number was before, if
-    /// that is more.
-    key_bytes: usize,
+    keys: usize,
+    /// The bytes that the answers to the unsettled requests are likely to take.
+    coming: usize,
+    /// The same of each of them, by its number: no more are unsettled than a window has.
+    coming_of: [usize; WINDOW as usize],
+    /// Over all sessions.
+    key_bytes: KeyBytes,
     /// The bytes of output that weren't given yet.
     pub(crate) output: usize,
     counts: BookCounts,
 }
 
 impl Load {
-    /// How many keys a `get` may name before its answer is taken to be large, by what keys took of late.
-    pub(crate) fn keys_before_large(&self) -> usize {
-        FEW_KEYS.max(LARGE_ANSWER / self.key_bytes.max(1))
+    pub(crate) fn new() -> Load {
+        Load {
+            keys: 0,
+            coming: 0,
+            coming_of: [0; WINDOW as usize],
+            key_bytes: KeyBytes::default(),
+            output: 0,
+            counts: BookCounts::default(),
+        }
+    }
+
+    /// The bytes that the answer to a `get` for so many keys is likely to take, if keys took so much in the last one of its
+    /// session. The first one of a session, if it is for one key, is taken to be small.
+    pub(crate) fn likely(&self, keys: usize, own: KeyBytes) -> usize {
+        match own.bytes {
+            0 if keys <= 1 => self.key_bytes.bytes.min(SMALL_ANSWER),
+            0 => keys.saturating_mul(self.key_bytes.bytes),
+            bytes => keys.saturating_mul(bytes),
+        }
+    }
+
+    /// Whether a `get` for so many keys goes on whatever waits.
+    pub(crate) fn is_small(&self, keys: usize, likely: usize) -> bool {
+        likely <= SMALL_ANSWER && (keys <= 1 || self.output <= MOST_OUTPUT)
+    }
+
+    /// Whether an answer that is likely to take so much fits into the budget.
+    pub(crate) fn has_room_for(&self, likely: usize) -> bool {
+        self.output
+            .saturating_add(self.coming)
+            .saturating_add(likely.min(ENOUGH_FOR_ANY))
+            <= OUTPUT_BUDGET
+    }
+
+    /// Whether no large answer is on its way.
+    pub(crate) fn is_free(&self) -> bool {
+        self.coming <= LARGE_ANSWER
+    }
+
+    /// Whether an answer that is likely to take so much waits for those that are on their way.
+    pub(crate) fn is_too_large(&self, likely: usize) -> bool {
+        likely > LARGE_ANSWER && !self.is_free()
     }
 
     /// So many bytes came of an open session.
@@ -85,30 +149,22 @@ impl Load {
 
     /// Whether so much is on its way that one request at a time goes on.
     pub(crate) fn is_crowded(&self) -> bool {
-        self.keys > MAX_KEYS
-            || self.short_gets.saturating_mul(self.short_answer) > MAX_SHORT_ANSWERS
+        self.keys > MAX_KEYS || self.coming > MAX_COMING
     }
 
-    /// So many keys are asked for.
-    pub(crate) fn asked_keys(&mut self, count: usize) {
-        self.keys = self.keys.saturating_add(count);
-        if count <= FEW_KEYS {
-            self.short_gets = self.short_gets.saturating_add(1);
-        }
+    /// The request of this number asks for so many keys, and its answer is likely to take so many bytes.
+    pub(crate) fn asked(&mut self, number: u64, keys: usize, likely: usize) {
+        self.keys = self.keys.saturating_add(keys);
+        self.coming = self.coming.saturating_add(likely);
+        self.coming_of[(number % WINDOW) as usize] = likely;
     }
 
-    /// A request was settled with so many bytes of output.
-    pub(crate) fn settled(&mut self, request: &Request, length: usize) {
-        if let Request::Get { keys, .. } = request {
-            let count = keys.len();
-            self.keys = self.keys.saturating_sub(count);
-            if count > FEW_KEYS {
-                self.key_bytes = (length / count).max(self.key_bytes / 2);
-            } else {
-                self.short_gets = self.short_gets.saturating_sub(1);
-                self.short_answer = length.max(self.short_answer / 2);
-            }
-        }
+    /// The request of this number, for so many keys, was settled with so many bytes of output.
+    pub(crate) fn settled(&mut self, number: u64, keys: usize, length: usize) {
+        self.keys = self.keys.saturating_sub(keys);
+        let likely = self.coming_of[(number % WINDOW) as usize];
+        self.coming = self.coming.saturating_sub(likely);
+        self.key_bytes.took(keys, length);
     }
 
     /// A storage command was refused as too large.

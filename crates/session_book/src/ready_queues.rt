@@ -11,8 +11,10 @@ pub enum Task {
     Feed,
     /// They have input.
     Ask,
-    /// They have input, and were put off: the next answer may be large.
+    /// They have input, and wait for the answers on their way: the next one is likely to be large.
     AskLarge,
+    /// They have input, and wait until there is room for the next answer.
+    AskForRoom,
     /// They may have output, or have finished.
     Give,
     /// They have output, of which their client accepted nothing when it was last offered some.
@@ -20,7 +22,7 @@ pub enum Task {
 }
 
 /// How many tasks there are.
-const TASKS: usize = 5;
+const TASKS: usize = 6;
 
 /// A queue of sessions by their numbers, with the places where they stood in the table. A session that joins gets a ticket:
 /// the number of sessions that have joined so far. It is in the queue as long as its ticket is greater than the number that
@@ -53,7 +55,7 @@ impl Ticket {
     }
 }
 
-/// The tickets of a session. A session with input is in one of two queues, so one ticket does for both. So it is with output:
+/// The tickets of a session. A session with input is in one of three queues, so one ticket does for all. So it is with output:
 /// the second queue is for clients that accepted nothing, and is served slowly.
 #[derive(Clone, Copy)]
 pub(crate) struct Tickets {
@@ -79,8 +81,10 @@ pub(crate) struct ReadyQueues {
     queues: [ReadyQueue; TASKS],
     /// Where the session that was found last, or taken out of a queue, stands in the table.
     pub(crate) place: usize,
-    /// How many sessions were taken out to be asked while another one was put off.
+    /// How many sessions were taken out to be asked while another one waited for its turn.
     passed: u64,
+    /// Whether the session that was taken out last to be asked waited for room, and has it.
+    pub(crate) is_let_in: bool,
 }
 
 impl ReadyQueues {
@@ -92,9 +96,11 @@ impl ReadyQueues {
                 ReadyQueue::new(alloc),
                 ReadyQueue::new(alloc),
                 ReadyQueue::new(alloc),
+                ReadyQueue::new(alloc),
             ],
             place: 0,
             passed: 0,
+            is_let_in: false,
         }
     }
 
@@ -116,6 +122,11 @@ impl ReadyQueues {
     /// Whether a session stands in the queue of its ticket.
     pub(crate) fn has(&self, ticket: Ticket) -> bool {
         ticket.number > self.queues[ticket.task as usize].left
+    }
+
+    /// Whether a session stands in the queue of those that have input and wait for nothing.
+    pub(crate) fn is_to_ask(&self, ticket: Ticket) -> bool {
+        matches!(ticket.task, Task::Ask) && self.has(ticket)
     }
 
     /// Puts a session into the queue of the task, unless it stands in that of its ticket. The ticket's number is 0, which is
@@ -141,11 +152,17 @@ impl ReadyQueues {
         Some(session)
     }
 
-    /// Takes out the next session that is to be asked. One that was put off comes if no other is to be asked, or once as many
-    /// others as a window has requests went before it. If there is no room for a large answer then, none is taken out until there
-    /// is, so that it doesn't wait for ever.
-    pub(crate) fn take_to_ask(&mut self, has_room: bool) -> Option<u64> {
-        if self.count(Task::AskLarge) == 0 {
+    /// The session that would be taken out for the task, and where it stood in the table.
+    pub(crate) fn first(&self, task: Task) -> Option<(u64, usize)> {
+        self.queues[task as usize].sessions.front().copied()
+    }
+
+    /// Takes out the next session that is to be asked. One that waits, for room that it has by now or for the answers on their
+    /// way, comes if no other is to be asked, or once as many others as a window has requests went before it. If a large answer is
+    /// on its way then, none is taken out until it has come, so that it doesn't wait for ever.
+    pub(crate) fn take_to_ask(&mut self, is_free: bool, has_room: bool) -> Option<u64> {
+        self.is_let_in = false;
+        if !has_room && self.count(Task::AskLarge) == 0 {
             self.passed = 0;
             return self.take(Task::Ask);
         }
@@ -153,11 +170,16 @@ impl ReadyQueues {
             self.passed = self.passed.saturating_add(1);
             return self.take(Task::Ask);
         }
-        if !has_room {
+        if !is_free {
             return None;
         }
         self.passed = 0;
-        self.take(Task::AskLarge)
+        self.is_let_in = has_room;
+        if has_room {
+            self.take(Task::AskForRoom)
+        } else {
+            self.take(Task::AskLarge)
+        }
     }
 
     /// How many sessions are to be taken up for the task.
@@ -168,5 +190,17 @@ impl ReadyQueues {
     /// No session has anything to do.
     pub(crate) fn are_empty(&self) -> bool {
         self.queues.iter().all(|queue| queue.sessions.is_empty())
+    }
+
+    /// No session has anything to do, but for those that wait for room or for their clients.
+    pub(crate) fn only_wait(&self) -> bool {
+        let waiting = self
+            .count(Task::AskForRoom)
+            .saturating_add(self.count(Task::RetryWrite));
+        let all = self.queues.iter().fold(
+            0usize,
+            |sum, queue| sum.saturating_add(queue.sessions.len()),
+        );
+        all == waiting
     }
 }

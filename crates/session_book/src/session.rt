@@ -7,14 +7,16 @@ ghost use Rattle.proto.specs.declared.message.Request.{Request};
 ghost use Rattle.std.specs.Bool.{OnTrue, OnFalse};
 ghost use Rattle.proto.specs.Answers.{said};
 ghost use Rattle.session_book.specs.Session.{begins_asked, messages_left, ended_by};
+ghost use Rattle.session_book.specs.declared.load.TheConstants.{SMALL_ANSWER};
 ghost use Rattle.proto.specs.Reading.{asks};
 
 use crate::buffer::{Buffer, Use};
-use crate::causes::{EndCause, Received, Unsettled};
+use crate::causes::{EndCause, Received, Unasked, Unsettled};
+use crate::fault_line::FaultLine;
 use crate::input::{Found, Input};
-use crate::load::Load;
+use crate::load::{KeyBytes, Load, SMALL_ANSWER};
 use crate::ready_queues::{ReadyQueues, Task, Tickets};
-use crate::upkeep::Upkeep;
+use crate::upkeep::{Upkeep, Waiting};
 use bytes::Bytes;
 use proto::{Dialect, Message, NoMemory, PendingAnswer, Reply, Request};
 use std::alloc::Global;
@@ -58,6 +60,12 @@ pub struct Session {
     /// No more input comes.
     input_ended: bool,
     tickets: Tickets,
+    /// What keys took in the last answer.
+    key_bytes: KeyBytes,
+    /// What the `get` waits for that was read and isn't asked yet.
+    waiting: Option<Waiting>,
+    /// The second at which its client took nothing, if it took nothing since.
+    refused_at: Option<u64>,
 }
 
 impl Model for Session {
@@ -98,6 +106,9 @@ impl Session {
             held: None,
             input_ended: false,
             tickets: Tickets::none(),
+            key_bytes: KeyBytes::default(),
+            waiting: None,
+            refused_at: None,
         }
     }
 
@@ -153,13 +164,13 @@ impl Session {
 
     /// Reads the next message if the parser is to be called, and counts that call. The bytes are read in place, and a request is
     /// copied out of them once; one with a large block takes their memory. With a message, `unsettled` has room for a request.
-    /// NoMemory if out of memory: then the message stays unread.
+    /// A `get` that waits is held, and stays unread; so does a message for which there is no memory.
     fn next_message(
         &mut self,
         unsettled: &mut VecDeque<Unsettled>,
         looks: &mut u64,
         upkeep: &mut Upkeep,
-    ) -> Result<Option<Message>, NoMemory>
+    ) -> Result<Option<Message>, Unasked>
         ensures tries { TriesNext self.old looks.old result self.new looks.new }
         ensures kept { unsettled.new.items ≡ unsettled.old.items }
         ensures room { (message : Message) → result ≡ Ok (Some message)
@@ -174,7 +185,13 @@ impl Session {
         match self.input.next(self.alloc, &mut upkeep.spares)? {
             Found::Nothing => Ok(None),
             Found::Copied(message, length) => {
+                self.waiting = waiting_of(&message, self.key_bytes, upkeep);
+                if self.waiting.is_some() {
+                    self.input.hold(message, length);
+                    return Err(Unasked::Waits);
+                }
                 put_behind(&mut self.queue, &mut self.output, &message, upkeep)?;
+                upkeep.fault = FaultLine::copied(self.alloc, &message, self.input.kept());
                 self.input.take(length, &mut upkeep.spares);
                 upkeep.load.read(&message, length);
                 self.ended = cause_of(&message);
@@ -190,13 +207,13 @@ impl Session {
     }
 
     /// Reads messages up to and including the next request, and counts the calls of the parser. On Ok, `unsettled` has room
-    /// for the request. NoMemory if out of memory: then that message stays unread.
+    /// for the request. On Err that message stays unread.
     pub fn next_ask(
         &mut self,
         unsettled: &mut VecDeque<Unsettled>,
         looks: &mut u64,
         upkeep: &mut Upkeep,
-    ) -> Result<Option<Request>, NoMemory>
+    ) -> Result<Option<Request>, Unasked>
         ensures reads { ReadsAsk self.old looks.old result self.new looks.new }
         ensures kept { unsettled.new.items ≡ unsettled.old.items }
         ensures room { (request : Request) → result ≡ Ok (Some request)
@@ -204,6 +221,7 @@ impl Session {
     {
         // This read is for the proof: with it is known that the queue begins with a request.
         let _ = &self.alloc;
+        upkeep.fault = None;
         while let Some(message) = self.next_message(unsettled, looks, upkeep)? {
             if let Message::Ask(request, _) = message {
                 return Ok(Some(request));
@@ -212,7 +230,8 @@ impl Session {
         Ok(None)
     }
 
-    /// After a read, queues the session for what it may need: feeding its held piece, sending output, or ending.
+    /// After a read, queues the session for what it may need: feeding its held piece, sending output, ending, or asking once its
+    /// `get` waits no more.
     pub fn join_queues(&mut self, session: u64, upkeep: &mut Upkeep)
         ensures { self.new ≡ self.old }
     {
@@ -223,7 +242,11 @@ impl Session {
         if self.output.len() > 0 || self.ended.is_some() || self.input_ended {
             ready.add(Task::Give, session, &mut self.tickets.give);
         }
+        if let Some(waiting) = self.waiting {
+            ready.add(waiting.task, session, &mut self.tickets.ask);
+        }
         upkeep.reads_on = self.is_ready();
+        upkeep.asked = session;
     }
 
     /// Whether the parser is to be called.
@@ -239,11 +262,12 @@ impl Session {
         self.ended.is_some() || self.input.kept().len() <= MAX_UNREAD - WORTH_FEEDING
     }
 
-    /// Gives the first request of the queue its reply. It answers how many bytes of output that made. If there is no memory for
-    /// them the session is of no further use.
+    /// Gives the first request of the queue, for so many keys, its reply. It answers how many bytes of output that made. If there
+    /// is no memory for them the session is of no further use.
     pub fn settle(
         &mut self,
         session: u64,
+        keys: usize,
         reply: &mut Reply,
         upkeep: &mut Upkeep,
     ) -> Result<usize, NoMemory>
@@ -257,7 +281,9 @@ impl Session {
                 upkeep
                     .ready
                     .add(Task::Give, session, &mut self.tickets.give);
-                Ok(self.output.len().saturating_sub(before))
+                let length = self.output.len().saturating_sub(before);
+                self.key_bytes.took(keys, length);
+                Ok(length)
             }
             Err(NoMemory) => {
                 self.queue.clear();
@@ -280,7 +306,7 @@ impl Session {
                 finished: self.finished(),
             };
         }
-        let waits = !self.queue.is_empty() || ready.has(self.tickets.ask);
+        let waits = !self.queue.is_empty() || ready.is_to_ask(self.tickets.ask);
         Offer {
             out: if waits && out.len() < WORTH_GIVING {
                 &[]
@@ -309,10 +335,14 @@ impl Session {
             upkeep
                 .ready
                 .add(Task::RetryWrite, session, &mut self.tickets.give);
-        } else if left > 0 {
-            upkeep
-                .ready
-                .add(Task::Give, session, &mut self.tickets.give);
+            self.refused_at = self.refused_at.or(Some(upkeep.seconds));
+        } else {
+            self.refused_at = None;
+            if left > 0 {
+                upkeep
+                    .ready
+                    .add(Task::Give, session, &mut self.tickets.give);
+            }
         }
         self.finished()
     }
@@ -352,17 +382,24 @@ impl Session {
         ready.add(Task::Ask, session, &mut self.tickets.ask);
     }
 
-    /// Whether a `get` for so many keys is read next that its answer may be large: then the session is asked later.
-    pub fn put_off(&mut self, session: u64, upkeep: &mut Upkeep) -> bool
-        ensures { self.new ≡ self.old }
+    /// The bytes that the answer to the `get` is likely to take that waits, if one does.
+    pub fn likely_bytes(&self) -> usize {
+        self.waiting.map_or(0, |waiting| waiting.likely)
+    }
+
+    /// What keys took in the last answer.
+    pub fn key_bytes(&self) -> KeyBytes {
+        self.key_bytes
+    }
+
+    /// Whether more output waits than a small answer has, of which its client took nothing for some seconds.
+    pub fn is_unread(&self, upkeep: &Upkeep) -> bool
+        ensures { OnTrue result (SMALL_ANSWER < length self.now.out) }
     {
-        let may_be_large = names_more_keys(self.input.kept(), upkeep.load.keys_before_large());
-        if may_be_large {
-            upkeep
-                .ready
-                .add(Task::AskLarge, session, &mut self.tickets.ask);
-        }
-        may_be_large
+        self.output.len() > SMALL_ANSWER
+            && self
+                .refused_at
+                .is_some_and(|second| upkeep.is_unread_since(second))
     }
 
     pub fn held(&self) -> &[u8]
@@ -392,21 +429,12 @@ impl Session {
     }
 }
 
-/// Whether the bytes begin with a `get` or `gets` for more than `few` keys, each of which takes at least two bytes.
-fn names_more_keys(bytes: &[u8], few: usize) -> bool {
-    if bytes.len() / 2 <= few || !bytes.starts_with(b"get") {
-        return false;
+/// What a message waits for before it is asked, if keys took so much in the last answer of its session: none but a `get` does.
+fn waiting_of(message: &Message, own: KeyBytes, upkeep: &mut Upkeep) -> Option<Waiting> {
+    match message {
+        Message::Ask(Request::Get { keys, .. }, _) => upkeep.waiting(keys.len(), own),
+        _ => None,
     }
-    let mut keys: usize = 0;
-    for byte in bytes {
-        if *byte == b'\n' || keys > few {
-            break;
-        }
-        if *byte == b' ' {
-            keys = keys.saturating_add(1);
-        }
-    }
-    keys > few
 }
 
 /// How a message ends its session.

@@ -3,10 +3,32 @@
 ghost use Rattle.std.specs.Prelude.{◌≡◌};
 
 use crate::buffer::{LARGE_MESSAGE, SpareBuffers, Use};
-use crate::load::Load;
-use crate::ready_queues::ReadyQueues;
+use crate::fault_line::FaultLine;
+use crate::load::{KeyBytes, Load};
+use crate::ready_queues::{ReadyQueues, Task};
 use proto::{Answered, Reply, Request, SpareBuffer};
 use std::alloc::Global;
+use std::mem;
+
+/// The seconds, as they are counted, after which a client that took no output has left it unread.
+const UNREAD_SECONDS: u64 = 10;
+
+/// What a `get` waits for that was read and isn't asked yet.
+#[derive(Clone, Copy)]
+pub(crate) struct Waiting {
+    /// The queue in which its session waits.
+    pub(crate) task: Task,
+    /// The bytes that its answer is likely to take.
+    pub(crate) likely: usize,
+}
+
+/// For how many keys a request is.
+pub(crate) fn key_count(request: &Request) -> usize {
+    match request {
+        Request::Get { keys, .. } => keys.len(),
+        _ => 0,
+    }
+}
 
 /// Which sessions have something to do, how much is unfinished in all of them, and the memory of buffers that are empty. No
 /// clause speaks of it.
@@ -15,7 +37,12 @@ pub(crate) struct Upkeep {
     pub(crate) ready: ReadyQueues,
     /// Whether the session that was asked last can be read further.
     pub(crate) reads_on: bool,
+    /// The session that was asked last, and the line of the fatal message that was read of it then.
+    pub(crate) asked: u64,
+    pub(crate) fault: Option<FaultLine>,
     pub(crate) load: Load,
+    /// The seconds that were counted.
+    pub(crate) seconds: u64,
     pub(crate) spares: SpareBuffers,
 }
 
@@ -24,17 +51,48 @@ impl Upkeep {
         Upkeep {
             ready: ReadyQueues::new(alloc),
             reads_on: false,
-            load: Load::default(),
+            asked: 0,
+            fault: None,
+            load: Load::new(),
+            seconds: 0,
             spares: SpareBuffers::new(alloc),
         }
     }
 
-    /// Counts the keys of a `get` that was read, and lends it a spare buffer for its hits.
-    pub(crate) fn asked(&mut self, request: &mut Request)
+    /// What a `get` for so many keys waits for, if keys took so much in the last answer of its session; none if it is to be asked
+    /// now. None goes before one that waits for room, but those whose answers are small.
+    pub(crate) fn waiting(&mut self, keys: usize, own: KeyBytes) -> Option<Waiting> {
+        let is_let_in = mem::take(&mut self.ready.is_let_in);
+        let likely = self.load.likely(keys, own);
+        if is_let_in || self.load.is_small(keys, likely) {
+            return None;
+        }
+        let must_queue = self.ready.count(Task::AskForRoom) > 0;
+        if must_queue || !self.load.has_room_for(likely) {
+            return Some(Waiting {
+                task: Task::AskForRoom,
+                likely,
+            });
+        }
+        self.load.is_too_large(likely).then_some(Waiting {
+            task: Task::AskLarge,
+            likely,
+        })
+    }
+
+    /// Whether a client that took nothing since this second has left its output unread.
+    pub(crate) fn is_unread_since(&self, second: u64) -> bool {
+        self.seconds.saturating_sub(second) >= UNREAD_SECONDS
+    }
+
+    /// Counts the keys of a `get` that is asked with this number, and lends it a spare buffer for its hits. Keys took so much in
+    /// the last answer of its session.
+    pub(crate) fn asked(&mut self, request: &mut Request, number: u64, own: KeyBytes)
         ensures { request.new ≡ request.old }
     {
+        let keys = key_count(request);
+        self.load.asked(number, keys, self.load.likely(keys, own));
         if let Request::Get { keys, .. } = request {
-            self.load.asked_keys(keys.len());
             let mut hits = Vec::new(keys.allocator());
             self.spares.lend(Use::Hits, &mut hits);
             let _ = request.lend_buffer(SpareBuffer::from_vec(hits));
@@ -44,8 +102,13 @@ impl Upkeep {
     /// Uncounts the keys of a `get` that was settled with so many bytes of output, and keeps the memory of its hits for another
     /// one. That of a large value is kept for input.
     pub(crate) fn settled(&mut self, answered: Answered, length: usize) {
-        let Answered { request, reply, .. } = answered;
-        self.load.settled(&request, length);
+        let Answered {
+            number,
+            request,
+            reply,
+            ..
+        } = answered;
+        self.load.settled(number, key_count(&request), length);
         if matches!(reply, Reply::TooLarge) {
             self.load.refused_item();
         }

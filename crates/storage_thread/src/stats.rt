@@ -5,7 +5,7 @@ ghost use Rattle.proto.specs.Tallies.{TellsCounts};
 
 use engine::StorageEngine;
 use exchange::StorageSignals;
-use proto::{Counts, Gauge, NoMemory, Reply, Request, StatsText, VERSION};
+use proto::{Counts, Gauge, NoMemory, Reply, Request, StatsText, TOLD_VERSION};
 use std::time::{Clock, Duration, Instant};
 
 /// What a `stats` shows beside counts, the system's clock and the signals: when the storage side was made.
@@ -68,9 +68,13 @@ impl StatsSource {
     {
         let passed = passed(rt, self.began);
         self.set_gauges(signals, store, worker, passed);
-        let mut text = StatsText::of(signals.allocator(), counts)?
-            .with_word(b"version", VERSION.as_bytes())?
-            .with_gauges(signals.storage_gauges())?;
+        let (alloc, told) = (signals.allocator(), signals.storage_gauges());
+        let mut text = StatsText::of(alloc, counts)?
+            .with_word(b"version", TOLD_VERSION.as_bytes())?
+            .with_seconds(alloc, b"rusage_user", told.get(Gauge::UserTime))?
+            .with_seconds(alloc, b"rusage_system", told.get(Gauge::SystemTime))?
+            .with_gauges(told)?
+            .with_word(b"cas_enabled", b"yes")?;
         for each in 0..signals.workers() {
             if let Some(gauges) = signals.gauges(each) {
                 let connections = gauges.get(Gauge::CurrConnections);

@@ -4,7 +4,7 @@ use crate::player::{Given, Player, WORKER};
 use crate::same::check_same;
 use bytes::Bytes;
 use proto::Dialect;
-use session_book::{EndCause, OpenFault, Received, Settled, Task};
+use session_book::{EndCause, OpenFault, Received, Settled, Task, Unasked};
 use std::alloc::Global;
 use std::process::Abort;
 use std::test::Fail;
@@ -32,6 +32,10 @@ enum Step {
     SettleHit(usize),
     SettleStats(usize),
     Give(u64),
+    /// The session's client accepts so many bytes of its output.
+    Accept(u64, usize),
+    /// A second passes in which a session waited for room.
+    Second,
     Close(u64),
     See(Sight),
 }
@@ -45,17 +49,23 @@ enum Sight {
     /// Which session is to be taken up for the task.
     Ready(Task, Option<u64>),
     NextToAsk(Option<u64>),
-    /// Whether the session is put off.
-    PutOff(u64, bool),
+    /// The session's next request waits.
+    Waits(u64),
+    WaitsForRoom(bool),
+    /// Which session's client took no output for ten seconds.
+    Unread(Option<u64>),
     IsCrowded(bool),
     HasLittleOutput(bool),
     Looks(u64),
 }
 
-use Sight::{Finished, HasLittleOutput, IsCrowded, Looks, NextToAsk, Output, PutOff, Ready};
+use Sight::{
+    Finished, HasLittleOutput, IsCrowded, Looks, NextToAsk, Output, Ready, Unread, Waits,
+    WaitsForRoom,
+};
 use Step::{
-    Ask, AskLater, AskNext, Close, EndInput, Feed, FeedLetters, Give, Known, Open, Receive, See,
-    Settle, SettleHit, SettleStats,
+    Accept, Ask, AskLater, AskNext, Close, EndInput, Feed, FeedLetters, Give, Known, Open, Receive,
+    Second, See, Settle, SettleHit, SettleStats,
 };
 
 /// The name of what is shown and the row's step, or the number of a turn.
@@ -68,7 +78,12 @@ fn check_sight(rt: &impl Abort, player: &mut Player, sight: &Sight, place: Place
         Finished(session, cause) => check_same(rt, book.offer(*session).finished, *cause, place),
         Ready(task, session) => check_same(rt, book.next_ready(*task), *session, place),
         NextToAsk(session) => check_same(rt, book.next_to_ask(), *session, place),
-        PutOff(session, is_put_off) => check_same(rt, book.put_off(*session), *is_put_off, place),
+        Waits(session) => {
+            let waits = matches!(book.next_ask(*session), Err(Unasked::Waits));
+            check_same(rt, waits, true, place);
+        }
+        WaitsForRoom(waits) => check_same(rt, book.waits_for_room(), *waits, place),
+        Unread(session) => check_same(rt, book.find_unread(), *session, place),
         IsCrowded(is_crowded) => check_same(rt, book.is_crowded(), *is_crowded, place),
         HasLittleOutput(has) => check_same(rt, book.has_little_output(), *has, place),
         Looks(count) => check_same(rt, book.looks(), *count, place),
@@ -106,6 +121,10 @@ fn check_step(rt: &impl Abort, player: &mut Player, step: &Step, place: Place) -
             let _ = player.settle(0, Given::Stats(*length))?;
         }
         Give(session) => player.give(*session)?,
+        Accept(session, length) => {
+            player.book.gave(*session, *length);
+        }
+        Second => player.book.count_second(),
         Close(session) => player.book.close(*session),
         See(sight) => check_sight(rt, player, sight, place),
     }
@@ -235,7 +254,7 @@ const ROWS: [Row; 11] = [
             ],
         )],
     },
-    // An answer is likely to be as long as the last one, or as half of what was likely before. The `get` for 9 keys does not count.
+    // A key is likely to take as much as it took last, or half of what was likely before.
     Row {
         name: "a book is crowded above 1 MiB of likely answers",
         dialect: Dialect::Lenient,
@@ -244,25 +263,10 @@ const ROWS: [Row; 11] = [
             (1, &[Open(1), Feed(1, b"get b\r\n"), AskNext(1)]),
             (1, &[SettleHit(131_072), Give(1)]),
             (8, &ASKED_FOR_1),
-            (
-                1,
-                &[
-                    See(IsCrowded(false)),
-                    Feed(1, b"get b b b b b b b b\r\n"),
-                    AskNext(1),
-                    See(IsCrowded(true)),
-                ],
-            ),
+            (1, &[See(IsCrowded(false))]),
+            (1, &ASKED_FOR_1),
+            (1, &[See(IsCrowded(true))]),
             (1, &[Settle(0, Settled::Kept), See(IsCrowded(false))]),
-            (8, &ASKED_FOR_1),
-            (
-                1,
-                &[
-                    Feed(1, b"get b b b b b b b b b\r\n"),
-                    AskNext(1),
-                    See(IsCrowded(false)),
-                ],
-            ),
             (1, &ASKED_FOR_1),
             (
                 1,
@@ -437,10 +441,8 @@ fn input_comes_byte_by_byte(rt: HostRuntime) -> Result<(), Fail> {
     check_rows(&rt, rt.alloc(), &SLOW_ROWS)
 }
 
-/// Requests for 1, 8, 9, 17 and 18 keys.
+/// Requests for 1, 9, 17 and 18 keys.
 const FOR_1: &str = "get b\r\n";
-
-const FOR_8: &str = "get b b b b b b b b\r\n";
 
 const FOR_9: &str = "get b b b b b b b b b\r\n";
 
@@ -448,7 +450,7 @@ const FOR_17: &str = "get b b b b b b b b b b b b b b b b b\r\n";
 
 const FOR_18: &str = "gets b b b b b b b b b b b b b b b b b b\r\n";
 
-/// Session 1 is given the answers to requests, each of this length. Then it has 17 requests for 8 keys on their way
+/// Session 1 is given the answers to requests, each of this length. Then it has 19 requests for a key on their way
 /// and one more to be read, and session 2, which is new, has `next`. These parts follow.
 fn check_large(
     rt: &impl Abort,
@@ -468,12 +470,12 @@ fn check_large(
         check_same(rt, player.book.out(1).len(), output, "the answers");
     }
     check_parts(rt, player, next, &UNDER_WAY)?;
-    player.feed(1, FOR_8.as_bytes())?;
+    player.feed(1, FOR_1.as_bytes())?;
     player.feed(2, next.as_bytes())?;
     check_parts(rt, player, next, parts)
 }
 
-const UNDER_WAY: [Part; 1] = [(17, &[Feed(1, b"get b b b b b b b b\r\n"), AskNext(1)])];
+const UNDER_WAY: [Part; 1] = [(19, &ASKED_FOR_1)];
 
 /// Then session 2 comes behind session 1.
 const IN_TURN: [Step; 3] = [
@@ -482,44 +484,46 @@ const IN_TURN: [Step; 3] = [
     See(NextToAsk(Some(2))),
 ];
 
-const PUT: [Part; 2] = [(1, &IN_TURN), (1, &[See(PutOff(2, true))])];
+const PUT: [Part; 2] = [(1, &IN_TURN), (1, &[See(Waits(2))])];
 
-const NOT_PUT: [Part; 2] = [(1, &IN_TURN), (1, &[See(PutOff(2, false))])];
+const NOT_PUT: [Part; 2] = [(1, &IN_TURN), (1, &[AskNext(2)])];
 
-/// While it is put off others go before it 64 times. Then none is asked before 128 keys or fewer are on their way.
-const PUT_64_TIMES: [Part; 4] = [
+/// While it waits others go before it 64 times. Then none is asked before 262,144 bytes or fewer are likely to be on their way: 8
+/// times 29,128.
+const PUT_64_TIMES: [Part; 5] = [
     (1, &IN_TURN),
-    (1, &[See(PutOff(2, true))]),
+    (1, &[See(Waits(2))]),
     (64, &[See(NextToAsk(Some(1))), AskLater(1)]),
+    (10, &[Settle(0, Settled::Kept), See(NextToAsk(None))]),
     (
         1,
         &[
-            See(NextToAsk(None)),
             Settle(0, Settled::Kept),
             See(NextToAsk(Some(2))),
+            AskNext(2),
         ],
     ),
 ];
 
-/// A `get` for more than 8 keys is put off if its answer is likely to have more than 262,144 bytes: each key of the
-/// last answer took 29,128 bytes, 29,127 or 66,666, or half of the first.
+/// A `get` waits for the answers on their way if its own is likely to have more than 262,144 bytes: each key of the last answer
+/// took 29,128 bytes, 29,127 or 262,144, or half of the first.
 const LARGE: [(&[(&str, usize)], &str, &[Part]); 8] = [
     (&[(FOR_9, 262_152)], FOR_9, &PUT_64_TIMES),
+    (&[(FOR_9, 262_152)], "x\r\nget b b b b b b b b b\r\n", &PUT),
     (&[(FOR_9, 262_151)], FOR_9, &NOT_PUT),
-    (&[(FOR_9, 600_000)], FOR_8, &NOT_PUT),
     (
         &[(FOR_9, 262_152)],
-        "delete b b b b b b b b b\r\n",
+        "set b 0 0 1\r\nx\r\nget b b b b b b b b b\r\n",
         &NOT_PUT,
     ),
-    (&[(FOR_1, 262_152)], FOR_18, &NOT_PUT),
+    (&[(FOR_1, 262_144)], FOR_1, &NOT_PUT),
     (&[(FOR_9, 262_152), (FOR_1, 100_025)], FOR_9, &PUT),
     (&[(FOR_9, 262_152), (FOR_9, 100_025)], FOR_17, &NOT_PUT),
     (&[(FOR_9, 262_152), (FOR_9, 100_025)], FOR_18, &PUT),
 ];
 
 #[test]
-fn what_may_be_large_is_put_off(rt: HostRuntime) -> Result<(), Fail> {
+fn what_is_likely_to_be_large_waits(rt: HostRuntime) -> Result<(), Fail> {
     for (answers, next, parts) in &LARGE {
         let mut player = Player::new(rt.alloc(), Dialect::Lenient, None);
         let checked = check_large(&rt, &mut player, answers, next, parts);
@@ -527,4 +531,135 @@ fn what_may_be_large_is_put_off(rt: HostRuntime) -> Result<(), Fail> {
         checked?;
     }
     Ok(())
+}
+
+/// Session 1 has had a small answer, and has asked again. Session 2 is new, and asks next.
+const BEFORE_ROOM: [Step; 9] = [
+    Open(1),
+    Feed(1, b"get b\r\n"),
+    AskNext(1),
+    Settle(0, Settled::Kept),
+    Give(1),
+    Feed(1, b"get b\r\n"),
+    AskNext(1),
+    Open(2),
+    Feed(2, b"get b b\r\n"),
+];
+
+/// Session 2 waits, while the first `get` for one key of session 3 goes on, as its answer is taken to be small. Then the client of
+/// session 1 takes its output.
+const WAITS_UNTIL_GIVEN: [Step; 15] = [
+    See(NextToAsk(Some(1))),
+    See(NextToAsk(Some(2))),
+    See(Waits(2)),
+    See(WaitsForRoom(true)),
+    Open(3),
+    Feed(3, b"get b\r\n"),
+    See(NextToAsk(Some(3))),
+    AskNext(3),
+    See(NextToAsk(None)),
+    See(Waits(2)),
+    Give(1),
+    See(WaitsForRoom(false)),
+    See(NextToAsk(Some(1))),
+    See(NextToAsk(Some(2))),
+    AskNext(2),
+];
+
+/// The 100,025 bytes that are likely to be the answer of session 3 don't fit beside the output of session 1 and what is likely to be
+/// that of session 2.
+const ON_ITS_WAY: [Step; 23] = [
+    Open(1),
+    Open(2),
+    Open(3),
+    Feed(3, b"get b\r\n"),
+    See(NextToAsk(Some(3))),
+    AskNext(3),
+    SettleHit(100_025),
+    Give(3),
+    Feed(1, b"get b\r\n"),
+    See(NextToAsk(Some(1))),
+    AskNext(1),
+    SettleHit(33_554_432),
+    Feed(2, b"get b b\r\n"),
+    See(NextToAsk(Some(2))),
+    AskNext(2),
+    Feed(3, b"get b\r\n"),
+    See(NextToAsk(Some(3))),
+    See(Waits(3)),
+    See(WaitsForRoom(true)),
+    Settle(0, Settled::Kept),
+    See(WaitsForRoom(false)),
+    See(NextToAsk(Some(3))),
+    AskNext(3),
+];
+
+/// What waits until there is room, and whose client has left its output unread.
+const ROOM_ROWS: [Row; 5] = [
+    Row {
+        name: "a get waits above 32 MiB of output, as its answer may be as large",
+        dialect: Dialect::Strict,
+        found: None,
+        parts: &[
+            (1, &BEFORE_ROOM),
+            (1, &[SettleHit(33_554_433)]),
+            (1, &WAITS_UNTIL_GIVEN),
+        ],
+    },
+    Row {
+        name: "with 32 MiB of output no get waits",
+        dialect: Dialect::Strict,
+        found: None,
+        parts: &[
+            (1, &BEFORE_ROOM),
+            (
+                1,
+                &[
+                    SettleHit(33_554_432),
+                    See(NextToAsk(Some(1))),
+                    See(NextToAsk(Some(2))),
+                    AskNext(2),
+                    See(WaitsForRoom(false)),
+                ],
+            ),
+        ],
+    },
+    Row {
+        name: "what is on its way counts as output",
+        dialect: Dialect::Strict,
+        found: None,
+        parts: &[(1, &ON_ITS_WAY)],
+    },
+    Row {
+        name: "a lenient client that takes nothing for ten seconds has left its output unread",
+        dialect: Dialect::Lenient,
+        found: None,
+        parts: &[
+            (1, &BEFORE_ROOM),
+            (1, &[SettleHit(60_000_000), Accept(1, 1_000), Accept(1, 0)]),
+            (9, &[Second, See(Unread(None))]),
+            (1, &[Accept(1, 1), Accept(1, 0)]),
+            (9, &[Second, See(Unread(None)), Accept(1, 0)]),
+            (1, &[Second, See(Unread(Some(1)))]),
+            (1, &[Accept(1, 59_982_615), Accept(1, 0)]),
+            (10, &[Second]),
+            (1, &[See(Unread(None))]),
+        ],
+    },
+    Row {
+        name: "no strict client has",
+        dialect: Dialect::Strict,
+        found: None,
+        parts: &[
+            (1, &BEFORE_ROOM),
+            (1, &[SettleHit(60_000_000), Accept(1, 0)]),
+            (20, &[Second]),
+            (1, &[See(Unread(None))]),
+        ],
+    },
+];
+
+#[test]
+fn large_answers_wait_for_room(rt: HostRuntime) -> Result<(), Fail> {
+    check_rows(&rt, rt.alloc(), &ROOM_ROWS)
 }

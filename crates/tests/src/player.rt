@@ -3,7 +3,7 @@
 use crate::made::values;
 use bytes::Bytes;
 use proto::{Answered, ByteString, ClockAnswers, Dialect, NoMemory, Posted, Reply, Request};
-use session_book::{Book, Received, Settled};
+use session_book::{Book, Received, Settled, Unasked};
 use std::alloc::Global;
 use std::test::Fail;
 
@@ -13,8 +13,11 @@ pub const WORKER: usize = 3;
 /// What stands behind the lines of a `stats`.
 const STATS_END: &[u8] = b"END\r\n";
 
-/// What stands beside the value in the answer to a `get` that has some 100,000 bytes or more.
-const BESIDE_VALUE: &[u8] = b"VALUE a 0 100000\r\n\r\nEND\r\n";
+/// What stands beside the value in the answer to a `get` that has some 100,000 bytes, or at least 10,000,000.
+const BESIDE_VALUE: [&[u8]; 2] = [
+    b"VALUE a 0 100000\r\n\r\nEND\r\n",
+    b"VALUE a 0 10000000\r\n\r\nEND\r\n",
+];
 
 /// What a request is replied.
 #[derive(Clone, Copy)]
@@ -23,7 +26,7 @@ pub enum Given {
     Known,
     /// Lines of a `stats` that make an answer of this length.
     Stats(usize),
-    /// A hit of `a` that makes an answer of this length, of some 100,000 bytes or more.
+    /// A hit of `a` that makes an answer of this length, of some 100,000 bytes or at least 10,000,000.
     Hit(usize),
 }
 
@@ -69,16 +72,17 @@ impl Player {
     }
 
     /// The number of the session's next request, which is kept.
-    pub fn ask(&mut self, session: u64) -> Result<Option<u64>, NoMemory> {
+    pub fn ask(&mut self, session: u64) -> Result<Option<u64>, Unasked> {
         let Some((request, number)) = self.book.next_ask(session)? else {
             return Ok(None);
         };
         self.last = number;
-        self.asked.push(Posted {
+        let posted = Posted {
             session,
             number,
             request,
-        })?;
+        };
+        self.asked.push(posted).map_err(NoMemory::from)?;
         Ok(Some(number))
     }
 
@@ -124,7 +128,8 @@ fn reply_to(
             Ok(Reply::Stats(ByteString::from_vec(lines)))
         }
         (Given::Hit(length), _) => {
-            let value = vec![in alloc; b'x'; length.saturating_sub(BESIDE_VALUE.len())]?;
+            let beside = BESIDE_VALUE[usize::from(length >= 10_000_000)];
+            let value = vec![in alloc; b'x'; length.saturating_sub(beside.len())]?;
             values(alloc, Some(value.as_slice()), None)
         }
         (Given::Known, Request::Get { with_cas, .. }) => {

@@ -6,12 +6,12 @@ use Rattle.std.proofs.lemmas.List.{map-append, length-take, drop-append-le, take
 use Rattle.proto.specs.declared.message.Request.{Request}
 use Rattle.proto.specs.declared.message.Message.{Message}
 use Rattle.proto.proofs.Options.{some_is}
-use Rattle.proto.specs.declared.no_memory.NoMemory.{NoMemory}
 use Rattle.proto.specs.declared.history.Posted.{Posted}
 use Rattle.proto.specs.declared.history.Answered.{Answered}
 use Rattle.proto.specs.History.{asked_posted}
 use Rattle.proto.specs.Reading.{asks}
 use Rattle.exchange.specs.Ends.{WorkerView, WorkerBatchView, WasTold}
+use Rattle.session_book.specs.declared.causes.Unasked.{Unasked}
 use Rattle.session_book.specs.declared.causes.Unsettled.{Unsettled}
 use Rattle.session_book.specs.Session.{SessionState, ReadsMessages}
 use Rattle.session_book.specs.Book.{BookState, session_of, NextAsk, held_of, given_in, unsettled_of as unsettled_at}
@@ -77,7 +77,7 @@ told_read v v' unopened ended t s read ms h open_is reads here_asked other_asked
 
 -- with no request
 pub none_goes_on : {P : Type 0} (told : P → Option PortTrace) (old new : WorkerState P) (t : ℕ) (s : SessionState)
-    (result : Result (Option (Request × ℕ)) NoMemory) → new.port ≡ old.port → end_of new ≡ end_of old
+    (result : Result (Option (Request × ℕ)) Unasked) → new.port ≡ old.port → end_of new ≡ end_of old
     → new.request ≡ old.request
     → new.sessions ≡ old.sessions → new.unopened ≡ old.unopened → new.strangers ≡ old.strangers → new.ended ≡ old.ended
     → IsWorkerServing told old → session_of old.book t ≡ Some s → NextAsk old.book t s result new.book

@@ -110,7 +110,7 @@ finish_goes_on told old new t c k h e read =
     let f = finished_is (session_of old.book t) c e in
     let ends : Ends f.0 c = ends_by f.0 c f.4 (subst (λ (o : Option SessionState). HasReadAll o (Some c)) f.1 read) in
     shut_goes_on told old new t c k h
-    (λ trace was_told closes.
+    (λ trace is was_told closes.
     let v = run_view trace old in
     let r = runs (facts v t) f.0 (was_told.each t) f.1 in
     let same : f.0 ≡ r.running.s = some_is f.0 r.running.s (sym f.1 ∙ r.running.state) in

@@ -134,29 +134,29 @@ is_fatal (Fatal kind) e = (kind, refl)
 record IsFinal (v : RunView) (s : ℕ) (cause : EndCause) (messages : List Message) : Type 0 where
   first : StartsWith (asks messages) (asked_by v.numbered s)
   beginning : StartsWith (said messages (had_by v.back s)) (given s v.events)
-  complete : cause ≢ causes.Gone → cause ≢ causes.NoMemory → (asked_by v.numbered s ≡ asks messages)
+  complete : cause ≢ causes.Gone → cause ≢ causes.NoMemory → cause ≢ causes.Unread → (asked_by v.numbered s ≡ asks messages)
       × (given s v.events ≡ said messages (had_by v.back s))
-  caused : IsCauseOf v.events s messages cause
+  caused : IsCauseOf v.dialect v.events s messages cause
 
 -- where all of the messages were read, asked and answered
 final_whole : (v : RunView) (s : ℕ) (cause : EndCause) (messages read : List Message) → messages ≡ read
     → asked_by v.numbered s ≡ asks read
-    → given s v.events ≡ said read (had_by v.back s) → IsCauseOf v.events s read cause → IsFinal v s cause messages
+    → given s v.events ≡ said read (had_by v.back s) → IsCauseOf v.dialect v.events s read cause → IsFinal v s cause messages
 final_whole v s cause messages read same asked_is given_is caused =
     let a : asked_by v.numbered s ≡ asks messages = asked_is ∙ ap asks (sym same) in
     let b : given s v.events ≡ said messages (had_by v.back s) =
     given_is ∙ ap (λ (ms : List Message). said ms (had_by v.back s)) (sym same) in record {
       first = ([], sym a ∙ sym (append-nil (asked_by v.numbered s)));
       beginning = ([], sym b ∙ sym (append-nil (given s v.events)));
-      complete = λ not_gone enough. (a, b);
-      caused = subst (λ (ms : List Message). IsCauseOf v.events s ms cause) (sym same) caused;
+      complete = λ not_gone enough was_read. (a, b);
+      caused = subst (λ (ms : List Message). IsCauseOf v.dialect v.events s ms cause) (sym same) caused;
     }
 
 -- where only the first were
 final_begun : (v : RunView) (s : ℕ) (cause : EndCause) (messages read more : List Message) → messages ≡ read ++ more
     → asked_by v.numbered s ≡ asks read → StartsWith (said read (had_by v.back s)) (given s v.events)
-    → (cause ≡ causes.Gone) ⊎ (cause ≡ causes.NoMemory)
-    → IsCauseOf v.events s messages cause → IsFinal v s cause messages
+    → (cause ≡ causes.Gone) ⊎ (cause ≡ causes.NoMemory) ⊎ (cause ≡ causes.Unread)
+    → IsCauseOf v.dialect v.events s messages cause → IsFinal v s cause messages
 final_begun v s cause messages read more split asked_is said_is partial caused =
     let on : StartsWith (said messages (had_by v.back s)) (said read (had_by v.back s)) = subst
     (λ (ms : List Message). StartsWith (said ms (had_by v.back s)) (said read (had_by v.back s))) (sym split)
@@ -168,7 +168,8 @@ final_begun v s cause messages read more split asked_is said_is partial caused =
       );
       beginning = begins_on (given s v.events) (said read (had_by v.back s))
           (said messages (had_by v.back s)) said_is on;
-      complete = λ not_gone enough. absurd (⊎_elim (λ is. not_gone is) (λ is. enough is) partial);
+      complete = λ not_gone enough was_read.
+          absurd (⊎_elim (λ is. not_gone is) (λ r. ⊎_elim (λ is. enough is) (λ is. was_read is) r) partial);
       caused = caused;
     }
 
@@ -200,7 +201,10 @@ final_closed v s causes.Gone messages rest h reads = let m =
     final_begun v s causes.Gone messages h.messages m.0 m.1 h.asked h.said (inl refl) h.caused
 final_closed v s causes.NoMemory messages rest h reads = let m =
     first_of_reading v.dialect (fed s v.events) h.rest rest h.messages messages h.read reads in
-    final_begun v s causes.NoMemory messages h.messages m.0 m.1 h.asked h.said (inr refl) h.caused
+    final_begun v s causes.NoMemory messages h.messages m.0 m.1 h.asked h.said (inr (inl refl)) h.caused
+final_closed v s causes.Unread messages rest h reads = let m =
+    first_of_reading v.dialect (fed s v.events) h.rest rest h.messages messages h.read reads in
+    final_begun v s causes.Unread messages h.messages m.0 m.1 h.asked h.said (inr (inr refl)) h.caused
 
 -- a session that is still open has read all that spells a message
 ended_none : (s : SessionState) → s.queue ≡ [] → s.out ≡ [] → finished_by s ≡ None → s.ended ≡ None
@@ -282,6 +286,8 @@ final_placed v s causes.Gone messages rest h none emptied many reads =
     final_closed v s causes.Gone messages rest h reads
 final_placed v s causes.NoMemory messages rest h none emptied many reads =
     final_closed v s causes.NoMemory messages rest h reads
+final_placed v s causes.Unread messages rest h none emptied many reads =
+    final_closed v s causes.Unread messages rest h reads
 
 -- a session at whose entry in the report a cause stands is running or closed, as that cause says
 placed_as : (f : SessionFacts) (c : EndCause) (o : Bool) (k : Option EndCause) → IsKnownAs o k f → k ≡ Some c
@@ -376,7 +382,7 @@ reported v end unopened h numbered back all none emptied = record {
           first = subst (λ x. StartsWith (asks messages) x) (sym qa) k.first;
           begins = subst (λ x. StartsWith (said messages x) (given s v.events)) (sym qh) k.beginning;
         };
-        complete = λ not_gone enough. let w = k.complete not_gone enough in (qa ∙ w.0, w.1 ∙ ap (said messages) (sym qh));
+        complete = λ not_gone enough was_read. let w = k.complete not_gone enough was_read in (qa ∙ w.0, w.1 ∙ ap (said messages) (sym qh));
         caused = k.caused;
       };
 }

@@ -8,7 +8,8 @@ use Rattle.exchange.specs.Ends.{WorkerView}
 use Rattle.session_book.specs.declared.causes.EndCause.{EndCause}
 use Rattle.session_book.specs.declared.causes.EndCause.TheVariants as causes
 use Rattle.session_book.specs.Session.{SessionState, once_fed, once_input_ended, holding}
-use Rattle.session_book.specs.Book.{BookState, session_of}
+use Rattle.session_book.specs.Book.{BookState, session_of, IsUnread}
+use Rattle.proto.specs.declared.dialect.Dialect.TheVariants.{Lenient}
 use Rattle.worker_port.specs.declared.events.PortRecord.{PortRecord}
 use Rattle.worker_port.specs.declared.events.PortRecord.TheVariants as was
 use Rattle.worker.specs.declared.worker.WorkerState.{WorkerState}
@@ -23,7 +24,7 @@ use Rattle.exchange.proofs.Lists.{starts_trans}
 use Rattle.worker.specs.Workers.{Continues, Closes, Shuts, LeavesWorker, IsTraceBy}
 use Rattle.worker.proofs.EndCauseLemmas.{rises_with, length-with}
 use Rattle.worker_port.proofs.Facts.{about, elsewhere, fed_here, input_ended_here}
-use Rattle.worker.proofs.SessionSteps.{Runs, runs, runs_at_port, runs_on, Ends, closed_gone, closed_no_memory, closed_finished, served_came, served_fed}
+use Rattle.worker.proofs.SessionSteps.{Runs, runs, runs_at_port, runs_on, Ends, closed_gone, closed_no_memory, closed_unread, closed_finished, served_came, served_fed}
 use Rattle.worker.proofs.SessionSteps.{served_holding, served_input_ended}
 use Rattle.worker.proofs.TraceLaws.{told_before, tells_as, paused_but, paused_elsewhere}
 use Rattle.worker.proofs.PieceLaws.{pieces_at}
@@ -143,6 +144,16 @@ told_no_memory v v' unopened ended t h k r =
     let st = stays (facts v t) (facts v' t) port causes.NoMemory here refl refl in
     told_shut v v' unopened ended t causes.NoMemory h k r (closed_no_memory (facts v t) (facts v' t) r.running.s
     (facts v t).piece r.running.served st (ap (λ (p : PortFacts). p.shut) here.port_is))
+
+-- shut as its client took no output
+pub told_unread : (v v' : RunView) (unopened : ℕ) (ended : Bool) (t : ℕ) → IsTraceKnown v unopened ended
+    → ClosesIn v v' t causes.Unread (was.Shut t) → v'.dialect ≡ Lenient → Runs (facts v t) → IsTraceKnown v' unopened ended
+told_unread v v' unopened ended t h k lenient r =
+    let here = shuts_here v v' t causes.Unread causes.Drained k r.cause in
+    let port = record (port_facts v.events t) { shut = true } in
+    let st = stays (facts v t) (facts v' t) port causes.Unread here refl refl in
+    told_shut v v' unopened ended t causes.Unread h k r (closed_unread (facts v t) (facts v' t) r.running.s
+    (facts v t).piece r.running.served st (ap (λ (p : PortFacts). p.shut) here.port_is) lenient)
 
 -- shut as it has finished
 pub told_finished : (v v' : RunView) (unopened : ℕ) (ended : Bool) (t : ℕ) (c : EndCause)
@@ -312,14 +323,14 @@ steps_on told old new f stays port own h each =
 -- a worker whose session was shut goes on, if all is told of it
 pub shut_goes_on : {P : Type 0} (told : P → Option PortTrace) (old new : WorkerState P) (t : ℕ) (c : EndCause)
     → Shuts told old new t c → IsWorkerServing told old
-    → ((trace : PortTrace) → IsTraceKnown (run_view trace old) old.unopened old.ended
+    → ((trace : PortTrace) → told old.port ≡ Some trace → IsTraceKnown (run_view trace old) old.unopened old.ended
     → ClosesIn (run_view trace old) (run_view (then_told (was.Shut t ∷ []) trace) new) t c (was.Shut t)
     → IsTraceKnown (run_view (then_told (was.Shut t ∷ []) trace) new) old.unopened old.ended)
     → WorkerGoesOn told old new
 shut_goes_on told old new t c k h is_told =
     steps_on told old new (then_told (was.Shut t ∷ [])) (λ s q. q) k.port (own_closed told old new old.port t c k.closes h) h
     (λ trace e was_so. (
-      is_told trace was_so.0 (closes_in trace old new t c (was.Shut t) k.closes was_so.0.rising),
+      is_told trace e was_so.0 (closes_in trace old new t c (was.Shut t) k.closes was_so.0.rising),
       paused_but trace (then_told (was.Shut t ∷ []) trace) t (piece_of old.book) (piece_of new.book)
           (pieces_at old.book new.book t None k.closes.book.only_at)
           (λ s ne. paused_elsewhere trace (was.Shut t) s (ne_eqb t s ne)) was_so.1,
@@ -330,9 +341,17 @@ pub no_memory_goes_on : {P : Type 0} (told : P → Option PortTrace) (old new : 
     → Shuts told old new t causes.NoMemory → IsWorkerServing told old → session_of old.book t ≡ Some s
     → WorkerGoesOn told old new
 no_memory_goes_on told old new t s k h e =
-    shut_goes_on told old new t causes.NoMemory k h (λ trace was_told closes. told_no_memory (run_view trace old)
+    shut_goes_on told old new t causes.NoMemory k h (λ trace is was_told closes. told_no_memory (run_view trace old)
     (run_view (then_told (was.Shut t ∷ []) trace) new) old.unopened old.ended t was_told closes
     (runs (facts (run_view trace old) t) s (was_told.each t) e))
+
+-- so does one that has shut a lenient session whose client took no output
+pub unread_goes_on : {P : Type 0} (told : P → Option PortTrace) (old new : WorkerState P) (t : ℕ)
+    → Shuts told old new t causes.Unread → IsWorkerServing told old → IsUnread old.book t → WorkerGoesOn told old new
+unread_goes_on told old new t k h u =
+    shut_goes_on told old new t causes.Unread k h (λ trace is was_told closes. told_unread (run_view trace old)
+    (run_view (then_told (was.Shut t ∷ []) trace) new) old.unopened old.ended t was_told closes
+    ((h.whose trace is).1 ∙ u.lenient) (runs (facts (run_view trace old) t) u.s (was_told.each t) u.there))
 
 -- ---- an event of the port
 

@@ -4,6 +4,7 @@ use Rattle.std.specs.Prelude.{All, Some, None, IsSome}
 use Rattle.std.specs.List.{list_any, last_or}
 use Rattle.std.specs.List.Sorted.{IsStrictlyIncreasing}
 use Rattle.proto.specs.declared.dialect.Dialect.{Dialect}
+use Rattle.proto.specs.declared.dialect.Dialect.TheVariants.{Lenient}
 use Rattle.proto.specs.declared.message.FatalKind.{FatalKind}
 use Rattle.proto.specs.declared.message.Message.{Message}
 use Rattle.proto.specs.declared.message.Message.TheVariants.{Quit, Fatal}
@@ -22,28 +23,29 @@ use Rattle.worker_port.specs.Giving.{BeginsAnswers}
 use Rattle.worker.specs.Sessions.{cause_of}
 
 -- What the list and the messages say of a session with this cause. Gone says only that the port told Gone, and NoMemory only that
--- the session was shut.
-abbrev pub IsCauseOf : List PortRecord → ℕ → List Message → EndCause → Type 0
-IsCauseOf events s messages causes.Drained =
+-- the session was shut. Unread says that too, and that the session was lenient: no strict one ends so.
+abbrev pub IsCauseOf : Dialect → List PortRecord → ℕ → List Message → EndCause → Type 0
+IsCauseOf d events s messages causes.Drained =
     (is_in (was.EndOfInput s) events ≡ false) × (is_in (was.Gone s) events ≡ false) × (is_in (was.Shut s) events ≡ false)
     × (list_any ends_session messages ≡ false)
-IsCauseOf events s messages causes.EndOfInput =
+IsCauseOf d events s messages causes.EndOfInput =
     (is_in (was.EndOfInput s) events ≡ true) × (is_in (was.Shut s) events ≡ true) × (list_any ends_session messages ≡ false)
-IsCauseOf events s messages causes.Gone = is_in (was.Gone s) events ≡ true
-IsCauseOf events s messages causes.NoMemory = is_in (was.Shut s) events ≡ true
-IsCauseOf events s messages causes.Quit = (is_in (was.Shut s) events ≡ true) × (last_or None messages ≡ Some Quit)
-IsCauseOf events s messages causes.Fatal =
+IsCauseOf d events s messages causes.Gone = is_in (was.Gone s) events ≡ true
+IsCauseOf d events s messages causes.NoMemory = is_in (was.Shut s) events ≡ true
+IsCauseOf d events s messages causes.Unread = (is_in (was.Shut s) events ≡ true) × (d ≡ Lenient)
+IsCauseOf d events s messages causes.Quit = (is_in (was.Shut s) events ≡ true) × (last_or None messages ≡ Some Quit)
+IsCauseOf d events s messages causes.Fatal =
     (is_in (was.Shut s) events ≡ true) × (kind : FatalKind) × (last_or None messages ≡ Some (Fatal kind))
 
--- Of a session whose bytes spell these messages: the port gave it a beginning of their answers. If its cause is neither Gone nor
--- NoMemory, the port gave it all of them, and the history has all its requests.
-pub record IsSessionAnswered (events : List PortRecord) (history : List Answered) (worker s : ℕ) (cause : EndCause)
-    (messages : List Message) : Type 0 where
+-- Of a session whose bytes spell these messages in this dialect: the port gave it a beginning of their answers. If its cause is
+-- none of Gone, NoMemory and Unread, the port gave it all of them, and the history has all its requests.
+pub record IsSessionAnswered (d : Dialect) (events : List PortRecord) (history : List Answered) (worker s : ℕ)
+    (cause : EndCause) (messages : List Message) : Type 0 where
   pub answers : BeginsAnswers history worker s (given s events) messages
-  pub complete : cause ≢ causes.Gone → cause ≢ causes.NoMemory
+  pub complete : cause ≢ causes.Gone → cause ≢ causes.NoMemory → cause ≢ causes.Unread
       → (map (λ e. e.request) (session_share history worker s) ≡ asks messages)
       × (given s events ≡ said messages (map (λ e. e.reply) (session_share history worker s)))
-  pub caused : IsCauseOf events s messages cause
+  pub caused : IsCauseOf d events s messages cause
 
 -- The report lists sessions that were opened, once each, by rising numbers. An opened session that it doesn't list was shut, and
 -- unopened counts these. A session that it doesn't list was given nothing and asked nothing.
@@ -67,7 +69,7 @@ pub record IsReported (d : Dialect) (events : List PortRecord) (end : WorkerView
   pub answered : (history : List Answered) → worker_share history end.worker ≡ end.back
       → asked_posted (worker_share history end.worker) ≡ end.sent
       → (s : ℕ) (cause : EndCause) (messages : List Message) (rest : List ℕ) → cause_of sessions s ≡ Some cause
-      → Reads d (fed s events) messages rest → IsSessionAnswered events history end.worker s cause messages
+      → Reads d (fed s events) messages rest → IsSessionAnswered d events history end.worker s cause messages
 
 -- the end has said bye, and nothing is outstanding
 pub record HasSaidBye (old new : WorkerView) : Type 0 where

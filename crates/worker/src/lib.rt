@@ -5,6 +5,7 @@ mod executor;
 mod gate;
 mod hold_gate;
 mod pauses;
+mod retries;
 mod run;
 mod session_list;
 mod worker;

@@ -1,5 +1,6 @@
-//! What a worker does in a turn in which nothing came.
+//! What a worker does in a turn in which nothing came, and what it waits for.
 
+use crate::retries::{Retries, Seconds};
 use crossbeam_utils::Backoff;
 use exchange::{IdleTurns, ParkingWord, Waits};
 use std::sync::Wait;
@@ -19,6 +20,8 @@ pub(crate) struct Pauses<'a> {
     is_timed: bool,
     /// How long the worker waited, for answers or in its port.
     pub(crate) waits: Waits<'a>,
+    pub(crate) retries: Retries,
+    pub(crate) seconds: Seconds,
 }
 
 impl<'a> Pauses<'a> {
@@ -29,6 +32,8 @@ impl<'a> Pauses<'a> {
             backoff: Backoff::new(),
             is_timed: spin.is_some(),
             waits,
+            retries: Retries::default(),
+            seconds: Seconds::default(),
         }
     }
 

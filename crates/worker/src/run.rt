@@ -10,6 +10,7 @@ ghost use Rattle.worker.specs.Starts.{IsPortAt, HasSentNothing};
 use crate::executor::{Executor, Posting};
 use crate::gate::Gate;
 use crate::pauses::Pauses;
+use crate::retries::{Retries, Seconds};
 use crate::session_list::SessionList;
 use crate::worker::{AskAgain, Worker, WorkerState};
 use exchange::{StorageSignals, Waits, WorkerEnd};
@@ -30,9 +31,6 @@ const EVENTS_WHILE_BUSY: usize = 8;
 /// The most requests that a session is asked for in a row, while others wait to be asked and much output waits. Else it is all
 /// that a window has, since the pipelines of fewer sessions are then under way, and stay in the processor's cache.
 const ASKS_IN_A_ROW: usize = 8;
-
-/// The most sessions whose peer accepted nothing that are offered their output again in a turn.
-const SLOW_A_TURN: usize = 2;
 
 /// A worker that doesn't wait sets its gauges each time that it has taken so many turns.
 const TURNS_PER_GAUGES: u32 = 16;
@@ -66,7 +64,7 @@ fn take_events<P: Port, G: Gate, E: Executor, R: Clock>(
     let mut count = 0;
     for taken in 1..=EVENTS_A_TURN {
         // The time for which the port may wait isn't busy, and before it the worker sets its gauges.
-        let may_wait = worker.may_wait();
+        let may_wait = worker.may_wait(&pauses.retries);
         if may_wait {
             worker.state.set_gauges(storage);
             pauses.waits.begin(rt);
@@ -174,7 +172,16 @@ fn give_output<P: Port>(worker: &mut Worker<P>, task: Task, most: usize) -> bool
     moved
 }
 
-/// Counts a session that is closed as too much output waits, for `stats`.
+/// Offers output again that clients didn't take. True if something was done.
+fn retry_output<P: Port>(worker: &mut Worker<P>, retries: &mut Retries) -> bool
+    ensures { Continues P.told P.leads_to worker.old worker.new }
+{
+    let waiting = worker.state.book.ready(Task::RetryWrite);
+    let most = retries.next(worker.state.port.rooms(), waiting);
+    give_output(worker, Task::RetryWrite, most)
+}
+
+/// Counts a session that is closed as its client took no output, for `stats`.
 fn count_unread(worker: usize, storage: &StorageSignals) {
     if let Some(gauges) = storage.gauges(worker) {
         let closed = gauges.get(Gauge::ClosedUnread).wrapping_add(1);
@@ -182,18 +189,30 @@ fn count_unread(worker: usize, storage: &StorageSignals) {
     }
 }
 
-/// Shuts the sessions that have the most output, as long as so much waits over all sessions that there is no room for it. True if
-/// something was done.
-fn limit_output<P: Port>(worker: &mut Worker<P>, storage: &StorageSignals) -> bool
+/// Once another second has passed in which a session waited for room, shuts sessions whose clients took no output for ten such
+/// seconds, until there is room. True if something was done.
+fn shut_unread<P: Port, R: Clock>(
+    rt: &R,
+    worker: &mut Worker<P>,
+    seconds: &mut Seconds,
+    storage: &StorageSignals,
+) -> bool
     ensures { Continues P.told P.leads_to worker.old worker.new }
 {
+    if !seconds.has_passed(rt, worker.state.book.waits_for_room()) {
+        return false;
+    }
+    worker.state.book.count_second();
     let mut moved = false;
     for _ in 0..WINDOW {
-        let Some(session) = worker.state.book.fullest() else {
+        if !worker.state.book.waits_for_room() {
+            break;
+        }
+        let Some(session) = worker.state.book.find_unread() else {
             break;
         };
         count_unread(worker.state.batch.worker(), storage);
-        worker.state.shut(session, EndCause::NoMemory);
+        worker.state.shut(session, EndCause::Unread);
         moved = true;
     }
     moved
@@ -218,9 +237,9 @@ fn take_turn<P: Port, G: Gate, E: Executor, R: Clock>(
     worker.flush(executor, came == EVENTS_A_TURN);
     let settled = settle_answers(worker, gate);
     let given = give_output(worker, Task::Give, usize::MAX);
-    let given_slowly = give_output(worker, Task::RetryWrite, SLOW_A_TURN);
-    let shut = limit_output(worker, storage);
-    held || came > 0 || fed || asked || settled || given || given_slowly || shut
+    let given_again = retry_output(worker, &mut pauses.retries);
+    let shut = shut_unread(rt, worker, &mut pauses.seconds, storage);
+    held || came > 0 || fed || asked || settled || given || given_again || shut
 }
 
 /// Whether all is done: the port has ended, nothing is held or outstanding, and no open session has input or output left. One

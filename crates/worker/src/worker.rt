@@ -12,21 +12,22 @@ ghost use Rattle.worker.specs.Workers.{Closes, Shuts, Admits, Refuses, SameRest,
 
 use crate::executor::{Executor, Posting};
 use crate::gate::Gate;
+use crate::retries::Retries;
 use crate::session_list::SessionList;
 use bytes::Bytes;
 use exchange::{Answered, StorageSignals, WorkerBatch, WorkerEnd};
 use proto::{Dialect, Posted, Request};
-use session_book::{Book, EndCause, Received, Settled, Task};
+use session_book::{Book, EndCause, Received, Settled, Task, Unasked};
 use std::alloc::Global;
 use std::marker::Model;
-use worker_port::{Gone, Port, PortEvent};
+use worker_port::{CloseReason, Gone, Port, PortEvent};
 
 /// What asking a session brought.
 #[derive(Clone, Copy)]
 pub(crate) enum Asked {
     /// Its next request, which is held, and whether the session can be read further.
     Request { reads_on: bool },
-    /// None: there is none for now, or out of memory, and the session was shut.
+    /// None: there is none for now, or it waits; or memory ran out, and the session was shut.
     Nothing,
 }
 
@@ -72,8 +73,30 @@ impl<P: Port> WorkerState<P> {
         ensures shuts { Shuts P.told self.old self.new session cause }
         ensures leads { P.leads_to self.old.port self.new.port }
     {
+        self.explain(session, cause);
         self.port.shut(session);
         self.close(session, cause);
+    }
+
+    /// Tells the port of a session that is closed for want of memory.
+    fn explain(&self, session: u64, cause: EndCause) {
+        match cause {
+            EndCause::NoMemory => self.port.explain(session, CloseReason::Memory, b""),
+            EndCause::Unread => self.port.explain(session, CloseReason::Unread, b""),
+            EndCause::Drained
+            | EndCause::EndOfInput
+            | EndCause::Quit
+            | EndCause::Fatal
+            | EndCause::Gone => {}
+        }
+    }
+
+    /// Tells the port of a session that was asked, and is to be closed for what it sent.
+    fn explain_fault(&self, session: u64) {
+        if let Some(fault) = self.book.fault(session) {
+            let reason = CloseReason::Sent(fault.kind);
+            self.port.explain(session, reason, fault.line.as_slice());
+        }
     }
 
     /// Opens a session in the book, and writes its entry in the report; or shuts it, as there is no room for it.
@@ -85,6 +108,7 @@ impl<P: Port> WorkerState<P> {
         ensures admits { Admits P.told self.old self.new session ⊎ Refuses P.told self.old self.new session }
     {
         if self.book.open(session).is_err() {
+            self.explain(session, EndCause::NoMemory);
             self.port.shut(session);
             self.unopened = self.unopened.saturating_add(1);
             return;
@@ -194,11 +218,14 @@ impl<P: Port> Worker<P> {
         }
     }
 
-    /// Whether the port may wait for an event: nothing is outstanding or held back, and no session has anything to do.
-    pub(crate) fn may_wait(&self) -> bool {
+    /// Whether the port may wait for an event: nothing is outstanding or held back, and no session has anything to do, or none
+    /// before a client sends something or takes output.
+    pub(crate) fn may_wait(&self, retries: &Retries) -> bool {
         self.state.request.is_none()
             && self.state.batch.outstanding() == 0
-            && self.state.book.is_idle()
+            && (self.state.book.is_idle()
+                || (retries.are_done(self.state.port.rooms())
+                    && self.state.book.waits_for_clients()))
     }
 
     /// Takes one event of the port, for which it may wait or not, unless it has ended. True if there was one.
@@ -258,8 +285,13 @@ impl<P: Port> Worker<P> {
                     reads_on: self.state.book.reads_on(),
                 }
             }
-            Ok(None) => Asked::Nothing,
-            Err(_) => {
+            Ok(None) => {
+                self.state.explain_fault(session);
+                Asked::Nothing
+            }
+            // It stands in a queue of the book.
+            Err(Unasked::Waits) => Asked::Nothing,
+            Err(Unasked::NoMemory) => {
                 self.state.shut(session, EndCause::NoMemory);
                 Asked::Nothing
             }
@@ -276,7 +308,7 @@ impl<P: Port> Worker<P> {
             || (self.state.batch.outstanding() > 0 && self.state.book.is_crowded())
     }
 
-    /// Reads the session's next request and puts it, unless it is put off. If there may be another one that can't be asked
+    /// Reads the session's next request and puts it, unless it waits. If there may be another one that can't be asked
     /// now, the session is put into the queue of those to be asked.
     pub(crate) fn ask_and_put<G: Gate>(
         &mut self,
@@ -288,9 +320,6 @@ impl<P: Port> Worker<P> {
         ensures goes_on { Continues P.told P.leads_to self.old self.new }
         ensures now { result ≡ AskAgain.Now → self.new.request ≡ None }
     {
-        if self.state.book.put_off(session) {
-            return AskAgain::Later;
-        }
         let Asked::Request { reads_on } = self.ask(session) else {
             return AskAgain::Later;
         };

@@ -9,15 +9,16 @@ ghost use Rattle.exchange.specs.Beginnings.{StartsWith};
 ghost use Rattle.worker_port.specs.Giving.{MayBeSent, by_system_clock, sent_for};
 ghost use Rattle.std.specs.Io.KnownBytes.{ReadConsumes, WriteAppends};
 
+use super::raw::RawStream;
+use crate::peer::Peer;
 use crate::streams::Owner;
 use exchange::{ExchangeName, WorkerBatch};
-use mio::net::TcpStream;
 use proto::{Noted, Trace};
 use std::io::{self, Read, Write};
 use worker_port::ToldHistory;
 
 /// A session's stream.
-pub(crate) type ServedStream = LoggedStream<TcpStream>;
+pub(crate) type ServedStream = LoggedStream<RawStream>;
 
 /// Stands for a stream as it was at first.
 #[derive(Drop)]
@@ -41,6 +42,13 @@ pub(crate) struct LoggedStream<S: Drop> {
     pub(crate) sent: Trace<u8>,
     /// A read of no bytes came: no more come.
     pub(crate) has_ended: bool,
+}
+
+impl LoggedStream<RawStream> {
+    /// Who has the other end.
+    pub(crate) fn peer(&self) -> Peer {
+        self.stream.peer()
+    }
 }
 
 impl<S: Read + Write + Drop> LoggedStream<S> {

@@ -1,4 +1,4 @@
-//! How many requests a worker has on their way while much is unfinished, and which session it shuts where too much output waits.
+//! How many requests a worker has on their way while much is unfinished, and which wait while much output does.
 
 use crate::limits::talk::set_of;
 use crate::same::check_same;
@@ -41,8 +41,8 @@ struct StepPort {
     /// The most that was offered at once to each of the silent sessions.
     offered: [usize; 3],
     given: usize,
-    /// How many sessions were shut, and the last of them.
-    shut: (u64, u64),
+    /// How many sessions were shut.
+    shut: u64,
     has_ended: bool,
 }
 
@@ -53,7 +53,7 @@ impl StepPort {
             accepts: false,
             offered: [0; 3],
             given: 0,
-            shut: (0, 0),
+            shut: 0,
             has_ended: false,
         }
     }
@@ -116,8 +116,8 @@ impl Port for StepPort {
 
     fn resume(&mut self, _session: u64) {}
 
-    fn shut(&mut self, session: u64) {
-        self.shut = (self.shut.0.saturating_add(1), session);
+    fn shut(&mut self, _session: u64) {
+        self.shut = self.shut.saturating_add(1);
     }
 
     ghost leads_reflexive = { λ _. tt };
@@ -273,30 +273,26 @@ struct Unread {
     value: usize,
     keys: usize,
     misses: usize,
-    /// What waits then.
+    /// What waits while nothing is accepted, and what there is in all.
     waiting: usize,
-    /// How many sessions are shut, the last of them, and what waits after that.
-    shut: (u64, u64),
-    left: usize,
+    all: usize,
 }
 
-/// At 64 MiB, and one byte above it.
+/// The three answers fit into 64 MiB, or the third waits until there is room.
 const UNREAD: [Unread; 2] = [
     Unread {
         value: 103_543,
         keys: 216,
         misses: 5,
         waiting: 67_108_864,
-        shut: (0, 0),
-        left: 67_108_864,
+        all: 67_108_864,
     },
     Unread {
-        value: 127_080,
+        value: 127_100,
         keys: 176,
         misses: 10,
-        waiting: 67_108_865,
-        shut: (1, 3),
-        left: 44_739_210,
+        waiting: 44_746_300,
+        all: 67_119_425,
     },
 ];
 
@@ -315,7 +311,7 @@ fn add_silent<R: Abort + Copy + Drop>(steps: &mut Steps<R>, unread: &Unread) {
     }
 }
 
-/// How the silent sessions that weren't shut end, and how many of the bytes that wait they accept.
+/// How the silent sessions end, and how many bytes they accept.
 fn add_ending<R: Abort + Copy + Drop>(
     steps: &mut Steps<R>,
     ending: Ending,
@@ -324,22 +320,19 @@ fn add_ending<R: Abort + Copy + Drop>(
     match ending {
         Ending::Accept => {
             steps.add(Step::LetAccept);
-            steps.add(Step::UntilGiven(unread.left.saturating_add(100)));
-            unread.left
+            steps.add(Step::UntilGiven(unread.all.saturating_add(100)));
+            unread.all
         }
         Ending::Go => {
             for session in &SILENT {
-                if *session != unread.shut.1 {
-                    steps.add(Step::Gone(*session));
-                }
+                steps.add(Step::Gone(*session));
             }
             0
         }
     }
 }
 
-/// Session 1 sends 20 requests, each once the one before it was answered: at 64 MiB no answer of its own may wait for another,
-/// since that would be output above the limit.
+/// Session 1 sends 20 requests, each once the one before it was answered: what is small goes on.
 fn add_single_requests<R: Abort + Copy + Drop>(steps: &mut Steps<R>) {
     let rt = steps.rt;
     let line = lines_of(&rt, steps.alloc, 1, 1);
@@ -349,8 +342,8 @@ fn add_single_requests<R: Abort + Copy + Drop>(steps: &mut Steps<R>) {
     }
 }
 
-/// Session 1 sends 20 requests in turn while the output of the others waits, and 20 more at once when it doesn't. How many of
-/// the bytes that wait are accepted.
+/// Session 1 sends 20 requests in turn while the output of the others waits, and 20 more at once when it doesn't. How many bytes
+/// the others accept.
 fn add_unread<R: Abort + Copy + Drop>(
     steps: &mut Steps<R>,
     unread: &Unread,
@@ -365,10 +358,14 @@ fn add_unread<R: Abort + Copy + Drop>(
     accepted
 }
 
-fn check_port(rt: &impl Abort, port: &StepPort, unread: &Unread, given: usize) {
-    check_same(rt, port.offered(), unread.waiting, unread.waiting);
-    check_same(rt, port.given, given, unread.waiting);
-    check_same(rt, port.shut, unread.shut, unread.waiting);
+/// How many bytes the silent sessions were offered and all were given, and how many sessions were shut.
+fn check_port(rt: &impl Abort, port: &StepPort, offered: usize, given: usize) {
+    check_same(
+        rt,
+        (port.offered(), port.given, port.shut),
+        (offered, given, 0),
+        offered,
+    );
 }
 
 fn check_unread<R>(rt: &R, alloc: Global, unread: &Unread, ending: Ending)
@@ -380,11 +377,12 @@ where
     let geometry = Geometry::new(1_048_576, 8).expect(rt, "a geometry");
     let port = StepPort::new(steps.steps);
     let served = serve_untold(rt, alloc, geometry, port, &OpenGate);
-    check_port(rt, &served.port, unread, accepted.saturating_add(200));
+    let offered = unread.waiting.max(accepted);
+    check_port(rt, &served.port, offered, accepted.saturating_add(200));
 }
 
 #[test]
-fn above_64_mib_of_output_the_fullest_session_is_shut(rt: HostRuntime) {
+fn above_64_mib_of_output_large_answers_wait(rt: HostRuntime) {
     for unread in &UNREAD {
         check_unread(&rt, rt.alloc(), unread, Ending::Accept);
         check_unread(&rt, rt.alloc(), unread, Ending::Go);

@@ -1,8 +1,9 @@
-use Rattle.std.proofs.Common.{◌≡◌, ◌+◌, ◌<◌, ◌++◌, ◌∷◌, [], List, length, Ok, None, Option, refl, ap, sym, subst, ◌∙◌, arith}
+use Rattle.std.proofs.Common.{◌≡◌, ◌+◌, ◌<◌, ◌++◌, ◌∷◌, [], List, length, Ok, Err, None, Option, refl, ap, sym, subst, ◌∙◌, arith}
 use Rattle.std.proofs.lemmas.Bool.{OnTrue_at, OnFalse_at}
 use Rattle.std.proofs.lemmas.Result.{err_from_is_err_and}
 use Rattle.proto.specs.declared.limits.TheConstants.{WINDOW}
 use Rattle.proto.specs.declared.message.Request.{Request}
+use Rattle.session_book.specs.declared.causes.Unasked.{Unasked}
 use Rattle.session_book.specs.declared.causes.Unsettled.{Unsettled}
 use Rattle.session_book.specs.Session.{given_request}
 use Rattle.session_book.specs.Book.{BookState, IsBook, GivesNone, given_in, full, spent}
@@ -41,7 +42,8 @@ returns-in_err-request-clause-open c =
     asks_none _ _ c.args.self.now c.args.session s t x c.next_ask-read.result c.from_residual.result c.self.view_is
     (record { was_open = p.there; only = p.only t; reads = reads_to _ _ _ _ _ _ c.join_queues.ensures c.next_ask-read.ensures.reads })
     (ap given_request c.in_err-request.was) (ap given_in failed.1) (λ e. absurd (let f = failed.1 in cc))
-    (λ f e. c.in_err-request.was) (rw c.next_ask-read.ensures.kept refl) at
+    (λ f e. let same : Err failed.0 ≡ Err f = sym failed.1 ∙ e in let is : failed.0 ≡ f = cc in
+    c.in_err-request.was ∙ ap (λ (x : Unasked). Err x) (sym failed.2 ∙ is)) (rw c.next_ask-read.ensures.kept refl) at
 
 pub invariant_of-self-in_default-2 : goal.invariant_of-self-in_default-2
 invariant_of-self-in_default-2 c =

@@ -12,7 +12,7 @@ pub returns-then-self-gt-MAX_KEPT : goal.returns-then-self-gt-MAX_KEPT
 returns-then-self-gt-MAX_KEPT c =
     let i = c.self.inside in
     let h = dropping i.dialect i.gone.items i.kept i.need i.noreply c.self.invariant.3 c.if-self-gt-MAX_KEPT.true in
-    (whole_dropped c.args.self.now i.dialect i.gone.items i.kept i.need i.noreply c.self.view_is h c.requires, refl)
+    (whole_dropped c.args.self.now i.dialect i.gone.items i.kept i.need i.noreply c.self.view_is h c.requires, c.self.view_is)
 
 pub overflow_sub-end : goal.overflow_sub-end
 overflow_sub-end c =
@@ -35,8 +35,8 @@ overflow_sub-start c =
 pub invariant_of-self-then-is_worth_taking : goal.invariant_of-self-then-is_worth_taking
 invariant_of-self-then-is_worth_taking c =
     let i = c.self.inside in
-    taken_anew i.dialect i.gone.items i.kept c.take_part.new.self i.need i.dropped i.noreply i.noreply c.self.invariant.3
-    c.if-self-gt-MAX_KEPT.false c.self.invariant.0
+    taken_anew i.dialect i.gone.items i.kept c.take_part.new.self i.need i.dropped i.noreply i.noreply _ c.self.invariant.3
+    c.if-self-gt-MAX_KEPT.false c.self.invariant.0 (search rules)
 
 pub returns-in_ok-value-in-Found-Put-default : goal.returns-in_ok-value-in-Found-Put-default
 returns-in_ok-value-in-Found-Put-default c =

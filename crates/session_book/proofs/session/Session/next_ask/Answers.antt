@@ -1,5 +1,6 @@
-use Rattle.std.proofs.Common.{◌≡◌, true, refl, subst, ◌∙◌}
+use Rattle.std.proofs.Common.{◌≡◌, true, refl, ap, subst, ◌∙◌, Err}
 use Rattle.std.proofs.lemmas.Result.{err_from_is_err_and}
+use Rattle.session_book.specs.declared.causes.Unasked.{Unasked}
 use Rattle.session_book.specs.Session.{SessionState, begins_asked}
 use Rattle.session_book.proofs.Steps.{starts_locals, reads_local, reads_ask, takes_less, not_ask}
 use Rattle.session_book.proofs.Steps.{has_read, tries_none, tries_refused}
@@ -15,7 +16,7 @@ loop-message-init c = record {
 pub returns-in_err-message-clause-reads : goal.returns-in_err-message-clause-reads
 returns-in_err-message-clause-reads c =
     let p = err_from_is_err_and c.from_residual.result c.from_residual.ensures.1 in
-    rw p.1 (tries_refused _ _ _ _ _ _ _ c.loop-message.invariant.locals c.in_err-message.ensures.tries)
+    rw (p.1 ∙ ap (λ (e : Unasked). Err e) p.2) (tries_refused _ _ _ _ _ _ _ c.loop-message.invariant.locals c.in_err-message.ensures.tries)
 
 pub returns-in-Ask-clause-reads : goal.returns-in-Ask-clause-reads
 returns-in-Ask-clause-reads c =

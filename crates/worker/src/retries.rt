@@ -1,0 +1,66 @@
+//! When output is offered again that clients didn't take, and how long sessions wait for room.
+
+use std::time::{Clock, Duration, Instant};
+
+/// The most sessions that are offered their output again in a turn, at a port that doesn't tell of room.
+const RETRIES_A_TURN: usize = 2;
+
+/// The same at a port that tells of room, once it has told.
+const TOLD_RETRIES_A_TURN: usize = 16;
+
+/// Which of the sessions whose clients took nothing are still to be offered their output again. A port that tells of room is
+/// offered it only once it has told of some.
+#[derive(Clone, Copy, Default)]
+pub(crate) struct Retries {
+    /// How often the port had told of room when the sessions were counted.
+    rooms: Option<u64>,
+    /// How many of them are left.
+    left: usize,
+}
+
+impl Retries {
+    /// How many sessions are to be offered their output in this turn, if so many wait.
+    pub(crate) fn next(&mut self, rooms: Option<u64>, waiting: usize) -> usize {
+        if rooms.is_none() {
+            return RETRIES_A_TURN;
+        }
+        if self.rooms != rooms {
+            self.rooms = rooms;
+            self.left = waiting;
+        }
+        let count = self.left.min(TOLD_RETRIES_A_TURN);
+        self.left = self.left.saturating_sub(count);
+        count
+    }
+
+    /// Whether no output need be offered before the port tells of room.
+    pub(crate) fn are_done(&self, rooms: Option<u64>) -> bool {
+        rooms.is_some() && self.rooms == rooms && self.left == 0
+    }
+}
+
+/// Seconds, as they pass while sessions wait for room.
+#[derive(Clone, Copy, Default)]
+pub(crate) struct Seconds {
+    /// When the second began that runs; none if no session waits, or the clock couldn't be read.
+    since: Option<Instant>,
+}
+
+impl Seconds {
+    /// Whether another second has passed in which a session waited for room. The clock is read only while one does.
+    pub(crate) fn has_passed<R: Clock>(&mut self, rt: &R, is_waiting: bool) -> bool {
+        if !is_waiting {
+            self.since = None;
+            return false;
+        }
+        let Ok(now) = Instant::now(rt) else {
+            return false;
+        };
+        let since = *self.since.get_or_insert(now);
+        if now.duration_since(since) < Duration::from_secs(1) {
+            return false;
+        }
+        self.since = Some(now);
+        true
+    }
+}

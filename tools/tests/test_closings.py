@@ -1,0 +1,105 @@
+"""What an operator is told of connections that are closed: the peer, the reason and the line, and never a value."""
+import contextlib
+import os
+import re
+import time
+
+from asking import ask
+from stats_of import told
+
+
+def closed_by(server, stream):
+    """Waits until the server has closed the connection. It returns what the other end is called."""
+    host, port = stream.getsockname()[:2]
+    while stream.recv(65536):
+        pass
+    return f"{host}:{port}"
+
+
+def send_and_lose(server, sent):
+    with server.connect() as stream:
+        stream.sendall(sent)
+        return closed_by(server, stream)
+
+
+def lines_of(server, seconds=2.5):
+    """What is written to standard error until then, without the line of the options."""
+    time.sleep(seconds)
+    os.set_blocking(server.process.stderr.fileno(), False)
+    said = server.process.stderr.read() or ""
+    return [it for it in said.splitlines() if not it.startswith("segcached: ")]
+
+
+SENT = {
+    b"set a 0 0 no\r\nget b\r\n": 'malformed storage line: "set a 0 0 no"',
+    b"set a 0 0 5\r\nsecret\r\n": 'data block of another length: "set a 0 0 5"',
+    b"set a 0 0 9000000\r\nsecret": 'data block too large: "set a 0 0 9000000"',
+    b"get " + b"k" * 40_000: "line too long: \"get " + "k" * 60 + '"',
+    b"\x80\x01\x00\x06\x08\x00\x00\x00" + b"\x00\x00\x00\x10" + b"\x00" * 12 + b"secret": (
+        r'binary protocol: "\x80\x01\x00\x06\x08\x00\x00\x00\x00\x00\x00\x10' + r"\x00" * 12 + '"'),
+    b'set "a\\\x01\xff 0 0 x\r\n': r'malformed storage line: "set \"a\\\x01\xff 0 0 x"',
+}
+
+
+def test_each_reason_is_told_with_the_line(serve):
+    for sent, wanted in SENT.items():
+        server = serve("--lenient", "--workers", "1")
+        peer = send_and_lose(server, sent)
+        assert lines_of(server) == [f"closed {peer}: {wanted}"], sent
+
+
+def test_what_came_before_and_behind_the_line_is_not_told(serve):
+    server = serve("--lenient")
+    peer = send_and_lose(server, b"set k 0 0 6\r\nsecret\r\nget k\r\nset a 0 0 x y\r\nsecret\r\n")
+    assert lines_of(server) == [f'closed {peer}: malformed storage line: "set a 0 0 x y"']
+
+
+def test_of_each_reason_one_line_is_told_in_a_second_and_the_others_are_counted(serve):
+    server, since = serve("--lenient", "--workers", "2"), time.monotonic()
+    for _ in range(50):
+        send_and_lose(server, b"set a 0 0 no\r\n")
+        send_and_lose(server, b"\x80")
+    lines = lines_of(server)
+    took = time.monotonic() - since
+    malformed = [it for it in lines if "malformed storage line" in it]
+    assert len(lines) - len(malformed) <= took + 1 and 1 <= len(malformed) <= took + 1
+    more = [int(found[1]) for it in malformed if (found := re.search(r"; ([0-9]+) more for this$", it))]
+    assert len(malformed) + sum(more) == 50
+
+
+def test_idle_connections_are_told(serve):
+    server = serve("--lenient", "--idle", "1")
+    with server.connect() as stream:
+        peer = closed_by(server, stream)
+    assert lines_of(server) == [f"closed {peer}: idle"]
+
+
+def test_connections_closed_for_memory_are_told(serve):
+    """A worker keeps no more than 64 MiB of output, and each socket some four MB."""
+    server = serve("--lenient", "--workers", "1", "--segment-size", "1048576")
+    with contextlib.ExitStack() as streams:
+        stream = streams.enter_context(server.connect())
+        ask(stream, b"set large 0 0 130000\r\n%b\r\n" % (b"v" * 130_000), b"STORED\r\n")
+        for _ in range(40):
+            slow = streams.enter_context(server.connect(receive_buffer=65536))
+            slow.sendall(b"get" + b" large" * 60 + b"\r\n")
+        until = time.monotonic() + 30
+        while told(stream)["closed_unread"] == "0" and time.monotonic() < until:
+            time.sleep(0.1)
+        lines = lines_of(server)
+    assert lines and all(re.fullmatch(r"closed 127\.0\.0\.1:[0-9]+: output unread(; .*)?", it) for it in lines)
+
+
+def test_what_clients_do_themselves_is_not_told(serve):
+    server = serve("--lenient")
+    for sent in (b"quit\r\n", b"nonsense\r\nquit\r\n"):
+        send_and_lose(server, sent)
+    with server.connect() as stream:
+        ask(stream, b"get a\r\n", b"END\r\n")
+    assert lines_of(server) == []
+
+
+def test_quiet_tells_none(serve):
+    server = serve("--lenient", "--quiet")
+    send_and_lose(server, b"set a 0 0 no\r\n")
+    assert lines_of(server) == []

@@ -1,0 +1,56 @@
+"""What a server says of its memory at its start, beside the sum of OPERATIONS.md and a control group's limit."""
+import os
+import subprocess
+
+import pytest
+import served
+
+TAKES = "segcached: takes {} MiB of memory at most"
+WARNS = "segcached: warning: its control group may have {} MiB, so the kernel may kill it"
+MIB = 1 << 20
+
+
+def said(words):
+    """What a server that is started so writes to standard error until it listens, after the line of its options."""
+    with served.Process(words) as server:
+        assert server.process.stdout.readline().startswith("listening on ")
+        server.process.kill()
+        return server.process.stderr.read().splitlines()[1:]
+
+
+def most(workers, connections, segments, segment_size, values, reply):
+    """The sum in MiB, rounded up. (a slot of the index is for an item of 32 bytes in half of the room)"""
+    slots = 1 << (segments * segment_size // 16 - 1).bit_length()
+    store = segments * segment_size * 257 // 256 + 11 * segment_size + slots * 4
+    worker = connections * (512 + 262_144 + 16_384) + (48 + values + 3 * (64 + reply)) * MIB
+    return -(-(store + workers * worker + 16 * MIB) // MIB)
+
+
+@pytest.mark.parametrize("words, wanted", [
+    (served.OF_THE_PACKAGE + ["--segments", "64"], 1261),
+    ([], most(2, 1024, 64, 65536, 160, 128)),
+    (["--lenient", "--workers", "8", "--connections", "65536", "--segment-size", "4096"], most(8, 65536, 64, 4096, 40, 8)),
+], ids=["the package", "no options", "many connections"])
+def test_the_sum_is_told(program, words, wanted):
+    assert said([program, "serve", "--listen", "127.0.0.1:0", *words])[0] == TAKES.format(wanted)
+
+
+GROUP = """
+set -e
+mount -t tmpfs none /sys/fs/cgroup
+group=$(sed -n 's/^0:://p' /proc/self/cgroup)
+mkdir -p "/sys/fs/cgroup$group"
+echo "$0" >/sys/fs/cgroup/memory.max
+echo max >"/sys/fs/cgroup$group/memory.current"
+exec "$@"
+"""
+
+
+@pytest.mark.parametrize("limit, warning", [(600 * MIB, [WARNS.format(600)]), (1261 * MIB, []), ("max", [])])
+def test_a_control_group_with_less_is_warned_of(program, limit, warning):
+    """The system's files of limits are replaced for the server alone, which takes root."""
+    apart = ["unshare", "--mount", "sh", "-c", GROUP, str(limit)]
+    if os.geteuid() or subprocess.run([*apart, "true"], stderr=subprocess.DEVNULL, check=False).returncode:
+        pytest.skip("this takes root and a mount namespace")
+    words = [*apart, program, "serve", "--listen", "127.0.0.1:0", *served.OF_THE_PACKAGE, "--segments", "64"]
+    assert said(words) == [TAKES.format(1261), *warning]

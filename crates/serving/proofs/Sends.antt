@@ -25,10 +25,6 @@ use Rattle.net.specs.contracts.lingering.LingeringStreams as lingering
 use Rattle.net.specs.contracts.peer.Peer as peer
 use Rattle.net.specs.contracts.closings.Closing as closing
 use Rattle.net.specs.contracts.closings.Slot as slot
-use Rattle.bytes.specs.contracts.shared.Bytes as bytes
-use Rattle.bytes.proofs.Crosses.{block-send, block-sync}
-use Rattle.bytes.proofs.block.Seen.TheSendSync.Send.{send as seen-send}
-use Rattle.bytes.proofs.block.Seen.TheSendSync.Sync.{sync as seen-sync}
 use Rattle.crossbeam_queue.specs.contracts.array_queue.plain.ArrayQueue as queue
 use Rattle.atomic_table.proofs.Rights.{right_send}
 use Rattle.std_heap.specs.contracts.Global as heap
@@ -93,11 +89,8 @@ lease_sync T A g f = record { shared = λ d b o ν q. part_keyless (lease.the_ro
 queue_sync : IsSync (Struct (shape (queue.the_type new_stream.the_row heap.the_row ghosts)))
 queue_sync = search (crosses, new_sends, shared_sync, lease_sync, sendable) depth 60
 
-bytes_send : IsSend (bytes.the_row heap.the_row ghosts)
-bytes_send = search (crosses, block-send, block-sync, seen-send, seen-sync, sendable) depth 60 fits 20000
-
 closing_sends : IsSend closing.the_row
-closing_sends = search (crosses, bytes_send, peer_sends, sendable) depth 60
+closing_sends = search (crosses, peer_sends, sendable) depth 60
 
 told_queue_send : IsSend (Struct (shape (queue.the_type closing.the_row heap.the_row ghosts)))
 told_queue_send = search (crosses, closing_sends, shared_send, right_send, sendable) depth 60
@@ -126,17 +119,14 @@ port_sends R sends =
     let fields : AllSend (shape port_type).fields = (
       sends,
       (
-        search (crosses, sendable) depth 30,
+        hand_sends,
         (
-          hand_sends,
+          search (crosses, sendable) depth 30,
           (
             search (crosses, sendable) depth 30,
             (
-              search (crosses, sendable) depth 30,
-              (
-                streams_send,
-                (search sendable depth 30, (search sendable depth 30, (search sendable, (search sendable, (search sendable, tt))))),
-              ),
+              streams_send,
+              (search sendable depth 30, (search sendable depth 30, (search sendable, (search sendable, (search sendable, tt))))),
             ),
           ),
         ),

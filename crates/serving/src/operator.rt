@@ -7,7 +7,6 @@ use mio::unix::SourceFd;
 use mio::{Events, Interest, Poll, Token};
 use net::{Closing, Notices, ProcessorTimes};
 use std::alloc::Global;
-use std::fs::Files;
 use std::io::Eprint;
 use std::net::Net;
 use std::os::fd::RawFd;
@@ -110,7 +109,7 @@ impl<H: Eprint + Drop> Operator<H> {
     }
 }
 
-impl<H: Eprint + Files + Drop> Notices for Operator<H> {
+impl<H: Eprint + Drop> Notices for Operator<H> {
     fn workers_are_full(&mut self, waiting: usize, closed: u64) {
         if self.can_write() {
             let _ = eprintln!(self.rt;
@@ -135,6 +134,6 @@ impl<H: Eprint + Files + Drop> Notices for Operator<H> {
     }
 
     fn processor_times(&mut self) -> Option<ProcessorTimes> {
-        processor_times(&self.rt)
+        processor_times()
     }
 }

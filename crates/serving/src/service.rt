@@ -3,7 +3,7 @@
 ghost use Rattle.std.specs.Prelude.{◌≡◌, ℕ, List, length, IfOk, OnOk};
 ghost use Rattle.std.specs.String.{string_bytes};
 ghost use Rattle.std.specs.Io.KnownBytes.{Appends};
-ghost use Rattle.serving.specs.Listening.{IsListeningLine, IsAnnounced};
+ghost use Rattle.serving.specs.Listening.{path_line, IsAddressLine, IsListeningLine, IsAnnounced};
 ghost use Rattle.proto.specs.ClockAnswers.{ClockLog};
 ghost use Rattle.worker_port.specs.Giving.{by_system_clock};
 ghost use Rattle.net.specs.Traces.{trace_of, IsNew};
@@ -112,25 +112,40 @@ fn make_ports<H: Wait + Net + time::Clock + Copy + Drop>(
     Ok((hands, ports))
 }
 
-/// The line of the options' first address: a path, or an address with the real port after its last colon.
-fn listening_line(alloc: Global, options: &ServeOptions, port: u16) -> Result<String, Fault>
-    ensures { IfOk result (λ line. IsListeningLine (string_bytes options.entry.now.listen) port (string_bytes line)) }
+/// The line of a path.
+fn path_line(alloc: Global, path: &str) -> Result<String, Fault>
+    ensures { IfOk result (λ line. string_bytes line ≡ path_line path.now) }
 {
-    let listen = options.listen.as_str();
     let mut line = String::from_str(alloc, "listening on ")?;
-    if is_path(listen) {
-        line.push_str(listen)?;
-        line.push_str("\n")?;
-        return Ok(line);
-    }
+    line.push_str(path)?;
+    line.push_str("\n")?;
+    Ok(line)
+}
+
+/// The line of an address, with the real port after its last colon.
+fn address_line(alloc: Global, listen: &str, port: u16) -> Result<String, Fault>
+    ensures { IfOk result (λ line. IsAddressLine listen.now port (string_bytes line)) }
+{
     let Some((host, _)) = listen.rsplit_once(':') else {
         return Err(cannot_listen(alloc, listen, NetFault::BadAddress));
     };
+    let mut line = String::from_str(alloc, "listening on ")?;
     line.push_str(host)?;
     line.push_str(":")?;
     line.push_str(port.to_string(alloc)?.as_str())?;
     line.push_str("\n")?;
     Ok(line)
+}
+
+/// The line of the options' first address.
+fn listening_line(alloc: Global, options: &ServeOptions, port: u16) -> Result<String, Fault>
+    ensures { IfOk result (λ line. IsListeningLine (string_bytes options.entry.now.listen) port (string_bytes line)) }
+{
+    let listen = options.listen.as_str();
+    if is_path(listen) {
+        return path_line(alloc, listen);
+    }
+    address_line(alloc, listen, port)
 }
 
 /// Tells the operator the options in force and the memory that they may take, and prints that it listens, with the real port.
@@ -259,21 +274,14 @@ fn run_workers<H: Runtime + Copy + Drop + Send + 'static>(
     Ok(report)
 }
 
-/// Announces that it listens, and accepts streams in a thread, up to the options' limit. The address is free again once that
-/// thread has ended.
-fn announce_and_listen<H: System, W: Write>(
+/// Accepts streams in a thread, up to the options' limit. The address is free again once that thread has ended.
+fn start_listening<H: Runtime + Net + Eprint + Copy + Drop + Send + 'static>(
     rt: H,
     alloc: Global,
     mut listener: Listener,
     mut hands: Vec<StreamSender>,
     options: &ServeOptions,
-    geometry: Geometry,
-    out: &mut W,
-) -> Result<JoinHandle<ListenReport>, Fault>
-    ensures { OnOk result (IsAnnounced (string_bytes options.entry.now.listen)
-        (W.contents out.old) (W.contents out.new)) }
-{
-    announce(rt, alloc, options, geometry, listener.port(), out)?;
+) -> Result<JoinHandle<ListenReport>, Fault> {
     let watch = Watch::new(&rt, alloc);
     let (limit, is_quiet) = (options.sessions, options.quiet);
     thread::spawn(&rt, move || {
@@ -318,7 +326,8 @@ pub fn serve<H: System, W: Write>(
         ports,
         store,
     } = open(rt, alloc, options, geometry, seed)?;
-    let listening = announce_and_listen(rt, alloc, listener, hands, options, geometry, out)?;
+    announce(rt, alloc, options, geometry, listener.port(), out)?;
+    let listening = start_listening(rt, alloc, listener, hands, options)?;
     let report = run_workers(rt, alloc, ports, exchange, store, geometry, seed, options)?;
     listening.join(&rt);
     Operator::new(rt, alloc).has_ended();

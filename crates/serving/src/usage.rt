@@ -1,8 +1,6 @@
 //! What the process took so far, as the system tells it.
 
 use net::ProcessorTimes;
-use std::fs::{self, Files};
-use std::io::Read;
 
 /// Microseconds of a tick, in which the system counts processor times.
 const TICK_MICROS: u64 = 10_000;
@@ -26,9 +24,14 @@ pub(crate) fn times_of(line: &str) -> Option<ProcessorTimes> {
 }
 
 /// The processor times of the process, to a hundredth of a second; None if the system doesn't tell them.
-pub(crate) fn processor_times<R: Files>(rt: &R) -> Option<ProcessorTimes> {
-    let mut file = fs::open(rt, "/proc/self/stat").ok()?;
-    let mut line = [0u8; LINE_ROOM];
-    let count = file.read(&mut line).ok()?;
-    times_of(str::from_utf8(&line[..count]).ok()?)
+pub(crate) fn processor_times() -> Option<ProcessorTimes> {
+    let mut room = [0u8; LINE_ROOM];
+    let file = os::open_read(b"/proc/self/stat");
+    if file < 0 {
+        return None;
+    }
+    let count = libc::read(file, &mut room);
+    let _ = libc::close(file);
+    let line = room.get(..usize::try_from(count).ok()?)?;
+    times_of(str::from_utf8(line).ok()?)
 }

@@ -139,9 +139,10 @@ echo json_encode([$client->set("a", "x"), $client->get("a"), $client->getMulti([
 """
 
 
-def test_php_memcached_where_it_is_installed(serve, path):
-    if subprocess.run(["php", "-r", "exit(class_exists('Memcached') ? 0 : 1);"], check=False).returncode:
-        pytest.skip("php-memcached isn't installed")
+def test_php_memcached_by_path(request, serve, path):
+    if not request.config.getoption("--all-clients"):
+        pytest.skip("asked for by --all-clients alone")
+    served.install("php-cli", "php-memcached")
     serve("--lenient", listen=f"unix:{path}")
     ran = subprocess.run(["php", "-r", PHP, path], capture_output=True, text=True, check=True, timeout=30)
     assert ran.stdout == '[true,"x",{"a":"x"}]'

@@ -13,5 +13,5 @@ of_address bytes listen port (Err error) held = held
 pub returns : goal.returns
 returns c = let made = c.address_line.result in
     let held = subst (λ listen. IfOk made (λ line. IsAddressLine listen c.args.port (string_bytes line)))
-        c.as_str-listen.ensures.value c.address_line.ensures in
+    c.as_str-listen.ensures.value c.address_line.ensures in
     of_address string_bytes (string_bytes c.args.options.now.listen) c.args.port made held

@@ -9,7 +9,7 @@ use Rattle.session_book.specs.declared.causes.EndCause.{EndCause}
 use Rattle.session_book.specs.declared.causes.EndCause.TheVariants as causes
 use Rattle.session_book.specs.Session.{SessionState, once_fed, once_input_ended, holding}
 use Rattle.session_book.specs.Book.{BookState, session_of, IsUnread}
-use Rattle.proto.specs.declared.dialect.Dialect.TheVariants.{Lenient}
+use Rattle.proto.specs.Lines.{IsLenient}
 use Rattle.worker_port.specs.declared.events.PortRecord.{PortRecord}
 use Rattle.worker_port.specs.declared.events.PortRecord.TheVariants as was
 use Rattle.worker.specs.declared.worker.WorkerState.{WorkerState}
@@ -147,7 +147,7 @@ told_no_memory v v' unopened ended t h k r =
 
 -- shut as its client took no output
 pub told_unread : (v v' : RunView) (unopened : ℕ) (ended : Bool) (t : ℕ) → IsTraceKnown v unopened ended
-    → ClosesIn v v' t causes.Unread (was.Shut t) → v'.dialect ≡ Lenient → Runs (facts v t) → IsTraceKnown v' unopened ended
+    → ClosesIn v v' t causes.Unread (was.Shut t) → IsLenient v'.dialect → Runs (facts v t) → IsTraceKnown v' unopened ended
 told_unread v v' unopened ended t h k lenient r =
     let here = shuts_here v v' t causes.Unread causes.Drained k r.cause in
     let port = record (port_facts v.events t) { shut = true } in

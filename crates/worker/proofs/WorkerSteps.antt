@@ -348,10 +348,10 @@ no_memory_goes_on told old new t s k h e =
 -- so does one that has shut a lenient session whose client took no output
 pub unread_goes_on : {P : Type 0} (told : P → Option PortTrace) (old new : WorkerState P) (t : ℕ)
     → Shuts told old new t causes.Unread → IsWorkerServing told old → IsUnread old.book t → WorkerGoesOn told old new
-unread_goes_on told old new t k h u =
+unread_goes_on told old new t k h u = let lenient = u.lenient in
     shut_goes_on told old new t causes.Unread k h (λ trace is was_told closes. told_unread (run_view trace old)
     (run_view (then_told (was.Shut t ∷ []) trace) new) old.unopened old.ended t was_told closes
-    ((h.whose trace is).1 ∙ u.lenient) (runs (facts (run_view trace old) t) u.s (was_told.each t) u.there))
+    (lenient.0, (h.whose trace is).1 ∙ lenient.1) (runs (facts (run_view trace old) t) u.s (was_told.each t) u.there))
 
 -- ---- an event of the port
 

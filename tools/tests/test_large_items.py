@@ -73,7 +73,8 @@ def cuts(length):
     """Places in a `set` of a value of this length with its end: in the line, at the pieces of 16,384 bytes, and in the last bytes."""
     head = len(put(b"set", b"a", b"x" * length)) - length - 2
     whole = head + length + 2
-    places = {1, *range(head - 1, head + 2), 16_383, 16_384, 16_385, 65_536, 131_072 + head, 262_144, whole // 2, *range(whole - 3, whole)}
+    places = {1, *range(head - 1, head + 2), *range(16_383, 16_386), 65_536, 131_072 + head}
+    places |= {262_144, whole // 2, *range(whole - 3, whole)}
     return sorted(it for it in places if it < whole)
 
 

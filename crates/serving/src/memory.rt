@@ -50,7 +50,8 @@ fn answers_of(dialect: Dialect) -> (u64, u64) {
     }
 }
 
-/// What a worker takes for the values of its requests on their way. Up to 131,072 bytes stand in up to four times their memory.
+/// What a worker takes for the values of its requests on their way. One of up to 131,072 bytes
+/// stands in up to four times its memory.
 fn requests_of(dialect: Dialect) -> u64 {
     let value = MAX_BLOCK + more_than_block(dialect) + BESIDE_BLOCK;
     REQUESTS * value.max(4 * MAX_BLOCK)

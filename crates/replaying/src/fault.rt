@@ -1,8 +1,9 @@
 //! Why a replay failed.
 
 ghost use Rattle.std.specs.Prelude.{◌≡◌};
-ghost use Rattle.replaying.specs.declared.fault.Fault.TheVariants.{NoMemory, Group, Exchange};
+ghost use Rattle.replaying.specs.declared.fault.Fault.TheVariants.{BadSizes, NoMemory, Group, Exchange};
 
+use command_line::BadSizes;
 use exchange::MakeFault;
 use group::GroupFault;
 use proto::NoMemory;
@@ -13,8 +14,9 @@ use thiserror::Error;
 /// A fault; its text is the line that the program prints. They are tested in this order.
 #[derive(Debug, Drop, Error)]
 pub enum Fault {
-    #[error("fault: bad geometry")]
-    BadGeometry,
+    /// No cache may have the sizes.
+    #[error("fault: {0}")]
+    BadSizes(BadSizes),
     /// The path.
     #[error("fault: cannot read {0}")]
     CannotRead(String),
@@ -30,6 +32,14 @@ pub enum Fault {
     CannotWrite,
     #[error("fault: out of memory")]
     NoMemory,
+}
+
+impl From<BadSizes> for Fault {
+    ghost from_gives = { λ error fault. fault ≡ BadSizes error };
+
+    fn from(why: BadSizes) -> Fault {
+        Fault::BadSizes(why)
+    }
 }
 
 impl From<NoMemory> for Fault {

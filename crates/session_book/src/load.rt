@@ -130,6 +130,11 @@ impl Load {
         self.counts.unread = self.counts.unread.wrapping_add(n as u64);
     }
 
+    /// How many bytes of open sessions no message was read from yet, with those that were dropped as they came.
+    pub(crate) fn unread(&self) -> u64 {
+        self.counts.unread
+    }
+
     /// A message of this length was read.
     pub(crate) fn read(&mut self, message: &Message, length: usize) {
         let counts = &mut self.counts;

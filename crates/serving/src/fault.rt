@@ -5,7 +5,7 @@ ghost use Rattle.serving.specs.declared.fault.Fault.TheVariants.{NoMemory, Group
 ghost use Rattle.serving.specs.Statuses.{fault_status};
 
 use exchange::MakeFault;
-use group::GroupFault;
+use group::{GroupFault, NotRun};
 use net::NetFault;
 use proto::NoMemory;
 use std::alloc::AllocError;
@@ -66,11 +66,11 @@ impl From<AllocError> for Fault {
     }
 }
 
-impl From<GroupFault> for Fault {
-    ghost from_gives = { λ error fault. fault ≡ Group error };
+impl From<NotRun> for Fault {
+    ghost from_gives = { λ error fault. fault ≡ Group error.fault };
 
-    fn from(fault: GroupFault) -> Fault {
-        Fault::Group(fault)
+    fn from(refused: NotRun) -> Fault {
+        Fault::Group(refused.fault)
     }
 }
 

@@ -20,8 +20,10 @@ use std::collections::VecDeque;
 use std::io::ErrorKind;
 use worker_port::{Gone, ToldHistory};
 
-/// A session that was idle at this many looks in a row, and at one more, is ended.
-const LOOKS: u64 = 8;
+/// A session that was idle at this many looks in a row, and at one more, is ended. They come at sixteenths of the time that it may
+/// be idle. The first of them may be late by almost one, so that the session was active until the second was due; from then on
+/// that time has passed, and an eighth more since it was active. A process that stood still ends nobody whose input waits.
+const LOOKS: u64 = 17;
 
 /// What the input of a stream is doing.
 #[derive(Clone, Copy)]

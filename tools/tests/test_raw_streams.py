@@ -28,10 +28,13 @@ CALLS = {
     },
 }
 
-# Libraries whose safe calls take any descriptor by its number. Of `os` and of `libc` the product uses these calls alone, which take none.
+# Libraries whose safe calls take any descriptor by its number. Of `os` and of `libc` the product uses these calls alone, which take none;
+# but for one file, which reads and closes what it has opened itself.
 BY_NUMBER = {"io", "std_io"}
-OF_OS = "set_thread_name"
-OF_LIBC = "getpid"
+OF_OS = {"set_thread_name"}
+OF_LIBC = {"getpid"}
+USAGE = "serving/src/usage.rt"
+OF_USAGE = ['os::open_read(b"/proc/self/stat")', "libc::read(file, &mut room)", "libc::close(file)"]
 # What it uses of `std::os`: the type of such a number, for standard error; and what a file is, and its mode.
 OF_STD_OS = {"fd::RawFd", "unix::fs::"}
 
@@ -88,9 +91,18 @@ def test_no_safe_call_takes_a_descriptors_number():
     with open(f"{TOP}/crates.txt", encoding="utf-8") as file:
         libraries = {word for line in file for word in line.partition("#")[0].partition(":")[2].split()}
     assert "os" in libraries and not libraries & BY_NUMBER
-    uses = [(name, *it) for name, text in sources().items() for it in re.findall(r"(std::|)\bos\b(?:::([\w:]+))?", text)]
-    assert {it[1:] for it in uses} == {("", OF_OS), *(("std::", it) for it in OF_STD_OS)}, uses
-    assert {it for text in sources().values() for it in re.findall(r"\blibc\b(?:::([\w:]+))?", text)} == {OF_LIBC}
+    others = {name: text for name, text in sources().items() if name != USAGE}
+    uses = [(name, *it) for name, text in others.items() for it in re.findall(r"(std::|)\bos\b(?:::([\w:]+))?", text)]
+    assert {it[1:] for it in uses} == {*(("", it) for it in OF_OS), *(("std::", it) for it in OF_STD_OS)}, uses
+    assert {it for text in others.values() for it in re.findall(r"\blibc\b(?:::([\w:]+))?", text)} == OF_LIBC
+
+
+def test_one_file_reads_by_the_number_of_what_it_has_opened():
+    text = sources()[USAGE]
+    assert re.findall(r"\b(?:os|libc)\b[^;]*(?=;)", text) == OF_USAGE
+    # (it is opened, looked at, read and closed)
+    assert "let file = " + OF_USAGE[0] in text and re.findall(r".*\bfile\b", text)[1].strip() == "if file"
+    assert len(re.findall(r"\bfile\b", text)) == 4
 
 
 def test_exactly_one_thing_is_unsafe():

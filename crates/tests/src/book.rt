@@ -121,9 +121,7 @@ fn check_step(rt: &impl Abort, player: &mut Player, step: &Step, place: Place) -
             let _ = player.settle(0, Given::Stats(*length))?;
         }
         Give(session) => player.give(*session)?,
-        Accept(session, length) => {
-            player.book.gave(*session, *length);
-        }
+        Accept(session, length) => player.give_some(*session, *length)?,
         Second => player.book.count_second(),
         Close(session) => player.book.close(*session),
         See(sight) => check_sight(rt, player, sight, place),

@@ -114,6 +114,15 @@ impl Player {
         self.book.gave(session, n);
         Ok(())
     }
+
+    /// Gives the first bytes of a session's output.
+    pub fn give_some(&mut self, session: u64, n: usize) -> Result<(), Fail> {
+        if n > self.book.out(session).len() {
+            return Err(Fail::new("less output waits"));
+        }
+        self.book.gave(session, n);
+        Ok(())
+    }
 }
 
 fn reply_to(

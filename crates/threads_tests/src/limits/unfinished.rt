@@ -30,6 +30,8 @@ enum Step {
     UntilOffered(usize),
     /// Goes on once this number of bytes was accepted, over all sessions.
     UntilGiven(usize),
+    /// Keeps how many bytes were offered to the silent sessions so far.
+    Look,
     LetAccept,
 }
 
@@ -40,6 +42,8 @@ struct StepPort {
     accepts: bool,
     /// The most that was offered at once to each of the silent sessions.
     offered: [usize; 3],
+    /// How many bytes that was when it looked.
+    seen: usize,
     given: usize,
     /// How many sessions were shut.
     shut: u64,
@@ -52,6 +56,7 @@ impl StepPort {
             steps,
             accepts: false,
             offered: [0; 3],
+            seen: 0,
             given: 0,
             shut: 0,
             has_ended: false,
@@ -88,6 +93,10 @@ impl Port for StepPort {
             Some(Step::Send(session, bytes)) => PortEvent::Data(session, bytes),
             Some(Step::Gone(session)) => PortEvent::Gone(session),
             Some(Step::UntilOffered(_) | Step::UntilGiven(_)) => PortEvent::Idle,
+            Some(Step::Look) => {
+                self.seen = self.offered();
+                PortEvent::Idle
+            }
             Some(Step::LetAccept) => {
                 self.accepts = true;
                 PortEvent::Idle
@@ -353,19 +362,10 @@ fn add_unread<R: Abort + Copy + Drop>(
     add_silent(steps, unread);
     steps.add(Step::UntilOffered(unread.waiting));
     add_single_requests(steps);
+    steps.add(Step::Look);
     let accepted = add_ending(steps, ending, unread);
     steps.send(1, lines_of(&rt, steps.alloc, 20, 1).as_slice());
     accepted
-}
-
-/// How many bytes the silent sessions were offered and all were given, and how many sessions were shut.
-fn check_port(rt: &impl Abort, port: &StepPort, offered: usize, given: usize) {
-    check_same(
-        rt,
-        (port.offered(), port.given, port.shut),
-        (offered, given, 0),
-        offered,
-    );
 }
 
 fn check_unread<R>(rt: &R, alloc: Global, unread: &Unread, ending: Ending)
@@ -377,8 +377,9 @@ where
     let geometry = Geometry::new(1_048_576, 8).expect(rt, "a geometry");
     let port = StepPort::new(steps.steps);
     let served = serve_untold(rt, alloc, geometry, port, &OpenGate);
-    let offered = unread.waiting.max(accepted);
-    check_port(rt, &served.port, offered, accepted.saturating_add(200));
+    let port = &served.port;
+    let wanted = (unread.waiting, accepted.saturating_add(200), 0);
+    check_same(rt, (port.seen, port.given, port.shut), wanted, unread.value);
 }
 
 #[test]

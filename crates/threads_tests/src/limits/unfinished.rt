@@ -275,14 +275,15 @@ enum Ending {
     Go,
 }
 
-/// Three sessions that accept nothing ask for one value of `value` bytes by `keys` keys in a line; before it session 3 asks for a
-/// missing key in `misses` lines.
+/// Three sessions that accept nothing ask for one value of `value` bytes by `keys` keys in a line. Before it session 2 asks for a
+/// missing key in `misses` lines; the others ask once it was offered its answer, so that the worker knows what a key takes.
 #[derive(Clone, Copy)]
 struct Unread {
     value: usize,
     keys: usize,
     misses: usize,
-    /// What waits while nothing is accepted, and what there is in all.
+    /// What session 2 is offered, what waits while nothing is accepted, and what there is in all.
+    first: usize,
     waiting: usize,
     all: usize,
 }
@@ -293,6 +294,7 @@ const UNREAD: [Unread; 2] = [
         value: 103_543,
         keys: 216,
         misses: 5,
+        first: 22_369_638,
         waiting: 67_108_864,
         all: 67_108_864,
     },
@@ -300,6 +302,7 @@ const UNREAD: [Unread; 2] = [
         value: 127_100,
         keys: 176,
         misses: 10,
+        first: 22_373_175,
         waiting: 44_746_300,
         all: 67_119_425,
     },
@@ -312,11 +315,12 @@ fn add_silent<R: Abort + Copy + Drop>(steps: &mut Steps<R>, unread: &Unread) {
     steps.add(Step::Open(1));
     steps.send(1, set_of(&rt, alloc, unread.value).as_slice());
     for session in &SILENT {
-        let misses = if *session == 3 { unread.misses } else { 0 };
+        let misses = if *session == 2 { unread.misses } else { 0 };
         let mut input = lines_of(&rt, alloc, misses, 1);
         add_get(&rt, &mut input, b" a", unread.keys);
         steps.add(Step::Open(*session));
         steps.send(*session, input.as_slice());
+        steps.add(Step::UntilOffered(unread.first));
     }
 }
 

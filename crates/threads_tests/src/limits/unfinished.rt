@@ -30,6 +30,8 @@ enum Step {
     UntilOffered(usize),
     /// Goes on once this number of bytes was accepted, over all sessions.
     UntilGiven(usize),
+    /// Keeps how many bytes were offered to the silent sessions so far.
+    Look,
     LetAccept,
 }
 
@@ -40,6 +42,8 @@ struct StepPort {
     accepts: bool,
     /// The most that was offered at once to each of the silent sessions.
     offered: [usize; 3],
+    /// How many bytes that was when it looked.
+    seen: usize,
     given: usize,
     /// How many sessions were shut.
     shut: u64,
@@ -52,6 +56,7 @@ impl StepPort {
             steps,
             accepts: false,
             offered: [0; 3],
+            seen: 0,
             given: 0,
             shut: 0,
             has_ended: false,
@@ -88,6 +93,10 @@ impl Port for StepPort {
             Some(Step::Send(session, bytes)) => PortEvent::Data(session, bytes),
             Some(Step::Gone(session)) => PortEvent::Gone(session),
             Some(Step::UntilOffered(_) | Step::UntilGiven(_)) => PortEvent::Idle,
+            Some(Step::Look) => {
+                self.seen = self.offered();
+                PortEvent::Idle
+            }
             Some(Step::LetAccept) => {
                 self.accepts = true;
                 PortEvent::Idle
@@ -266,14 +275,15 @@ enum Ending {
     Go,
 }
 
-/// Three sessions that accept nothing ask for one value of `value` bytes by `keys` keys in a line; before it session 3 asks for a
-/// missing key in `misses` lines.
+/// Three sessions that accept nothing ask for one value of `value` bytes by `keys` keys in a line. Before it session 2 asks for a
+/// missing key in `misses` lines; the others ask once it was offered its answer, so that the worker knows what a key takes.
 #[derive(Clone, Copy)]
 struct Unread {
     value: usize,
     keys: usize,
     misses: usize,
-    /// What waits while nothing is accepted, and what there is in all.
+    /// What session 2 is offered, what waits while nothing is accepted, and what there is in all.
+    first: usize,
     waiting: usize,
     all: usize,
 }
@@ -284,6 +294,7 @@ const UNREAD: [Unread; 2] = [
         value: 103_543,
         keys: 216,
         misses: 5,
+        first: 22_369_638,
         waiting: 67_108_864,
         all: 67_108_864,
     },
@@ -291,6 +302,7 @@ const UNREAD: [Unread; 2] = [
         value: 127_100,
         keys: 176,
         misses: 10,
+        first: 22_373_175,
         waiting: 44_746_300,
         all: 67_119_425,
     },
@@ -303,11 +315,12 @@ fn add_silent<R: Abort + Copy + Drop>(steps: &mut Steps<R>, unread: &Unread) {
     steps.add(Step::Open(1));
     steps.send(1, set_of(&rt, alloc, unread.value).as_slice());
     for session in &SILENT {
-        let misses = if *session == 3 { unread.misses } else { 0 };
+        let misses = if *session == 2 { unread.misses } else { 0 };
         let mut input = lines_of(&rt, alloc, misses, 1);
         add_get(&rt, &mut input, b" a", unread.keys);
         steps.add(Step::Open(*session));
         steps.send(*session, input.as_slice());
+        steps.add(Step::UntilOffered(unread.first));
     }
 }
 
@@ -353,19 +366,10 @@ fn add_unread<R: Abort + Copy + Drop>(
     add_silent(steps, unread);
     steps.add(Step::UntilOffered(unread.waiting));
     add_single_requests(steps);
+    steps.add(Step::Look);
     let accepted = add_ending(steps, ending, unread);
     steps.send(1, lines_of(&rt, steps.alloc, 20, 1).as_slice());
     accepted
-}
-
-/// How many bytes the silent sessions were offered and all were given, and how many sessions were shut.
-fn check_port(rt: &impl Abort, port: &StepPort, offered: usize, given: usize) {
-    check_same(
-        rt,
-        (port.offered(), port.given, port.shut),
-        (offered, given, 0),
-        offered,
-    );
 }
 
 fn check_unread<R>(rt: &R, alloc: Global, unread: &Unread, ending: Ending)
@@ -377,8 +381,9 @@ where
     let geometry = Geometry::new(1_048_576, 8).expect(rt, "a geometry");
     let port = StepPort::new(steps.steps);
     let served = serve_untold(rt, alloc, geometry, port, &OpenGate);
-    let offered = unread.waiting.max(accepted);
-    check_port(rt, &served.port, offered, accepted.saturating_add(200));
+    let port = &served.port;
+    let wanted = (unread.waiting, accepted.saturating_add(200), 0);
+    check_same(rt, (port.seen, port.given, port.shut), wanted, unread.value);
 }
 
 #[test]

@@ -398,7 +398,10 @@ def one_refusal(environment):
         status, fault = ended.status, ended.fault
     if status == 1 and re.fullmatch(r"fault: (out of memory|cannot start a thread)\n", fault):
         return "a fault at the start"
-    if status != 0 or fault not in ("", "serving has ended\n") or found[1:] == found[:1] != ["sessions whole"]:
+    # (a listener that still runs tells of a session that was cut)
+    told, _, rest = fault.rpartition(": out of memory\n")
+    is_told = re.fullmatch(r"(closed (127\.0\.0\.1:\d+|an unknown peer))?", told) and (not told or "a session cut" in found)
+    if status != 0 or not is_told or rest not in ("", "serving has ended\n") or found[1:] == found[:1] != ["sessions whole"]:
         raise Trouble(f"status {status}, standard error {fault!r}, {' and '.join(found)}")
     return next((it for it in found if it != "sessions whole"), "sessions whole")
 

@@ -22,8 +22,8 @@ which `segcached replay` prints it, to be compared with it.
 `refused` is the same proxy, in front of memcached: it keeps no script, but has a segcached
 (--program, or the one to which this tool belongs) answer each line, and at its end prints those that
 were refused, by command and reply, with their count and the first of each. Of a FILE, which has the bytes that a client sent, it
-says the same. Its OPTIONs are those of the server to be: --lenient, and --segment-size B, 1048576
-unless it is given, on which depends whether an item is too large.
+says the same. Its OPTIONs are those of the server to be: --lenient; and on which depends whether an
+item is too large, --segment-size B, 1048576 unless it is given, and --max-item-size I.
 
 Sessions are numbered from 1, and go to the workers in turn (one worker, unless --workers says more).
 """
@@ -179,7 +179,8 @@ LENGTHS = dict.fromkeys((b"set", b"add", b"replace", b"append", b"prepend", b"ca
 # memcached closes a session whose line is longer.
 MOST_LINE = 1_048_576
 # A longer block isn't sent to the program: the line alone, or silence, says that it is too large.
-MOST_BLOCK = 131_074
+# (no item has more bytes than a segment)
+MOST_BLOCK = 1_048_578
 # How many lines, and bytes, are answered in one replay.
 LINES_AT_ONCE, BYTES_AT_ONCE = 5_000, 4_000_000
 TOO_LARGE, BINARY = b"SERVER_ERROR object too large for cache", b"(the binary protocol)"
@@ -346,6 +347,8 @@ def run_record(words):
 
 def run_refused(words):
     options = ["--segment-size", str(words.segment_size), *["--lenient"] * words.lenient]
+    if words.max_item_size:
+        options += ["--max-item-size", str(words.max_item_size)]
     refused = Refusals(words.program or found_program(), options)
     if words.to:
         run_proxy(words, refused.session)
@@ -377,6 +380,7 @@ def read_words():
     refused = kinds.add_parser("refused", help="a proxy that counts what segcached would refuse")
     refused.add_argument("files", nargs="*", metavar="FILE", help="what a client sent")
     refused.add_argument("--segment-size", type=int, default=1_048_576, metavar="B")
+    refused.add_argument("--max-item-size", type=int, metavar="I")
     refused.add_argument("--lenient", action="store_true", help="as `segcached serve --lenient`")
     refused.add_argument("--program", help="the segcached that is asked")
     for kind in (record, refused):

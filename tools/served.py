@@ -31,10 +31,11 @@ def words_of(file, name):
         return re.search(rf"^{name}=(.*)$", lines.read(), re.MULTILINE)[1].split()
 
 
-# What the package sets: its options, those with the size of a segment, and the C library's settings.
+# What the package sets: its options, those with the sizes of segments and items, and the C library's settings.
 OPTIONS = words_of("packaging/segcached.default", "OPTIONS")
 LOCAL = words_of("packaging/segcached.local", "LOCAL")
-OF_THE_PACKAGE = [*OPTIONS, "--segment-size", LOCAL[LOCAL.index("--segment-size") + 1]]
+SIZES = ("--segment-size", "--max-item-size")
+OF_THE_PACKAGE = [*OPTIONS, *(it for name in SIZES for it in (name, LOCAL[LOCAL.index(name) + 1]))]
 TUNABLES = words_of("packaging/systemd/segcached.service", "Environment=GLIBC_TUNABLES")[0]
 
 

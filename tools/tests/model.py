@@ -18,6 +18,8 @@ COUNTED = """cmd_get cmd_set cmd_touch cmd_flush total_items cas_badval out_of_m
 # Which count a reply to `cas` is, and of a `delete`, a `touch` or a change of a number.
 OF_CAS = {b"STORED\r\n": "cas_hits", b"NOT_FOUND\r\n": "cas_misses", b"EXISTS\r\n": "cas_badval"}
 JOINS = (b"append", b"prepend")
+STORES = (b"set", b"add", b"replace", b"cas", *JOINS)
+TOO_LARGE = b"SERVER_ERROR object too large for cache\r\n"
 ERROR, BAD_LINE = b"ERROR\r\n", b"CLIENT_ERROR bad command line format\r\n"
 
 
@@ -112,7 +114,8 @@ class Item:
 class Cache:
     """The cache, by lists: `order` are the segments of chains, as they were opened, but for those that merges moved."""
 
-    def __init__(self, segment_size, segments, is_least_read=False, is_in_place=False, is_exact=False):
+    def __init__(self, segment_size, segments, largest=None, is_least_read=False, is_in_place=False, is_exact=False):
+        self.largest = largest or segment_size // 8
         self.segment_size, self.free, self.order, self.cursor = segment_size, segments, [], 0
         self.segments, self.opens, self.is_least_read, self.is_in_place = segments, 0, is_least_read, is_in_place
         self.current, self.cas, self.pending, self.is_exact = {}, 0, None, is_exact
@@ -311,8 +314,8 @@ class Cache:
         return out + b"END\r\n"
 
     def put(self, verb, key, flags, exptime, value, unique, now):
-        if Item(key, value, flags, 0).size > self.segment_size // 8:
-            return b"SERVER_ERROR object too large for cache\r\n"
+        if Item(key, value, flags, 0).size > self.largest:
+            return TOO_LARGE
         there = self.find(key, now)
         if (verb == b"add" and there) or (verb == b"replace" and not there):
             return b"NOT_STORED\r\n"
@@ -334,8 +337,8 @@ class Cache:
         if item is None:
             return b"NOT_STORED\r\n"
         value = item.value + value if verb == b"append" else value + item.value
-        if Item(key, value, item.flags, 0).size > self.segment_size // 8:
-            return b"SERVER_ERROR object too large for cache\r\n"
+        if Item(key, value, item.flags, 0).size > self.largest:
+            return TOO_LARGE
         self.rewrite(item, value, now)
         return b"STORED\r\n"
 

@@ -1,8 +1,11 @@
 """`serve --idle 1`: which connections are closed, and which aren't. (Most waits are in one test, which takes five seconds, and the longest ones in
 another, which takes seven.)"""
 import contextlib
+import os
 import socket
 import struct
+import subprocess
+import sys
 import threading
 import time
 
@@ -194,3 +197,46 @@ def test_one_that_reads_slowly_gets_all_that_it_is_owed_and_one_that_takes_nothi
     clients = [Watched(sends_no_more_and_reads_slowly, server), Watched(takes_nothing_for_long, server)]
     assert [trouble for trouble in (client.join() for client in clients) if trouble] == []
     assert server.wait() == 0
+
+
+# ---- when they are closed on a busy machine
+
+# The connections whose times are taken, the seconds between two of them, how late a client may see that it was closed, and how many may see it later.
+TIMED, BETWEEN, LATE, LATER = 30, 0.037, 0.09, 3
+BUSY_EACH = 2
+
+
+@contextlib.contextmanager
+def busy_processors():
+    """So many processes for each processor take all of it."""
+    count = BUSY_EACH * len(os.sched_getaffinity(0))
+    taking = [subprocess.Popen([sys.executable, "-c", "while True: pass"]) for _ in range(count)]
+    try:
+        yield
+    finally:
+        for process in taking:
+            process.kill()
+            process.wait()
+
+
+def notes_how_long_it_stays(server, seconds, found):
+    time.sleep(seconds)
+    with server.connect() as stream:
+        began = time.monotonic()
+        assert stream.recv(1) == b""
+        found.append(time.monotonic() - began)
+
+
+def test_a_silent_one_is_closed_within_an_eighth_on_a_busy_machine(serve):
+    """Each check may be late, and that doesn't add up. (When it did, over nine checks, the 27th of 30 took 1.24 to 1.72 seconds.)"""
+    server = serve("--workers", "1", "--idle", "1")
+
+    def attempt():
+        found = []
+        with busy_processors():
+            clients = [Watched(notes_how_long_it_stays, server, it * BETWEEN, found) for it in range(TIMED)]
+            troubles = [trouble for trouble in (client.join() for client in clients) if trouble]
+        found.sort()
+        return not troubles and 1 <= found[0] and found[-1 - LATER] < 1.125 + LATE, troubles or found
+
+    tries.in_two_of_three(attempt)

@@ -273,6 +273,13 @@ def test_a_bad_geometry_is_told_before_a_bad_address(program):
         assert ended(program, "--listen", address, "--segment-size", "5000") == (2, b"", b"fault: bad geometry\n")
 
 
+@pytest.mark.parametrize("sizes", [("4096", "4033"), ("65536", "65473"), ("65536", "1048512")])
+def test_a_segment_that_is_too_small_for_the_largest_item_is_told(program, sizes):
+    segment_size, largest = sizes
+    done = ended(program, "--listen", "127.0.0.1:0", "--segment-size", segment_size, "--max-item-size", largest)
+    assert done == (2, b"", b"fault: the largest item does not fit a segment\n")
+
+
 def test_where_the_first_line_cannot_be_written_it_ends(program):
     with open("/dev/full", "wb") as full:
         status, _, said = ended(program, "--listen", "127.0.0.1:0", stdout=full)

@@ -27,7 +27,7 @@ def most(workers, connections, segments, segment_size, values, reply):
 
 
 @pytest.mark.parametrize("words, wanted", [
-    (served.OF_THE_PACKAGE + ["--segments", "64"], 1261),
+    (served.OF_THE_PACKAGE + ["--segments", "64"], 1787),
     ([], most(2, 1024, 64, 65536, 160, 128)),
     (["--lenient", "--workers", "8", "--connections", "65536", "--segment-size", "4096"], most(8, 65536, 64, 4096, 40, 8)),
 ], ids=["the package", "no options", "many connections"])
@@ -46,11 +46,11 @@ exec "$@"
 """
 
 
-@pytest.mark.parametrize("limit, warning", [(600 * MIB, [WARNS.format(600)]), (1261 * MIB, []), ("max", [])])
+@pytest.mark.parametrize("limit, warning", [(600 * MIB, [WARNS.format(600)]), (1787 * MIB, []), ("max", [])])
 def test_a_control_group_with_less_is_warned_of(program, limit, warning):
     """The system's files of limits are replaced for the server alone, which takes root."""
     apart = ["unshare", "--mount", "sh", "-c", GROUP, str(limit)]
     if os.geteuid() or subprocess.run([*apart, "true"], stderr=subprocess.DEVNULL, check=False).returncode:
         pytest.skip("this takes root and a mount namespace")
     words = [*apart, program, "serve", "--listen", "127.0.0.1:0", *served.OF_THE_PACKAGE, "--segments", "64"]
-    assert said(words) == [TAKES.format(1261), *warning]
+    assert said(words) == [TAKES.format(1787), *warning]

@@ -13,23 +13,30 @@ import random
 import replays
 from hypothesis import given, settings
 from hypothesis import strategies as st
-from model import JOINS, LOCAL, Cache, refused
+from model import JOINS, LOCAL, STORES, TOO_LARGE, Cache, refused
 
 FIRST_MOMENT = 1000
 
 
-def replay_over(program, sent, segment_size, segments, tick, *dialect):
+def replay_over(program, sent, segment_size, segments, largest, tick, *dialect):
     """What one session is given that sends these requests, fifty in a piece, to a store of these sizes."""
     pieces = [b"".join(sent[at : at + 50]) for at in range(0, len(sent), 50)]
     words = f"--segment-size {segment_size} --segments {segments} --tick {tick} --now {FIRST_MOMENT}"
-    return replays.given(program, " ".join([words, *dialect]), *pieces)
+    limit = [f"--max-item-size {largest}"] if largest else []
+    return replays.given(program, " ".join([words, *limit, *dialect]), *pieces)
+
+
+def refused_leniently(cache, request):
+    """What is answered to a request whose block is dropped, since it is larger than the largest item; None for others."""
+    verb, *words = request
+    return TOO_LARGE if verb in STORES and len(words[3]) > cache.largest else None
 
 
 def spelled(cache, requests, tick, is_lenient):
     """Of each request its bytes and its answer. The clock ticks for those that the cache executes."""
     pairs, executed = [], 0
     for request in requests:
-        moment, refusal = FIRST_MOMENT + tick * executed, None if is_lenient else refused(request)
+        moment, refusal = FIRST_MOMENT + tick * executed, refused_leniently(cache, request) if is_lenient else refused(request)
         if refusal:
             pairs.append((Cache(4096, 8).answer(request, moment)[0], refusal))
         else:
@@ -72,8 +79,8 @@ def random_lenient_request(chance, key, ttls):
     return chance.choice((*others, *[(b"touch", key, chance.choice(ttls))] * 5))
 
 
-def random_request(chance, keys, ttls):
-    """A request over this number of keys, some of them asked for more often than others."""
+def random_request(chance, keys, ttls, longest):
+    """A request over this number of keys, some of them asked for more often than others, whose value is shorter than the longest."""
     key = b"key%d" % min(chance.randrange(keys), chance.randrange(keys))
     kind = chance.random()
     if kind < 0.4:
@@ -81,7 +88,7 @@ def random_request(chance, keys, ttls):
         return b"gets" if chance.random() < 0.3 else b"get", asked
     if kind < 0.9:
         verb = chance.choice((b"set", b"set", b"set", b"set", b"add", b"replace", b"cas", *JOINS))
-        number, size = chance.randrange(10 ** chance.randrange(1, 21)), chance.randrange(chance.choice((20, 200, 500)))
+        number, size = chance.randrange(10 ** chance.randrange(1, 21)), chance.randrange(chance.choice((20, 200, longest)))
         value = b"%d" % number if chance.random() < 0.2 else b"v" * size
         unique = None if chance.random() < 0.7 else chance.randrange(1000)
         return verb, key, chance.randrange(2**32), chance.choice(ttls), value, unique
@@ -94,13 +101,15 @@ def random_request(chance, keys, ttls):
     return b"flush_all", chance.choice((0, 20))
 
 
-# segment size, segments, tick, how many keys, TTLs that are asked for, dialect
+# segment size, segments, the largest item if it isn't an eighth, tick, how many keys, TTLs that are asked for, dialect
 RUNS = (
-    (4096, 8, 0, 600, (0,), []),
-    (4096, 8, 1, 90, (0, 0, 5, 20, 60, 100, 300, -1), ["--lenient"]),
-    (4096, 9, 3, 90, (0, 16, 24, 40, 2047, 2048, 5000, 40000, 600000, 9000000), []),
-    (8192, 8, 0, 900, (0, 0, 8, 30), ["--lenient"]),
-    (4096, 23, 1, 1500, (0, 0, 0, 50, 200, 400), []),
+    (4096, 8, None, 0, 600, (0,), []),
+    (4096, 8, None, 1, 90, (0, 0, 5, 20, 60, 100, 300, -1), ["--lenient"]),
+    (4096, 9, None, 3, 90, (0, 16, 24, 40, 2047, 2048, 5000, 40000, 600000, 9000000), []),
+    (8192, 8, None, 0, 900, (0, 0, 8, 30), ["--lenient"]),
+    (4096, 23, None, 1, 1500, (0, 0, 0, 50, 200, 400), []),
+    (4096, 16, 4032, 1, 60, (0, 0, 20, 100), ["--lenient"]),
+    (8192, 9, 3000, 0, 90, (0, 0, 0, 30, 400), []),
 )
 REQUESTS = 40_000
 LEAST_READ, IN_PLACE, EXACT = ["--evict", "least-read"], ["--update-in-place"], ["--exact-ttls"]
@@ -108,16 +117,16 @@ LEAST_READ, IN_PLACE, EXACT = ["--evict", "least-read"], ["--update-in-place"], 
 
 def long_run(program, number):
     """How often the model merged, cleared and gave back segments."""
-    segment_size, segments, tick, keys, ttls, dialect = RUNS[number % len(RUNS)]
+    segment_size, segments, largest, tick, keys, ttls, dialect = RUNS[number % len(RUNS)]
     is_least_read, is_in_place, is_exact = number % 2 == 1, number // 2 % 2 == 1, number % 3 == 1
-    chance, cache = random.Random(number), Cache(segment_size, segments, is_least_read, is_in_place, is_exact)
-    requests = (random_request(chance, keys, ttls) for _ in range(REQUESTS))
+    chance, cache = random.Random(number), Cache(segment_size, segments, largest, is_least_read, is_in_place, is_exact)
+    requests = (random_request(chance, keys, ttls, largest or 500) for _ in range(REQUESTS))
     # (a lenient one ends with a `stats`)
     requests = itertools.chain(requests, [(b"stats",)] * bool(dialect))
     sent, wanted = spelled(cache, requests, tick, bool(dialect))
     sent = with_spaces(sent) if dialect else sent
     options = dialect + LEAST_READ * is_least_read + IN_PLACE * is_in_place + EXACT * is_exact
-    must_be_answered_as(wanted, replay_over(program, sent, segment_size, segments, tick, *options), sent)
+    must_be_answered_as(wanted, replay_over(program, sent, segment_size, segments, largest, tick, *options), sent)
     return cache.merges, cache.clearings, cache.given_back
 
 
@@ -152,7 +161,7 @@ FIRSTS, COUNTS = st.integers(0, ALL_KEYS // 2), st.integers(1, ALL_KEYS // 2)
 EXPTIMES = st.sampled_from([0, 0, 0, 1, 5, 8, 16, 20, 60, 100, 300, 2047, 2048, 5000, 40000, 600000, 9000000, -1])
 EXPTIMES |= st.integers(-2, 2**31)
 NUMBERS = st.integers(0, 2**64 - 1)
-LONG_VALUES = st.integers(0, 490).map(lambda size: b"v" * size)
+LONG_VALUES = (st.integers(0, 490) | st.integers(0, 4100)).map(lambda size: b"v" * size)
 VALUES = st.one_of(NUMBERS.map(lambda number: b"%d" % number), LONG_VALUES, st.binary(max_size=24))
 VERBS = st.sampled_from([b"set", b"set", b"add", b"replace", b"cas"])
 ONE_REQUEST = st.one_of(
@@ -168,10 +177,12 @@ PARTS = st.one_of(
     # (a key counts 127 reads at most)
     st.builds(lambda it, count: [(b"get", [it] * count)], KEYS, st.integers(1, 200)),
     st.builds(writes, FIRSTS, COUNTS, st.integers(100, 480), st.sampled_from([0, 20, 300]) | EXPTIMES),
+    st.builds(writes, FIRSTS, st.integers(1, 20), st.integers(500, 4000), st.sampled_from([0, 20, 300])),
 )
 # (a list with a least length, so that many are long, which is shortened all the same if one fails)
 SCRIPTS = st.integers(0, 30).flatmap(lambda least: st.lists(PARTS, min_size=least, max_size=40))
-SIZES = st.sampled_from([(4096, 8), (4096, 9), (8192, 8), (4096, 23)])
+SIZES = st.sampled_from([
+    (4096, 8, None), (4096, 9, None), (8192, 8, None), (4096, 23, None), (4096, 8, 4032), (4096, 9, 2056), (8192, 16, 3000)])
 
 
 def lenient_form(request):

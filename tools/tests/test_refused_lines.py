@@ -133,22 +133,24 @@ def test_the_binary_protocol_is_named():
     assert cut(b"\x80\x00\x00\x01" + bytes(20) + b"\r\n") == [BINARY]
 
 
-# What a client sends, and by which errors its lines are refused.
-STREAMS = {
-    b"set a 0 0 7\r\nget  \r\n\r\nincr a 1\r\n": [],
-    b"set a 0 0 200000 noreply\r\n" + bytes(200_000) + b"\r\nget a\r\n": [TOO_LARGE],
-    b"set a 0 0 131048 noreply\r\n" + bytes(131_048) + b"\r\nget a\r\n": [TOO_LARGE],
-    b"gat 5 a\r\nget a\n": [UNKNOWN, BAD_FORM],
-}
+LARGE = b"set a 0 0 200000 noreply\r\n" + bytes(200_000) + b"\r\nget a\r\n"
+# What a client sends, the options of the server to be, and by which errors its lines are refused.
+STREAMS = [
+    (b"set a 0 0 7\r\nget  \r\n\r\nincr a 1\r\n", [], []),
+    (LARGE, [], [TOO_LARGE]),
+    (LARGE, ["--max-item-size", "1048512"], []),
+    (b"set a 0 0 131048 noreply\r\n" + bytes(131_048) + b"\r\nget a\r\n", [], [TOO_LARGE]),
+    (b"gat 5 a\r\nget a\n", [], [UNKNOWN, BAD_FORM]),
+]
 
 
-@pytest.mark.parametrize("sent", STREAMS, ids=lambda it: str(it[:20]))
-def test_what_a_client_sent_is_counted(program, tmp_path, sent):
+@pytest.mark.parametrize("sent, options, errors", STREAMS, ids=lambda it: str(it[:20]))
+def test_what_a_client_sent_is_counted(program, tmp_path, sent, options, errors):
     (tmp_path / "sent").write_bytes(sent)
-    words = [*TOOL, "refused", "--program", program, "--lenient", str(tmp_path / "sent")]
+    words = [*TOOL, "refused", "--program", program, "--lenient", *options, str(tmp_path / "sent")]
     said = subprocess.run(words, capture_output=True, text=True, check=True).stdout.splitlines()
-    assert said[0] == f"{len(STREAMS[sent])} refused of 2 lines"
-    for error in STREAMS[sent]:
+    assert said[0] == f"{len(errors)} refused of 2 lines"
+    for error in errors:
         assert any(f" {error.decode()}; the first: " in line for line in said[1:])
 
 

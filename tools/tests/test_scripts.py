@@ -61,6 +61,10 @@ def test_output_that_cannot_be_written_is_a_fault(program):
 
 def test_a_geometry_that_is_none_is_a_fault(program):
     assert ended(program, "--segment-size", "5000") == fault(b"bad geometry")
+    for sizes in ("4096", "4033"), ("65536", "65473"):
+        words = "--segment-size", sizes[0], "--max-item-size", sizes[1]
+        assert ended(program, *words) == fault(b"the largest item does not fit a segment")
+    assert ended(program, "--segment-size", "4096", "--max-item-size", "4032")[0] == 0
 
 
 # ---- pieces, sessions and workers

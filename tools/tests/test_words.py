@@ -25,6 +25,8 @@ BAD = [
     "replay a --segment-size 1048577",
     "replay a --segments 7",
     "replay a --segments 65537",
+    "replay a --max-item-size 511",
+    "serve --listen 127.0.0.1:0 --max-item-size 1048513",
     "replay a --now -1",
     "replay a --tick 18446744073709551616",
     "replay a --now x",

@@ -5,10 +5,10 @@ use crate::commands::{
     UPDATE_IN_PLACE,
 };
 use crate::number_option::{
-    CONNECTIONS, IDLE, NumberOption, SEGMENT_SIZE, SEGMENTS, SESSIONS, SPIN, WORKERS,
+    CONNECTIONS, IDLE, MAX_ITEM_SIZE, NumberOption, SEGMENT_SIZE, SEGMENTS, SESSIONS, SPIN, WORKERS,
 };
 use crate::options::ServeOptions;
-use proto::{Dialect, Eviction, Storage};
+use proto::{Eviction, Storage};
 use std::alloc::{AllocError, Global};
 
 /// Adds an option's name.
@@ -58,6 +58,7 @@ fn push_numbers(
     push_number(alloc, line, &WORKERS, Some(options.workers))?;
     push_number(alloc, line, &SEGMENT_SIZE, Some(options.segment_size))?;
     push_number(alloc, line, &SEGMENTS, Some(options.segments))?;
+    push_number(alloc, line, &MAX_ITEM_SIZE, options.max_item_size)?;
     push_number(alloc, line, &CONNECTIONS, options.connections)?;
     push_number(alloc, line, &SESSIONS, options.sessions)?;
     push_number(alloc, line, &IDLE, options.idle)?;
@@ -74,7 +75,7 @@ fn push_rules(line: &mut String, options: &ServeOptions) -> Result<(), AllocErro
     }
     push_flag(line, QUIET, options.quiet)?;
     push_flag(line, EXACT_TTLS, options.exact_ttls)?;
-    push_flag(line, LENIENT, options.dialect == Dialect::Lenient)?;
+    push_flag(line, LENIENT, options.dialect.is_lenient())?;
     push_flag(line, UPDATE_IN_PLACE, options.update_in_place)
 }
 

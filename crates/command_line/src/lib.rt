@@ -13,5 +13,5 @@ mod words;
 pub use in_force::options_in_force;
 pub use one_line::on_one_line;
 pub use options::{Job, Options, ServeOptions};
-pub use sizes::geometry_of;
+pub use sizes::{BadSizes, geometry_of};
 pub use words::{WordsFault, parse_words, unreadable_words};

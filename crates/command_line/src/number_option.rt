@@ -1,6 +1,9 @@
 //! The options whose values are numbers.
 
-use proto::{MAX_SEGMENT_SIZE, MAX_SEGMENTS, MAX_WORKERS, MIN_SEGMENT_SIZE, MIN_SEGMENTS};
+use proto::{
+    BESIDE_LARGEST_ITEM, MAX_SEGMENT_SIZE, MAX_SEGMENTS, MAX_WORKERS, MIN_ITEM_LIMIT,
+    MIN_SEGMENT_SIZE, MIN_SEGMENTS,
+};
 
 /// The most connections that a worker can be told to serve at a time.
 const MAX_CONNECTIONS: u64 = 65_536;
@@ -39,10 +42,19 @@ pub(crate) const SEGMENT_SIZE: NumberOption = NumberOption {
 pub(crate) const SEGMENTS: NumberOption = NumberOption {
     name: "segments",
     value_name: "COUNT",
-    help: "Number of segments, 8 to 65536. If no request sets a TTL, nothing is evicted while all that was written since the start, overwrites included, takes at most 7/8 of all segments but one",
+    help: "Number of segments, 8 to 65536. If no request sets a TTL, nothing is evicted while all that was written since the start, overwrites included, takes at most 7/8 of all segments but one, or with --max-item-size what each of these has beside one such item",
     least: MIN_SEGMENTS as u64,
     most: MAX_SEGMENTS as u64,
     default: &["64"],
+};
+
+pub(crate) const MAX_ITEM_SIZE: NumberOption = NumberOption {
+    name: "max-item-size",
+    value_name: "BYTES",
+    help: "Bytes of the largest item, 24 and those of its key and value, from 512 to 64 fewer than a segment has; an eighth of a segment if it isn't given",
+    least: MIN_ITEM_LIMIT as u64,
+    most: (MAX_SEGMENT_SIZE - BESIDE_LARGEST_ITEM) as u64,
+    default: &[],
 };
 
 pub(crate) const NOW: NumberOption = NumberOption {
@@ -118,9 +130,10 @@ pub(crate) const SPIN: NumberOption = NumberOption {
 };
 
 /// The options of a replay beside its workers: the segments, the clock, and the faults of the ports.
-pub(crate) static REPLAY_OPTIONS: [NumberOption; 6] = [
+pub(crate) static REPLAY_OPTIONS: [NumberOption; 7] = [
     SEGMENT_SIZE,
     SEGMENTS,
+    MAX_ITEM_SIZE,
     NOW,
     TICK,
     ACCEPT,
@@ -128,11 +141,12 @@ pub(crate) static REPLAY_OPTIONS: [NumberOption; 6] = [
 ];
 
 /// The options of a server beside its address and its workers.
-pub(crate) static SERVE_OPTIONS: [NumberOption; 6] = [
+pub(crate) static SERVE_OPTIONS: [NumberOption; 7] = [
     CONNECTIONS,
     SESSIONS,
     IDLE,
     SPIN,
     SEGMENT_SIZE,
     SEGMENTS,
+    MAX_ITEM_SIZE,
 ];

@@ -13,6 +13,9 @@ pub struct Options {
     pub segment_size: u64,
     /// The number of segments, 8 to 65,536.
     pub segments: u64,
+    /// The bytes of the largest item, 512 to 1,048,512; None is an eighth of a segment. Whether a segment is large enough is
+    /// tested later.
+    pub max_item_size: Option<u64>,
     /// The clock's first answer, in seconds.
     pub now: u64,
     /// How many seconds more each further answer is.
@@ -57,6 +60,9 @@ pub struct ServeOptions {
     pub segment_size: u64,
     /// The number of segments, 8 to 65,536.
     pub segments: u64,
+    /// The bytes of the largest item, 512 to 1,048,512; None is an eighth of a segment. Whether a segment is large enough is
+    /// tested later.
+    pub max_item_size: Option<u64>,
     pub dialect: Dialect,
     /// Whether `incr`, `decr`, `append` and `prepend` change a value where it stands.
     pub update_in_place: bool,

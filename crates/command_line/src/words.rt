@@ -6,21 +6,21 @@ ghost use Rattle.clap.specs.declared.error.ErrorKind.TheVariants as clap;
 ghost use Rattle.std.specs.IoError.{error_kind};
 ghost use Rattle.std.specs.declared.io.ErrorKind.TheVariants as io;
 ghost use Rattle.command_line.specs.declared.words.WordsFault.TheVariants as words;
-ghost use Rattle.command_line.specs.Words.{IsJob, IsReplayInRange, IsServeInRange, IsInRange};
+ghost use Rattle.command_line.specs.Words.{IsJob, IsReplayInRange, IsServeInRange, IsInRange, KeepsBlocks};
 
 use crate::commands::{
     BY_WORKERS, EVICT, EXACT_TTLS, FILE, LEAST_READ, LENIENT, LISTEN, QUIET, SOCKET_MODE, STORAGE,
     UPDATE_IN_PLACE, command,
 };
 use crate::number_option::{
-    ACCEPT, CONNECTIONS, FAIL_GIVE, IDLE, NOW, NumberOption, SEGMENT_SIZE, SEGMENTS, SESSIONS,
-    SPIN, TICK, WORKERS,
+    ACCEPT, CONNECTIONS, FAIL_GIVE, IDLE, MAX_ITEM_SIZE, NOW, NumberOption, SEGMENT_SIZE, SEGMENTS,
+    SESSIONS, SPIN, TICK, WORKERS,
 };
 use crate::options::{Job, Options, ServeOptions};
 use crate::version::PROVED_WITH;
 use clap::ArgMatches;
 use clap::error::ErrorKind;
-use proto::{Dialect, Eviction, Storage};
+use proto::{Dialect, Eviction, ITEMS_PER_SEGMENT, Storage};
 use std::alloc::{AllocError, Global};
 use std::io;
 use thiserror::Error;
@@ -85,12 +85,20 @@ fn number(alloc: Global, matches: &ArgMatches<'_>, option: &NumberOption) -> Res
     )
 }
 
-fn dialect(matches: &ArgMatches<'_>) -> Dialect {
-    if matches.get_flag(LENIENT) {
-        Dialect::Lenient
-    } else {
-        Dialect::Strict
+/// The dialect of the lines. Leniently data blocks are kept that have no more bytes than the largest item, which an item of any
+/// key and value has.
+fn dialect(matches: &ArgMatches<'_>, segment_size: u64, largest_item: Option<u64>) -> Dialect
+    requires size { segment_size ≤ 1048576 }
+    requires item { IfSome largest_item (λ n. n ≤ 1048512) }
+    ensures { KeepsBlocks result segment_size largest_item }
+{
+    if !matches.get_flag(LENIENT) {
+        return Dialect::Strict;
     }
+    Dialect::Lenient(match largest_item {
+        Some(limit) => limit as u32,
+        None => segment_size as u32 / ITEMS_PER_SEGMENT,
+    })
 }
 
 fn eviction(matches: &ArgMatches<'_>) -> Eviction {
@@ -110,15 +118,18 @@ fn storage(matches: &ArgMatches<'_>) -> Storage {
 fn replay_options(alloc: Global, matches: &ArgMatches<'_>) -> Result<Options, WordsFault>
     ensures { IfOk result IsReplayInRange }
 {
+    let segment_size = number(alloc, matches, &SEGMENT_SIZE)?;
+    let max_item_size = number_or_none(alloc, matches, &MAX_ITEM_SIZE)?;
     Ok(Options {
         workers: number(alloc, matches, &WORKERS)?,
-        segment_size: number(alloc, matches, &SEGMENT_SIZE)?,
+        segment_size,
         segments: number(alloc, matches, &SEGMENTS)?,
+        max_item_size,
         now: number(alloc, matches, &NOW)?,
         tick: number(alloc, matches, &TICK)?,
         accept: number_or_none(alloc, matches, &ACCEPT)?.unwrap_or(0),
         fail_give: number_or_none(alloc, matches, &FAIL_GIVE)?.unwrap_or(0),
-        dialect: dialect(matches),
+        dialect: dialect(matches, segment_size, max_item_size),
         update_in_place: matches.get_flag(UPDATE_IN_PLACE),
         eviction: eviction(matches),
         storage: storage(matches),
@@ -159,6 +170,8 @@ fn further_addresses(alloc: Global, given: &[&str]) -> Result<Vec<String>, Words
 fn serve_options(alloc: Global, matches: &ArgMatches<'_>) -> Result<ServeOptions, WordsFault>
     ensures { IfOk result IsServeInRange }
 {
+    let segment_size = number(alloc, matches, &SEGMENT_SIZE)?;
+    let max_item_size = number_or_none(alloc, matches, &MAX_ITEM_SIZE)?;
     Ok(ServeOptions {
         workers: number(alloc, matches, &WORKERS)?,
         connections: number_or_none(alloc, matches, &CONNECTIONS)?,
@@ -166,9 +179,10 @@ fn serve_options(alloc: Global, matches: &ArgMatches<'_>) -> Result<ServeOptions
         idle: number_or_none(alloc, matches, &IDLE)?,
         spin: number_or_none(alloc, matches, &SPIN)?.map(|micros| micros as u32),
         quiet: matches.get_flag(QUIET),
-        segment_size: number(alloc, matches, &SEGMENT_SIZE)?,
+        segment_size,
         segments: number(alloc, matches, &SEGMENTS)?,
-        dialect: dialect(matches),
+        max_item_size,
+        dialect: dialect(matches, segment_size, max_item_size),
         update_in_place: matches.get_flag(UPDATE_IN_PLACE),
         eviction: eviction(matches),
         storage: storage(matches),

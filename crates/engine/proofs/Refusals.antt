@@ -1,10 +1,9 @@
 -- Only a request that shows hits is refused memory, where storing isn't.
 use Rattle.std.proofs.Common.{◌≡◌, ◌≢◌, ℕ, Bool, false, sym, ap, subst, ◌∙◌, inl, inr}
-use Rattle.std.specs.Prelude.{◌/◌}
 use Rattle.proto.specs.declared.message.Request.{Request}
 use Rattle.proto.specs.declared.message.Reply.{Reply}
 use Rattle.proto.specs.declared.message.Reply.TheVariants.{NoMemory}
-use Rattle.proto.specs.Sizes.{Sizes}
+use Rattle.proto.specs.Sizes.{Sizes, item_limit}
 use Rattle.proto.specs.Cache.{Cache}
 use Rattle.proto.proofs.Outcomes.{IsGet, shown_act}
 use Rattle.engine.specs.Outcomes.{outcome_at, needs_memory}
@@ -15,7 +14,7 @@ pub refused_get : (may_refuse : Bool) (sizes : Sizes) (cache : Cache) (t : ℕ) 
     → reply ≡ NoMemory → IsGet asked
 refused_get may_refuse sizes cache t q asked reply succeeds same none is =
     let done = outcome_at sizes cache t q in
-    elim (shown_act (sizes.segment_size / 8) cache t q) [
+    elim (shown_act (item_limit sizes) cache t q) [
       | inl shows ↦ subst IsGet (sym same) shows
       | inr other ↦ absurd (succeeds (ap (λ (b : Bool). needs_memory b done) none ∙ other) is)
     ]

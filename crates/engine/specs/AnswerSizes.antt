@@ -21,4 +21,4 @@ answer_size entries _ = 0
 -- whether these bytes of hits are more than one answer may show: a strict answer may show all
 abbrev pub is_too_long : Dialect → ℕ → Bool
 is_too_long Strict size = false
-is_too_long Lenient size = nat_lt 8388608 size
+is_too_long (Lenient limit) size = nat_lt 8388608 size

@@ -36,10 +36,10 @@ pub struct Engine<M> {
 
 /// Whether an item of this key with values of these lengths, one after the other, is too large.
 fn is_joined_too_large(limit: u32, key: &[u8], first: usize, second: usize) -> bool
-    requires limit { limit ≤ 131072 }
-    requires first { first ≤ 131072 }
+    requires limit { limit ≤ 1048576 }
+    requires first { first ≤ 1048576 }
     ensures too_large { (p : Put) → p.key ≡ key.now → length p.value ≡ first + second → result ≡ is_too_large limit p }
-    ensures small { result ≡ false → first + second ≤ 131072 }
+    ensures small { result ≡ false → first + second ≤ 1048576 }
 {
     key.is_empty()
         || key.len() > MAX_KEY

@@ -143,7 +143,7 @@ fn are_too_long<M: LiveMap>(
     requires { AreFound M.LiveMap map.now found.now }
     ensures { result ≡ is_too_long dialect (shown_size (hits_of with_cas (M.entries map.now) (keys_found found.now))) }
 {
-    if dialect == Dialect::Strict {
+    if !dialect.is_lenient() {
         return false;
     }
     let mut left = MAX_ANSWER;
@@ -198,10 +198,7 @@ pub fn hit_of_only<M: LiveMap>(
     if let Some((entry, place)) = map.get(only) {
         let hit = hit_with(only, entry.value, entry.flags, entry.cas, with_cas);
         let room = hit.room().ok_or(Unshown::NoMemory)?;
-        if dialect == Dialect::Lenient
-            && room > MAX_ANSWER
-            && left_after(MAX_ANSWER, hit).is_none()
-        {
+        if dialect.is_lenient() && room > MAX_ANSWER && left_after(MAX_ANSWER, hit).is_none() {
             return Err(Unshown::TooLong);
         }
         hits.reserve(room)?;

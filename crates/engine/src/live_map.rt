@@ -106,7 +106,7 @@ pub trait LiveMap {
         ensures found { option_map (λ r. entry_of r.0) result ≡ map.get (entries self.now) key.now }
         ensures stands { IfSome result (λ r. stands self.now key.now r.1) }
         ensures waits { IfSome result (λ r. has_arrived r.0.deadline (moment self.now) ≡ false) }
-        ensures small { IfSome result (λ r. length r.0.value.now ≤ 131072) };
+        ensures small { IfSome result (λ r. length r.0.value.now ≤ 1048576) };
 
     /// The entry at the key, which stands at the place, without a search.
     fn entry_at<'a>(&'a self, key: &[u8], place: Self::Place) -> EntryRef<'a>

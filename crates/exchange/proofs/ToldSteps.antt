@@ -56,6 +56,16 @@ module _ (key : LaneKey) where
       let f' = r'.each_view id (Worker c) (set_here s.views id (Worker c) (at_below s.views id (Worker c) at)) in
       view_comes key s' r' (Told c.seen) refl (λ j. seen_of key s' r' c f'.1 f'.2))
 
+  -- a history's seat gives another one of the same history
+  pub notes_again : (id : ℕ) (v : LaneView) (t : List Answered) → v ≡ Told t
+      → Splits (LanesHold key) id v (unchanged v) (noting v)
+  notes_again id v t is = subst (λ (z : LaneView). Splits (LanesHold key) id z (unchanged z) (noting z)) (sym is)
+      (λ s r at. let f = r.each_view id (Told t) at in
+      let s' : St = record { words = s.words; homes = s.homes; views = set s.views id (Told t) } in
+      let r' : LanesHold key s' = view_moves key s r id (Told t) (Told t) at (λ n e. e) f in
+      let f' = r'.each_view id (Told t) (set_here s.views id (Told t) (at_below s.views id (Told t) at)) in
+      view_comes key s' r' (Told t) refl (λ j. f'))
+
   -- a worker's seat takes in a history
   pub meets : (id other : ℕ) (v u : LaneView) (c : WorkerState) (t : List Answered) → v ≡ Worker c → u ≡ Told t
       → Joins (LanesHold key) id v other u (meeting v u) Nobody

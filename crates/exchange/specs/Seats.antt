@@ -74,7 +74,7 @@ storage_batch_view table workers last storage = record {
 
 -- some sizes, for views that aren't a worker's or storage's
 abbrev pub any_terms : Terms
-any_terms = record { geometry = record { segment_size = 4096; segments = 8 }; system_clock = false; may_refuse = true }
+any_terms = record { geometry = record { segment_size = 4096; segments = 8; largest_item = 512 }; system_clock = false; may_refuse = true }
 
 -- what the view of a worker's seat says
 abbrev pub worker_state_in : LaneView → WorkerState

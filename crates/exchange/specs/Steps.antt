@@ -243,7 +243,8 @@ tells_comparison step before found after = (storage : StorageState) (worker : Wo
 abbrev pub unchanged : LaneView → LaneView
 unchanged view = view
 
--- what a seat knows that is cut off a worker's: the history that the worker was told of last
+-- what a seat knows that is cut off a worker's: the history that the worker was told of last; one that is cut off a history's
+-- knows that history
 abbrev pub noting : LaneView → LaneView
 noting Nobody = Nobody
 noting (Worker worker) = Told worker.seen

@@ -186,7 +186,8 @@ impl Join<LaneView> for JoinsWorker {
     ghost spent = { Nobody };
 }
 
-/// A worker splits its seat: the new one knows the history that the worker was told of last.
+/// A worker splits its seat: the new one knows the history that the worker was told of last. A told history splits its own: the
+/// new one knows the same history.
 pub struct NotesTold;
 
 impl Split<LaneView> for NotesTold {

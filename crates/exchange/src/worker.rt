@@ -215,16 +215,22 @@ impl WorkerBatch {
     }
 
     /// What any worker was told of, at whatever moment before, has no request of this worker that it hasn't sent by now. It and
-    /// what this worker was told of are of one history. A law: the server doesn't call it.
-    pub fn check(&mut self, told: ToldHistory)
+    /// what this worker was told of are of one history. Call it before a later history is told: what the worker sends after the
+    /// call may stand there. The history is handed back, so that `compare` can take it and the later one. A law: the server
+    /// doesn't call it.
+    pub fn check(&mut self, told: ToldHistory) -> ToldHistory
         requires { told.exchange ≡ self.old.end.exchange }
         ensures same { self.new ≡ self.old }
+        ensures handed_back { result ≡ told }
         ensures asked { StartsWith self.old.end.sent (asked_posted (worker_share told.items self.old.end.worker)) }
         ensures one { AreOfOne self.old.end.seen told.items }
     {
         let lanes = &self.lane_table.shared;
-        lanes.join_seat::<MeetsTold>(&mut self.seat, told.into_seat());
+        let mut kept = told.into_seat();
+        let met = lanes.split_seat::<NotesTold>(&mut kept);
+        lanes.join_seat::<MeetsTold>(&mut self.seat, met);
         lanes.load::<Checks>(&mut self.seat, LANE * self.worker + POSTED);
+        ToldHistory::of(kept)
     }
 
     /// Two histories that workers were told of, at whatever moments: one begins with the other. A law: the server doesn't call

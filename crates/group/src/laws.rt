@@ -15,14 +15,19 @@ use worker_port::laws::order_in_real_time;
 /// Linearizability: a request that was sent after another one was answered comes after it,
 /// whichever workers they are of, and sees what it left, or what came after that. The answer was
 /// given by the earlier history, which its port keeps. The sender is the worker's end of the other
-/// request's port, which is about to read.
-pub fn later_requests_see_earlier_ones(sender: &mut WorkerBatch, earlier: ToldHistory)
+/// request's port, which is about to read: call it before the later history is told. The earlier
+/// one is handed back, and `WorkerBatch::compare` says that both are of one history.
+pub fn later_requests_see_earlier_ones(
+    sender: &mut WorkerBatch,
+    earlier: ToldHistory,
+) -> ToldHistory
     requires { earlier.exchange ≡ sender.old.end.exchange }
     ensures same { sender.new ≡ sender.old }
+    ensures handed_back { result ≡ earlier }
     ensures sees { (sizes : Sizes) (answering sending : PortTrace) (later : List Answered) (one other : Answered)
         → answering.history ≡ earlier.items → HasAskedOnly sending sender.old.end
         → AreOfOne earlier.items later → Legal sizes later → AnsweredBeforeSent answering sending later one other
         → (p : Precedes later one other) × SeesLeft sizes one p.between other }
 {
-    order_in_real_time(sender, earlier);
+    order_in_real_time(sender, earlier)
 }

@@ -3,8 +3,9 @@ use Rattle.std.proofs.Common.{◌≡◌, ℕ, zero, suc, ◌+◌, ◌-◌, Bool,
 use Rattle.std.specs.Prelude.{ℤ, Option, None, Some, is_some, slice_get}
 use Rattle.std.specs.Bool.{nat_eq}
 use Rattle.std.proofs.lemmas.Bool.{both_ways, eqb-true}
+use Rattle.exchange.specs.Ends.{ExchangeId}
 use Rattle.net.specs.Seen.{Seen, IsSet, fresh, open_socket}
-use Rattle.net.specs.Ties.{SocketsAgree, SocketTies}
+use Rattle.net.specs.Ties.{SocketsAgree, SocketTies, AreOfExchange}
 
 found_more : (l : List ℤ) (k : ℕ) (x y : ℤ) → slice_get l k ≡ Some x → slice_get (l ++ y ∷ []) k ≡ Some x
 found_more [] k x y h = absurd (both_ways false refl (ap is_some h))
@@ -38,11 +39,36 @@ module _ (streams next : ℕ → Option Seen) (s : ℕ) (now : Option Seen) (soc
   sockets_set set here old o = set_case o (set o) here (old o) (nat_eq s o) refl
 
 module _ (streams next : ℕ → Option Seen) (last : ℕ) (sockets : List ℤ) (s : ℕ) (t : SocketTies streams last sockets) where
-  pub kept_opened : (y : ℤ) → s ≡ last + 1 → IsSet s (Some (fresh y)) streams next → SocketTies next s (sockets ++ y ∷ [])
-  kept_opened y n set =
+  pub kept_opened : (y : ℤ) (e : ExchangeId) → s ≡ last + 1 → IsSet s (Some (fresh y e)) streams next
+      → SocketTies next s (sockets ++ y ∷ [])
+  kept_opened y e n set =
       let place : s - 1 ≡ length sockets = omega (arith, t.1) in (
-        sockets_set streams next s (Some (fresh y)) (sockets ++ y ∷ []) set
+        sockets_set streams next s (Some (fresh y e)) (sockets ++ y ∷ []) set
             (λ _. ap (slice_get (sockets ++ y ∷ [])) place ∙ found_last sockets y)
             (λ o h. more_at sockets (o - 1) y (streams o) h (t.0 o h)),
         omega (arith, length-append sockets (y ∷ []), t.1),
       )
+
+-- ---- how they keep their exchange
+
+-- one stream is set that is of the exchange, or none
+module _ (e : ExchangeId) (streams next : ℕ → Option Seen) (s : ℕ) (now : Option Seen) where
+  named_case : (o : ℕ) (x : Seen) (b : Bool) → (now ≡ Some x → x.exchange ≡ e) → (streams o ≡ Some x → x.exchange ≡ e)
+      → cond b now (streams o) ≡ Some x → x.exchange ≡ e
+  named_case o x true here old is = here is
+  named_case o x false here old is = old is
+
+  pub named_set : ((x : Seen) → now ≡ Some x → x.exchange ≡ e) → IsSet s now streams next → AreOfExchange e streams
+      → AreOfExchange e next
+  named_set here set old o x is = named_case o x (nat_eq s o) (here x) (old o x) (sym (set o) ∙ is)
+
+abbrev exchange_or : ExchangeId → Option Seen → ExchangeId
+exchange_or e None = e
+exchange_or e (Some x) = x.exchange
+
+-- a stream that is set, or none, is of the exchange
+pub named_now : (e : ExchangeId) (y : Seen) → y.exchange ≡ e → (x : Seen) → Some y ≡ Some x → x.exchange ≡ e
+named_now e y of x is = sym (ap (exchange_or e) is) ∙ of
+
+pub named_none : (e : ExchangeId) (x : Seen) → None ≡ Some x → x.exchange ≡ e
+named_none e x is = absurd (both_ways false refl (ap is_some is))

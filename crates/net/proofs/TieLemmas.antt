@@ -11,6 +11,7 @@ use Rattle.worker_port.specs.Ports.{is_in, is_open, opened_count}
 use Rattle.worker_port.specs.PortFacts.{PortFacts, port_facts}
 use Rattle.worker_port.proofs.Facts.{about, elsewhere, facts_are, opened_here, fed_here, input_ended_here, gone_here, shut_here, accepted_here}
 use Rattle.worker_port.proofs.Lists.{ended_same, ended_now, count_same, count_more}
+use Rattle.exchange.specs.Ends.{ExchangeId}
 use Rattle.net.specs.Seen.{Seen, IsSet, fresh, then_received, then_sent, then_input_ended, has_input_ended, received_of, sent_of}
 use Rattle.net.specs.Ties.{Ties, NoneBehind}
 
@@ -82,8 +83,9 @@ module _ (streams next : ℕ → Option Seen) (last : ℕ) (l : List PortRecord)
 
 -- ---- what the entry says of its own session
 
-at_opened : (socket : ℤ) (f : PortFacts) → f ≡ no_facts → At (Some (fresh socket)) (record f { opened = true })
-at_opened socket f n = record {
+at_opened : (socket : ℤ) (exchange : ExchangeId) (f : PortFacts) → f ≡ no_facts
+    → At (Some (fresh socket exchange)) (record f { opened = true })
+at_opened socket exchange f n = record {
   opens = subst (λ (g : PortFacts). (true && not (g.gone || g.shut)) ≡ true) (sym n) refl;
   fed = λ _. ap (λ (g : PortFacts). g.fed) n;
   given = λ _. ap (λ (g : PortFacts). g.given) n;
@@ -144,13 +146,14 @@ at_shut f = record {
 -- ---- each entry
 
 module _ (streams next : ℕ → Option Seen) (last after : ℕ) (l : List PortRecord) (e : Bool) (s : ℕ) (t : Ties streams last l e) where
-  pub ties_opened : (socket : ℤ) → s ≡ last + 1 → after ≡ s → IsSet s (Some (fresh socket)) streams next
+  pub ties_opened : (socket : ℤ) (exchange : ExchangeId) → s ≡ last + 1 → after ≡ s
+      → IsSet s (Some (fresh socket exchange)) streams next
       → Ties next after (l ++ Opened s ∷ []) e
-  ties_opened socket n a set =
-      ties_more streams next last l e s (Some (fresh socket)) (Opened s) after set (λ o h. h) (omega arith) (λ h. absurd (omega arith))
+  ties_opened socket exchange n a set =
+      ties_more streams next last l e s (Some (fresh socket exchange)) (Opened s) after set (λ o h. h) (omega arith) (λ h. absurd (omega arith))
       (ended_same l (Opened s) refl ∙ t.3) (omega (arith, count_more l s))
-      (subst (λ (f : PortFacts). At (Some (fresh socket)) f) (sym (opened_here l s))
-      (at_opened socket (port_facts l s) (behind_facts last l t.2 s (omega arith)))) e t
+      (subst (λ (f : PortFacts). At (Some (fresh socket exchange)) f) (sym (opened_here l s))
+      (at_opened socket exchange (port_facts l s) (behind_facts last l t.2 s (omega arith)))) e t
 
   pub ties_fed : (b : List ℕ) → is_open s l ≡ true → after ≡ last → IsSet s (option_map (then_received b) (streams s)) streams next
       → Ties next after (l ++ Data s b ∷ []) e

@@ -9,6 +9,7 @@ use Rattle.worker_port.specs.declared.events.PortRecord.{PortRecord}
 use Rattle.worker_port.specs.declared.events.PortRecord.TheVariants.{Opened, Data, EndOfInput, Gone, Accepted, Shut}
 use Rattle.worker_port.specs.declared.events.PortEvent.TheVariants as event
 use Rattle.worker_port.specs.Ports.{PortTrace, then_told, with_pause, is_in, is_open}
+use Rattle.exchange.specs.Ends.{ExchangeId}
 use Rattle.net.specs.Seen.{Seen, IsSet, fresh, then_received, then_sent, then_input_ended, then_paused, is_paused_stream}
 use Rattle.net.specs.Seen.{has_input_ended}
 use Rattle.net.specs.Ties.{Ties}
@@ -74,13 +75,13 @@ module _ (w : Whose) (streams next : ℕ → Option Seen) (s : ℕ) (now : Optio
   kept set same o = kept_case o (set o) same (nat_eq s o) refl
 
 module _ (w : Whose) (streams next : ℕ → Option Seen) (last : ℕ) (l : List PortRecord) (s : ℕ) (t : Ties streams last l false) where
-  pub tells_opened : (socket : ℤ) → s ≡ last + 1 → IsSet s (Some (fresh socket)) streams next
+  pub tells_opened : (socket : ℤ) (exchange : ExchangeId) → s ≡ last + 1 → IsSet s (Some (fresh socket exchange)) streams next
       → Tells (trace w streams l) (event.Opened s) (trace w next (l ++ Opened s ∷ []))
-  tells_opened socket n set =
+  tells_opened socket exchange n set =
       let behind = t.2 s (omega arith) in
       let closed : is_some (streams s) ≡ false = sym (t.0 s) ∙ and_left (is_in (Opened s) l) (not (is_in (Gone s) l || is_in (Shut s) l)) behind.0 in
       record {
-        told = told_by w streams next l (Opened s ∷ []) (kept w streams next s (Some (fresh socket)) set (sym (not_open (streams s) closed)));
+        told = told_by w streams next l (Opened s ∷ []) (kept w streams next s (Some (fresh socket exchange)) set (sym (not_open (streams s) closed)));
         may = (
           omega arith,
           (λ k was. ⊎_elim (λ (b : last < k). absurd (both_ways (is_in (Opened k) l) (t.2 k b).0 was))

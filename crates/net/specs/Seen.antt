@@ -2,17 +2,26 @@
 use Rattle.std.specs.Prelude.{◌≡◌, Bool, true, false, cond, ℕ, ℤ, List, [], ◌++◌, Option, None, Some}
 use Rattle.std.specs.Option.{option_map}
 use Rattle.std.specs.Bool.{nat_eq}
+use Rattle.exchange.specs.Ends.{ExchangeId}
 
 pub record Seen : Type 0 where
   pub socket : ℤ
+  pub exchange : ExchangeId
   pub paused : Bool
   pub input_ended : Bool
   pub received : List ℕ
   pub sent : List ℕ
 
--- a stream over this socket that was just opened
-abbrev pub fresh : ℤ → Seen
-fresh socket = record { socket = socket; paused = false; input_ended = false; received = []; sent = [] }
+-- a stream over this socket that was just opened for a worker of this exchange
+abbrev pub fresh : ℤ → ExchangeId → Seen
+fresh socket exchange = record {
+  socket = socket;
+  exchange = exchange;
+  paused = false;
+  input_ended = false;
+  received = [];
+  sent = [];
+}
 
 -- these bytes were read from it, or it took them
 abbrev pub then_received : List ℕ → Seen → Seen

@@ -37,6 +37,7 @@ abbrev pub seen_of : OpenStream → Seen
 seen_of o =
     record {
       socket = served_socket o.stream;
+      exchange = o.stream.exchange.value;
       paused = is_paused_input o.input;
       input_ended = o.stream.has_ended;
       received = o.stream.received.items;

@@ -1,5 +1,6 @@
 -- How what a port told agrees with its open streams.
-use Rattle.std.specs.Prelude.{◌≡◌, ℕ, ℤ, ◌-◌, ◌<◌, Bool, true, false, List, [], length, is_some, Option, slice_get}
+use Rattle.std.specs.Prelude.{◌≡◌, ℕ, ℤ, ◌-◌, ◌<◌, Bool, true, false, List, [], length, is_some, Option, Some, slice_get}
+use Rattle.exchange.specs.Ends.{ExchangeId}
 use Rattle.worker_port.specs.declared.events.PortRecord.{PortRecord}
 use Rattle.worker_port.specs.declared.events.PortRecord.TheVariants as was
 use Rattle.worker_port.specs.Ports.{fed, given, is_in, is_open, opened_count}
@@ -37,3 +38,7 @@ SocketsAgree streams sockets =
 -- the same, and `last` sessions were opened
 abbrev pub SocketTies : (ℕ → Option Seen) → ℕ → List ℤ → Type 0
 SocketTies streams last sockets = SocketsAgree streams sockets × (length sockets ≡ last)
+
+-- each open stream is of this exchange
+abbrev pub AreOfExchange : ExchangeId → (ℕ → Option Seen) → Type 0
+AreOfExchange exchange streams = (s : ℕ) (x : Seen) → streams s ≡ Some x → x.exchange ≡ exchange

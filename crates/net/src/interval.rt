@@ -12,10 +12,11 @@ pub(crate) struct Interval {
 
 impl Interval {
     pub(crate) fn of_millis(millis: u64) -> Interval {
-        Interval {
-            least: Duration::from_millis(millis),
-            last: None,
-        }
+        Interval::of(Duration::from_millis(millis))
+    }
+
+    pub(crate) fn of(least: Duration) -> Interval {
+        Interval { least, last: None }
     }
 
     /// The time to the next turn, none of it if one is due; `None` if the clock can't be read.
@@ -36,6 +37,22 @@ impl Interval {
             return false;
         }
         self.last = Some(now);
+        true
+    }
+
+    /// As `take`, but turns are due at even times: one that is late by less than the interval makes no later one late. So two of
+    /// them may be closer than the interval.
+    pub(crate) fn take_evenly<R: Clock>(&mut self, rt: &R) -> bool {
+        let before = self.last;
+        if !self.take(rt) {
+            return false;
+        }
+        let due = before.and_then(|before| before.checked_add(self.least));
+        if let (Some(due), Some(now)) = (due, self.last) {
+            if now.duration_since(due) < self.least {
+                self.last = Some(due);
+            }
+        }
         true
     }
 }

@@ -4,6 +4,7 @@ ghost use Rattle.std.specs.Prelude.{◌≡◌, ◌≤◌, ◌<◌, ◌++◌, ℕ
 ghost use Rattle.proto.specs.declared.message.Message.{Message};
 ghost use Rattle.proto.specs.Reading.{Reads, asks};
 ghost use Rattle.exchange.specs.Beginnings.{StartsWith};
+ghost use Rattle.exchange.specs.Ends.{ExchangeId};
 ghost use Rattle.net.specs.Seen.{Seen, fresh, then_received, then_sent, then_paused};
 ghost use Rattle.net.specs.Sockets.{IsNewLog};
 ghost use Rattle.net.specs.Shown.{seen_of, Arrives, listing, Lists};
@@ -12,15 +13,17 @@ ghost use Rattle.worker_port.specs.Giving.{MayBeSent, by_system_clock, sent_for}
 use crate::sockets::ServedStream;
 use crate::streams::Owner;
 use bytes::Bytes;
-use exchange::{ExchangeName, WorkerBatch};
+use exchange::WorkerBatch;
 use mio::event::Event;
 use std::alloc::Global;
 use std::collections::VecDeque;
 use std::io::ErrorKind;
 use worker_port::{Gone, ToldHistory};
 
-/// A session that was idle at this many looks in a row, and at one more, is ended.
-const LOOKS: u64 = 8;
+/// A session that was idle at this many looks in a row, and at one more, is ended. They come at sixteenths of the time that it may
+/// be idle. The first of them may be late by almost one, so that the session was active until the second was due; from then on
+/// that time has passed, and an eighth more since it was active. A process that stood still ends nobody whose input waits.
+const LOOKS: u64 = 17;
 
 /// What the input of a stream is doing.
 #[derive(Clone, Copy)]
@@ -92,7 +95,8 @@ pub(crate) struct OpenStream {
 impl OpenStream {
     /// The stream of a session that was just opened, after this many looks for idle sessions.
     pub(crate) fn new(stream: ServedStream, looks: u64) -> OpenStream
-        ensures { (socket : ℤ) → IsNewLog socket stream → seen_of result ≡ fresh socket }
+        ensures { (socket : ℤ) (exchange : ExchangeId) → IsNewLog socket exchange stream
+            → seen_of result ≡ fresh socket exchange }
     {
         OpenStream {
             stream,
@@ -143,7 +147,6 @@ impl OpenStream {
     pub(crate) fn read(
         &mut self,
         owner: Owner,
-        exchange: &ExchangeName,
         session: u64,
         sender: &WorkerBatch,
         alloc: Global,
@@ -152,7 +155,7 @@ impl OpenStream {
         ready: &mut VecDeque<u64>,
     ) -> Reading
         requires room { length scratch.old ≡ 16384 }
-        requires whose { (sender.now.end.worker ≡ owner.worker) × (sender.now.end.exchange ≡ exchange.now) }
+        requires whose { (sender.now.end.worker ≡ owner.worker) × (sender.now.end.exchange ≡ (seen_of self.old).exchange) }
         requires asked { (messages : List Message) (rest : List ℕ)
             → Reads owner.dialect (seen_of self.old).received messages rest
             → StartsWith (asks messages) (sent_for sender.now.end.sent session) }
@@ -169,7 +172,7 @@ impl OpenStream {
             return Reading::Nothing;
         }
         let drains = matches!(input, Input::Draining);
-        match self.stream.read(owner, exchange, session, sender, scratch) {
+        match self.stream.read(owner, session, sender, scratch) {
             Ok(0) => Reading::Ended,
             Ok(count) => {
                 if drains || count == scratch.len() {
@@ -190,13 +193,12 @@ impl OpenStream {
     pub(crate) fn write(
         &mut self,
         owner: Owner,
-        exchange: &ExchangeName,
         session: u64,
         bytes: &[u8],
         history: &ToldHistory,
         looks: u64,
     ) -> Result<usize, Gone>
-        requires exchange { history.now.exchange ≡ exchange.now }
+        requires exchange { history.now.exchange ≡ (seen_of self.old).exchange }
         requires due { MayBeSent (by_system_clock owner.geometry) owner.dialect owner.worker history.now.items session
             (seen_of self.old).received (seen_of self.old).sent bytes.now }
         ensures within { IfOk result (λ n. n ≤ length bytes.now) }
@@ -209,7 +211,7 @@ impl OpenStream {
         if is_blocked || bytes.is_empty() {
             return Ok(0);
         }
-        let count = match self.stream.write(owner, exchange, session, bytes, history) {
+        let count = match self.stream.write(owner, session, bytes, history) {
             Ok(count) => count,
             Err(error) if error.kind() == ErrorKind::WouldBlock => 0,
             Err(_) => return Err(Gone),

@@ -23,15 +23,14 @@ use proto::{Gauge, Gauges};
 use std::alloc::Global;
 use std::net::Net;
 use std::sync::Wait;
-use std::time::Clock;
+use std::time::{Clock, Duration};
 use worker_port::{CloseReason, Gone, Port, PortEvent, ToldHistory};
 
 /// Events of one poll.
 const EVENTS: usize = 256;
 
-/// The time between two looks for idle sessions if a session may be idle for a second, in milliseconds: an eighth of it. A
-/// session is ended at the ninth look in a row that finds it idle. So a process that stood still ends nobody whose input waits.
-const LOOK_MILLIS: u64 = 125;
+/// The time between two looks for idle sessions if a session may be idle for a second, in microseconds: a sixteenth of it.
+const LOOK_MICROS: u64 = 62_500;
 
 /// A worker's port over sockets.
 #[derive(Drop)]
@@ -110,7 +109,8 @@ impl<R: Wait + Clock + Drop> MioPort<R> {
     pub fn set_idle_limit(&mut self, seconds: u64)
         ensures { TellsNothing self.old.served self.new.served }
     {
-        self.idle_looks = Some(Interval::of_millis(seconds.saturating_mul(LOOK_MILLIS)));
+        let between = Duration::from_micros(seconds.saturating_mul(LOOK_MICROS));
+        self.idle_looks = Some(Interval::of(between));
     }
 
     /// Has the port look on for this many microseconds after an event, before it waits for the next one: until then its polls
@@ -186,7 +186,7 @@ impl<R: Wait + Clock + Drop> MioPort<R> {
             self.has_streams = self.has_streams || self.events.is_empty();
         }
         if let Some(looks) = &mut self.idle_looks {
-            if looks.take(&self.rt) {
+            if looks.take_evenly(&self.rt) {
                 self.served.looks = self.served.looks.saturating_add(1);
                 self.has_idle = true;
             }

@@ -8,6 +8,7 @@ mod logged_stream;
 mod raw;
 
 use crate::probes::{PROBE_BYTES, is_probe};
+use exchange::ExchangeName;
 use logged_stream::LoggedStream;
 pub(crate) use logged_stream::ServedStream;
 use mio::{Poll, Token};
@@ -115,14 +116,19 @@ pub(crate) struct NewStream {
 }
 
 impl NewStream {
-    /// Has the poll tell of the stream under the session's number from now on. None if the system refuses; the stream is
-    /// closed then.
-    pub(crate) fn serve(self, poll: &Poll, session: u64) -> Option<ServedStream>
-        ensures { IfSome result (IsNewLog (socket_of self)) }
+    /// Has the poll tell of the stream under the session's number from now on, for a worker of this exchange. None if the system
+    /// refuses; the stream is closed then.
+    pub(crate) fn serve(
+        self,
+        poll: &Poll,
+        session: u64,
+        exchange: &ExchangeName,
+    ) -> Option<ServedStream>
+        ensures { IfSome result (IsNewLog (socket_of self) exchange.now) }
     {
         let mut stream = self.stream;
         stream.watch(poll, Token(session as usize)).ok()?;
-        Some(LoggedStream::new(stream))
+        Some(LoggedStream::new(stream, exchange))
     }
 
     /// Whether a probe's request is what came first. It is left to be read.

@@ -7,7 +7,7 @@ ghost use Rattle.worker_port.specs.declared.events.PortRecord.TheVariants.{Shut}
 ghost use Rattle.worker_port.specs.Ports.{then_told, then_gave, with_pause};
 ghost use Rattle.worker_port.specs.Giving.{MayBeGiven, HasAskedOnly};
 ghost use Rattle.net.specs.Shown.{shown_stream};
-ghost use Rattle.net.specs.Ties.{Ties, SocketTies};
+ghost use Rattle.net.specs.Ties.{Ties, SocketTies, AreOfExchange};
 
 use crate::hand::WAKER;
 use crate::lingering::LingeringStreams;
@@ -65,6 +65,7 @@ pub(crate) struct Streams {
     ghost room: { vec_len scratch ≡ 16384 },
     ghost ties: { Ties (shown_stream open.entries) last told.items has_ended },
     ghost kept: { SocketTies (shown_stream open.entries) last sockets.items },
+    ghost named: { AreOfExchange exchange (shown_stream open.entries) },
 }
 
 impl Streams {
@@ -121,7 +122,7 @@ impl Streams {
         let session = self.last.checked_add(1)?;
         self.ready.reserve(OPEN_SESSIONS).ok()?;
         let accepted = Snapshot::of(&stream);
-        let stream = stream.serve(poll, session)?;
+        let stream = stream.serve(poll, session, &self.exchange)?;
         let open = OpenStream::new(stream, self.looks);
         self.open.insert(session, open).ok()?;
         self.last = session;
@@ -187,7 +188,6 @@ impl Streams {
         };
         match open.read(
             self.owner,
-            &self.exchange,
             session,
             sender,
             self.alloc,
@@ -255,14 +255,7 @@ impl Streams {
         let Some(open) = self.open.get_mut(&session) else {
             return Err(Gone);
         };
-        let answer = open.write(
-            self.owner,
-            &self.exchange,
-            session,
-            bytes,
-            &history,
-            self.looks,
-        );
+        let answer = open.write(self.owner, session, bytes, &history, self.looks);
         self.history = Some(history);
         match answer {
             Ok(count) if 0 < count => {

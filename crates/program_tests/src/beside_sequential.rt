@@ -86,7 +86,12 @@ fn plain_outputs(
     options: &Options,
     events: &WorkerScript,
 ) -> Result<Vec<SessionOutput>, Fail> {
-    let geometry = geometry_of(options.segment_size, options.segments).ok_or("geometry")?;
+    let geometry = geometry_of(
+        options.segment_size,
+        options.segments,
+        options.max_item_size,
+    )
+    .map_err(|_| "geometry")?;
     let store = Store::new(alloc, geometry)?;
     let clock = ScriptClock::new(options.now, options.tick);
     Ok(replay_sequentially(alloc, store, clock, events.as_slice())?)

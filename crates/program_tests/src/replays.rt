@@ -80,7 +80,11 @@ where
     R: Read + Drop,
     W: Write,
 {
-    let geometry = geometry_of(options.segment_size, options.segments).ok_or(Fault::BadGeometry)?;
+    let geometry = geometry_of(
+        options.segment_size,
+        options.segments,
+        options.max_item_size,
+    )?;
     replay(rt, alloc, options, geometry, script, out)?;
     Ok(())
 }

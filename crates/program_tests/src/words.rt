@@ -90,7 +90,7 @@ fn told(options: &Options) -> Told {
         options.accept,
         options.fail_give,
     ];
-    (numbers, options.dialect == Dialect::Lenient)
+    (numbers, options.dialect.is_lenient())
 }
 
 fn check_replay(rt: &impl Abort, alloc: Global, words: &str, wanted: Told) -> Result<(), Fail> {

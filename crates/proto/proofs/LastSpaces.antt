@@ -9,9 +9,9 @@ use Rattle.proto.specs.Lines.{line_text}
 use Rattle.proto.specs.Words.{space}
 
 -- one space more at the end
-pub last_space : (line : List ℕ) → line_text Lenient (line ++ space ∷ []) ≡ line_text Lenient line
-last_space [] = refl
-last_space (b ∷ line) = rw (all_more (b ∷ line), last_space line) refl
+pub last_space : (limit : ℕ) (line : List ℕ) → line_text (Lenient limit) (line ++ space ∷ []) ≡ line_text (Lenient limit) line
+last_space limit [] = refl
+last_space limit (b ∷ line) = rw (all_more (b ∷ line), last_space limit line) refl
   where
     and_true : (x : _) → (x && true) ≡ x
     and_true true = refl
@@ -21,9 +21,9 @@ last_space (b ∷ line) = rw (all_more (b ∷ line), last_space line) refl
     all_more line = list_all-append (λ c. eqb c space) line (space ∷ []) ∙ and_true _
 
 -- another byte at the end
-last_other : (line : List ℕ) (b : ℕ) → eqb b space ≡ false → line_text Lenient (line ++ b ∷ []) ≡ line ++ b ∷ []
-last_other [] b other = rw other refl
-last_other (a ∷ line) b other = rw (not_all (a ∷ line), last_other line b other) refl
+last_other : (limit : ℕ) (line : List ℕ) (b : ℕ) → eqb b space ≡ false → line_text (Lenient limit) (line ++ b ∷ []) ≡ line ++ b ∷ []
+last_other limit [] b other = rw other refl
+last_other limit (a ∷ line) b other = rw (not_all (a ∷ line), last_other limit line b other) refl
   where
     not_all : (line : List ℕ) → list_all (λ c. eqb c space) (line ++ b ∷ []) ≡ false
     not_all line =
@@ -33,4 +33,4 @@ last_other (a ∷ line) b other = rw (not_all (a ∷ line), last_other line b ot
 -- the same in each dialect
 pub any_other : (d : Dialect) (line : List ℕ) (b : ℕ) → eqb b space ≡ false → line_text d (line ++ b ∷ []) ≡ line ++ b ∷ []
 any_other Strict line b other = refl
-any_other Lenient line b other = last_other line b other
+any_other (Lenient limit) line b other = last_other limit line b other

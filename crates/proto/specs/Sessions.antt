@@ -6,4 +6,4 @@ use Rattle.proto.specs.declared.dialect.Dialect.TheVariants.{Strict, Lenient}
 -- the most sessions that a worker opens in a run: 2^24, and leniently 2^62
 abbrev pub most_sessions : Dialect → ℕ
 most_sessions Strict = 16777216
-most_sessions Lenient = 4611686018427387904
+most_sessions (Lenient limit) = 4611686018427387904

@@ -11,9 +11,8 @@ use Rattle.proto.specs.declared.line.ParsedLine.{ParsedLine}
 use Rattle.proto.specs.declared.line.ParsedLine.TheVariants as parsed
 use Rattle.proto.specs.declared.message.Message.{Message}
 use Rattle.proto.specs.declared.message.Message.TheVariants.{Ask, Local, Quit, Fatal}
-use Rattle.proto.specs.Grammar.{Spells}
+use Rattle.proto.specs.Grammar.{most_kept, Spells}
 use Rattle.proto.specs.Needs.{IsUnfinished, IsDropped}
-use Rattle.proto.specs.declared.limits.TheConstants.{MAX_KEPT}
 use Rattle.proto.specs.PlainReader.{StorageLine, Line, message, storage_message, Found, request_of}
 
 abbrev pub storage_line_of : StorageLineView → StorageLine
@@ -53,14 +52,14 @@ need_seen (finds.More need) = Some need
 need_seen (finds.Drop need quiet) = Some need
 
 -- the bytes that are needed may be kept, or the message is to be dropped, quiet or not
-abbrev pub IsKeptOr : Bool → NextView → Type 0
-IsKeptOr quiet (finds.Found m n) = ⊤
-IsKeptOr quiet (finds.More need) = need ≤ MAX_KEPT
-IsKeptOr quiet (finds.Drop need q) = (MAX_KEPT < need) × (q ≡ quiet)
+abbrev pub IsKeptOr : Dialect → Bool → NextView → Type 0
+IsKeptOr d quiet (finds.Found m n) = ⊤
+IsKeptOr d quiet (finds.More need) = need ≤ most_kept d
+IsKeptOr d quiet (finds.Drop need q) = (most_kept d < need) × (q ≡ quiet)
 
 -- what the bytes begin with: a message that their first n bytes spell, or no message before need
 -- bytes are there, which may be kept or dropped
 abbrev pub IsView : Dialect → List ℕ → NextView → Type 0
 IsView d b (finds.Found m n) = (n ≤ length b) × Spells d (take n b) (message_of m)
-IsView d b (finds.More need) = IsUnfinished d b need × (need ≤ MAX_KEPT)
+IsView d b (finds.More need) = IsUnfinished d b need × (need ≤ most_kept d)
 IsView d b (finds.Drop need quiet) = IsDropped d b need quiet

@@ -2,11 +2,13 @@
 
 ghost use Rattle.std.specs.Prelude.{◌≡◌, ◌≤◌};
 ghost use Rattle.proto.specs.Lines.{longest_line};
-ghost use Rattle.proto.specs.Grammar.{longest_block};
+ghost use Rattle.proto.specs.Lines.{is_lenient};
+ghost use Rattle.proto.specs.Grammar.{max_data, most_kept, longest_block};
 ghost use Rattle.proto.specs.Sessions.{most_sessions};
 
 use crate::limits::{
     MAX_BLOCK, MAX_LENIENT_BLOCK, MAX_LENIENT_LINE, MAX_LENIENT_SESSIONS, MAX_LINE, MAX_SESSIONS,
+    MAX_VALUE,
 };
 
 /// How lines may be written.
@@ -16,22 +18,52 @@ pub enum Dialect {
     Strict,
     /// Spaces before a line's end don't count, nor does a zero after the key of a `delete`, and with its end a line has at
     /// most 32,768 bytes. It has `append`, `prepend`, `touch`, `stats`, `version` and `verbosity` too, doesn't answer `cache_memlimit`
-    /// with `noreply`, drops a data block that is too large for the cache and goes on behind it, and refuses the binary protocol by its
-    /// first byte.
-    Lenient,
+    /// with `noreply`, drops a data block of more bytes than its number, which is that of the largest item, and goes on behind it, and
+    /// refuses the binary protocol by its first byte.
+    Lenient(u32),
 }
 
 impl Dialect {
+    /// Whether it is the lenient one.
+    pub fn is_lenient(self) -> bool
+        ensures { result ≡ is_lenient self }
+    {
+        match self {
+            Dialect::Strict => false,
+            Dialect::Lenient(_) => true,
+        }
+    }
+
     /// The longest line in bytes, with its end, among those that begin so; 0 if none does.
     pub fn longest_line(self, input: &[u8]) -> usize
         ensures { result ≡ longest_line self input.now }
     {
         match (self, input.split_first()) {
-            (Dialect::Lenient, Some((first, _))) => {
+            (Dialect::Lenient(_), Some((first, _))) => {
                 if *first == 128 { 0 } else { MAX_LENIENT_LINE }
             }
             _ => MAX_LINE,
         }
+    }
+
+    /// The longest data block in bytes that a request has.
+    pub fn most_data(self) -> u64
+        ensures value { result ≡ max_data self }
+        ensures within { result ≤ 1048576 }
+    {
+        match self {
+            Dialect::Strict => MAX_BLOCK,
+            Dialect::Lenient(limit) => MAX_VALUE.min(limit as u64),
+        }
+    }
+
+    /// The bytes of the longest message that is kept until it is whole: a line of 32,768 bytes and a data block of a request with
+    /// its end. One of more bytes has a block that is dropped as it comes.
+    pub fn most_kept(self) -> usize
+        ensures value { result ≡ most_kept self }
+        ensures within { result ≤ 1081346 }
+    {
+        self.most_data() as usize + (MAX_LENIENT_LINE + 2)
     }
 
     /// The longest data block in bytes that is read.
@@ -39,8 +71,8 @@ impl Dialect {
         ensures { result ≡ longest_block self }
     {
         match self {
-            Dialect::Strict => MAX_BLOCK,
-            Dialect::Lenient => MAX_LENIENT_BLOCK,
+            Dialect::Strict => self.most_data(),
+            Dialect::Lenient(_) => MAX_LENIENT_BLOCK,
         }
     }
 
@@ -51,7 +83,7 @@ impl Dialect {
     {
         match self {
             Dialect::Strict => MAX_SESSIONS,
-            Dialect::Lenient => MAX_LENIENT_SESSIONS,
+            Dialect::Lenient(_) => MAX_LENIENT_SESSIONS,
         }
     }
 }

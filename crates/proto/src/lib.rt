@@ -37,15 +37,15 @@ pub use dialect::Dialect;
 pub use eviction::Eviction;
 pub use gauges::{Gauge, Gauges, LISTENER_GAUGES, WORKER_GAUGES};
 pub use geometry::{
-    BadSize, Geometry, ITEM_HEADER, MAX_SEGMENT_SIZE, MAX_SEGMENTS, MIN_SEGMENT_SIZE, MIN_SEGMENTS,
-    item_size,
+    BESIDE_LARGEST_ITEM, BadItemLimit, BadSize, Geometry, ITEM_HEADER, ITEMS_PER_SEGMENT,
+    MAX_SEGMENT_SIZE, MAX_SEGMENTS, MIN_ITEM_LIMIT, MIN_SEGMENT_SIZE, MIN_SEGMENTS, item_size,
 };
 pub use history::{Answered, Posted};
 pub use hits::{Hit, HitRef, HitWriter, Hits, SpareBuffer};
 pub use keys::Keys;
 pub use limits::{
-    MAX_ANSWER, MAX_BLOCK, MAX_KEPT, MAX_KEY, MAX_LENIENT_BLOCK, MAX_LENIENT_LINE, MAX_LINE,
-    MAX_POSTS, MAX_WORKERS, MIN_ITEM_SIZE, WINDOW,
+    MAX_ANSWER, MAX_BLOCK, MAX_KEY, MAX_LENIENT_BLOCK, MAX_LENIENT_LINE, MAX_LINE, MAX_POSTS,
+    MAX_VALUE, MAX_WORKERS, MIN_ITEM_SIZE, WINDOW,
 };
 pub use line::RequestView;
 pub use message::{FatalKind, LocalKind, Message, Next, Put, Reply, Request, Touch};

@@ -12,16 +12,16 @@ pub const MAX_LINE: usize = 2048;
 /// the bytes that a session may have unread.
 pub const MAX_LENIENT_LINE: usize = 32_768;
 
-/// The longest data block of a request in bytes: an item takes an eighth of a segment at most, and a segment has 1,048,576 at
-/// most.
+/// The longest data block of a request in bytes in the strict dialect: an eighth of the largest segment, which is what an item has
+/// at most if no other limit is asked for.
 pub const MAX_BLOCK: u64 = 131_072;
 
-/// The longest data block of the lenient dialect in bytes. One that is too large for a request is read and dropped.
-pub const MAX_LENIENT_BLOCK: u64 = 8_388_608;
+/// The longest data block in bytes that a request of the lenient dialect may have, and the most bytes of a value: those of the
+/// largest segment.
+pub const MAX_VALUE: u64 = 1_048_576;
 
-/// The bytes of the longest message that is kept until it is whole: a line of 32,768 bytes and a data block of 131,072 with its
-/// end. One of more bytes has a block that is dropped as it comes.
-pub const MAX_KEPT: usize = 163_842;
+/// The longest data block that is read in the lenient dialect, in bytes. One that is too large for a request is read and dropped.
+pub const MAX_LENIENT_BLOCK: u64 = 8_388_608;
 
 /// The most bytes that the hits of one answer of the lenient dialect may take. A `get` or `gets` whose hits would take more is
 /// answered out of memory. A strict line has too few keys to need a limit.

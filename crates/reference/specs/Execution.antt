@@ -24,11 +24,11 @@ pub record Execution : Type 0 where
 -- how it is stored, where a type is seen as one
 abbrev pub execution_code : Coded Execution
 execution_code =
-    code_by ((ℕ × ℕ) × (Cache × (ℕ × (ℕ × ℕ))))
-    (coded× (coded× coded_ℕ coded_ℕ) (coded× cache_code (coded× coded_ℕ (coded× coded_ℕ coded_ℕ))))
-    (λ x. ((x.sizes.segment_size, x.sizes.segments), (x.cache, (x.moment, (x.clock.next, x.clock.tick)))))
+    code_by ((ℕ × (ℕ × ℕ)) × (Cache × (ℕ × (ℕ × ℕ))))
+    (coded× (coded× coded_ℕ (coded× coded_ℕ coded_ℕ)) (coded× cache_code (coded× coded_ℕ (coded× coded_ℕ coded_ℕ))))
+    (λ x. ((x.sizes.segment_size, (x.sizes.segments, x.sizes.largest_item)), (x.cache, (x.moment, (x.clock.next, x.clock.tick)))))
     (λ p. record {
-      sizes = record { segment_size = p.0.0; segments = p.0.1 };
+      sizes = record { segment_size = p.0.0; segments = p.0.1.0; largest_item = p.0.1.1 };
       cache = p.1.0;
       moment = p.1.1.0;
       clock = record { next = p.1.1.1.0; tick = p.1.1.1.1 };

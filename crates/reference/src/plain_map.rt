@@ -8,7 +8,7 @@ ghost use Rattle.reference.specs.PlainEntries.{entries_of, plain_entries};
 ghost use Rattle.reference.specs.PlainWrites.{same_deadline};
 
 use engine::{Engine, EntryRef, LiveMap, StoreMap, has_arrived};
-use proto::{ByteString, Eviction, Gauge, Gauges, Geometry, MAX_BLOCK, NoMemory};
+use proto::{ByteString, Eviction, Gauge, Gauges, Geometry, MAX_VALUE, NoMemory};
 use std::alloc::Global;
 use std::collections::BTreeMap;
 use std::hash::FoldHasher;
@@ -34,12 +34,12 @@ impl Model for Entry {
 
     ghost view = { λ a. record { value = a.value; flags = a.flags; deadline = a.deadline; cas = a.cas } };
 
-    ghost invariant = { λ a. length a.value ≤ 131072 };
+    ghost invariant = { λ a. length a.value ≤ 1048576 };
 }
 
 impl Entry {
     fn new(value: ByteString, flags: u32, deadline: Option<u64>, cas: u64) -> Self
-        requires { length value ≤ 131072 }
+        requires { length value ≤ 1048576 }
         ensures { result ≡ record { value = value; flags = flags; deadline = deadline; cas = cas } }
     {
         Entry {
@@ -53,7 +53,7 @@ impl Entry {
     /// The entry, lent.
     fn lent(&self) -> EntryRef<'_>
         ensures entry { entry_of result ≡ self.now }
-        ensures small { length result.value.now ≤ 131072 }
+        ensures small { length result.value.now ≤ 1048576 }
     {
         EntryRef {
             value: self.value.as_slice(),
@@ -179,7 +179,7 @@ impl LiveMap for PlainMap {
     fn count_touch(&mut self, _key: &[u8], _place: ()) {}
 
     fn write(&mut self, key: &[u8], entry: EntryRef) -> Result<(), NoMemory> {
-        if entry.value.len() > MAX_BLOCK as usize {
+        if entry.value.len() > MAX_VALUE as usize {
             return Err(NoMemory);
         }
         let value = ByteString::from_vec(Vec::from_slice(self.alloc, entry.value)?);

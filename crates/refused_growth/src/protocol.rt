@@ -24,7 +24,7 @@ const INPUTS: [&[u8]; 8] = [
 /// The request, if it is read at the first or the second try.
 pub fn read_request(alloc: Global, input: &[u8]) -> Option<Request> {
     for _ in 0..2 {
-        let next = next_message_in(alloc, Dialect::Lenient, input);
+        let next = next_message_in(alloc, Dialect::Lenient(131_072), input);
         if let Ok(Next::Found(Message::Ask(request, _), _)) = next {
             return Some(request);
         }

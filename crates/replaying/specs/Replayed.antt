@@ -5,7 +5,7 @@ use Rattle.std.specs.List.{list_any, last_or}
 use mathlib.Core.Option.{some}
 use lib.ListN.{get_elem?}
 use Rattle.proto.specs.declared.dialect.Dialect.{Dialect}
-use Rattle.proto.specs.declared.dialect.Dialect.TheVariants.{Lenient}
+use Rattle.proto.specs.Lines.{IsLenient}
 use Rattle.proto.specs.declared.message.FatalKind.{FatalKind}
 use Rattle.proto.specs.declared.message.Message.{Message}
 use Rattle.proto.specs.declared.message.Message.TheVariants.{Quit, Fatal}
@@ -40,7 +40,7 @@ MayEnd d messages causes.Drained = list_any ends_session messages ≡ false
 MayEnd d messages causes.EndOfInput = ⊥
 MayEnd d messages causes.Gone = ⊤
 MayEnd d messages causes.NoMemory = ⊤
-MayEnd d messages causes.Unread = d ≡ Lenient
+MayEnd d messages causes.Unread = IsLenient d
 MayEnd d messages causes.Quit = last_or None messages ≡ Some Quit
 MayEnd d messages causes.Fatal = (kind : FatalKind) × (last_or None messages ≡ Some (Fatal kind))
 

@@ -1,10 +1,11 @@
 //! Why a replay failed.
 
 ghost use Rattle.std.specs.Prelude.{◌≡◌};
-ghost use Rattle.replaying.specs.declared.fault.Fault.TheVariants.{NoMemory, Group, Exchange};
+ghost use Rattle.replaying.specs.declared.fault.Fault.TheVariants.{BadSizes, NoMemory, Group, Exchange};
 
+use command_line::BadSizes;
 use exchange::MakeFault;
-use group::GroupFault;
+use group::{GroupFault, NotRun};
 use proto::NoMemory;
 use script::ScriptFault;
 use std::alloc::AllocError;
@@ -13,8 +14,9 @@ use thiserror::Error;
 /// A fault; its text is the line that the program prints. They are tested in this order.
 #[derive(Debug, Drop, Error)]
 pub enum Fault {
-    #[error("fault: bad geometry")]
-    BadGeometry,
+    /// No cache may have the sizes.
+    #[error("fault: {0}")]
+    BadSizes(BadSizes),
     /// The path.
     #[error("fault: cannot read {0}")]
     CannotRead(String),
@@ -30,6 +32,14 @@ pub enum Fault {
     CannotWrite,
     #[error("fault: out of memory")]
     NoMemory,
+}
+
+impl From<BadSizes> for Fault {
+    ghost from_gives = { λ error fault. fault ≡ BadSizes error };
+
+    fn from(why: BadSizes) -> Fault {
+        Fault::BadSizes(why)
+    }
 }
 
 impl From<NoMemory> for Fault {
@@ -48,11 +58,11 @@ impl From<AllocError> for Fault {
     }
 }
 
-impl From<GroupFault> for Fault {
-    ghost from_gives = { λ error fault. fault ≡ Group error };
+impl From<NotRun> for Fault {
+    ghost from_gives = { λ error fault. fault ≡ Group error.fault };
 
-    fn from(fault: GroupFault) -> Fault {
-        Fault::Group(fault)
+    fn from(refused: NotRun) -> Fault {
+        Fault::Group(refused.fault)
     }
 }
 

@@ -24,11 +24,11 @@ use Rattle.segcache.specs.Shown.{current, shown_entries, live_entries, entry_at,
 use Rattle.segcache.specs.State.{MapState, IsSegmentedMap}
 use Rattle.segcache.specs.Invariants.{IsPast}
 use Rattle.segcache.specs.Keeping.{KeepsStored}
-use Rattle.segcache.specs.Writes.{StandsAt, ChangesInPlace, unread, with_value}
+use Rattle.segcache.specs.Writes.{StandsAt, ChangesInPlace, with_value}
 use Rattle.engine.specs.Written.{IsWritten, IsChanged, MayBeWritten}
 use Rattle.engine.proofs.EngineLemmas.{written_exactly}
 use Rattle.segcache.proofs.ShownItems.{get-live_in, shown_at, same_maps, live_entry, entry_is, changed_entry}
-use Rattle.segcache.proofs.TiedParts.{KeepsKey, current_item, tied_changed, some_item}
+use Rattle.segcache.proofs.TiedParts.{KeepsKey, current_item, tied_changed}
 use Rattle.segcache.proofs.OpeningMoments.{past_changed}
 use Rattle.segcache.proofs.WriteParts.{may_store}
 use Rattle.segcache.proofs.KeptEntries.{adds_none, keeps_changed}

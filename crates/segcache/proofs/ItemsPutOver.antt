@@ -1,9 +1,9 @@
 -- What an item leaves that goes over the one of its key.
-use Rattle.std.proofs.Common.{◌≡◌, ℕ, ◌+◌, ◌*◌, ◌-◌, true, List, [], Option, Some, None, refl, sym, ap, subst, ◌∙◌, inl, arith}
-use Rattle.std.specs.Prelude.{min, nat_le, nat_lt, ◌&&◌}
+use Rattle.std.proofs.Common.{◌≡◌, ℕ, true, List, [], Option, Some, None, refl, sym, ap, subst, ◌∙◌, inl, arith}
+use Rattle.std.specs.Prelude.{◌&&◌}
 use Rattle.std.specs.FinMap as finite
-use Rattle.std.proofs.lemmas.Bool.{and_parts, leb-true, ltb-true, false≢true}
-use Rattle.proto.specs.Buckets.{bucket_of, time_to_live, life_width, MayLive}
+use Rattle.std.proofs.lemmas.Bool.{and_parts}
+use Rattle.proto.specs.Buckets.{bucket_of, time_to_live, MayLive}
 use Rattle.proto.specs.Cache.{Entry}
 use Rattle.proto.specs.Sizes.{item_limit}
 use Rattle.proto.specs.Stored.{StoredItem}
@@ -12,7 +12,7 @@ use Rattle.engine.specs.Keeping.{KeepsEntry}
 use Rattle.engine.specs.Written.{IsWritten}
 use Rattle.segments.specs.declared.place.Place.{Place}
 use Rattle.segments.specs.Items.{Item, IsStorable, fits_over}
-use Rattle.segments.specs.Pools.{PoolState, IsPool, item_in, place_deadline, lasting}
+use Rattle.segments.specs.Pools.{PoolState, IsPool, item_in, lasting}
 use Rattle.segments.specs.Changes.{with_item_at, goes_over_by}
 use Rattle.segments.proofs.ItemChanges.{KeepsSize, keeps_over}
 use Rattle.index.specs.Table.{Places}
@@ -20,12 +20,12 @@ use Rattle.segcache.specs.Shown.{current, shown_entries, live_entries, entry_at,
 use Rattle.segcache.specs.State.{MapState, IsSegmentedMap}
 use Rattle.segcache.specs.Invariants.{IsPast}
 use Rattle.segcache.specs.Keeping.{KeepsStored}
-use Rattle.segcache.specs.Writes.{StandsAt, GoesOver, unread, loses_little, may_give, goes_over}
-use Rattle.segcache.proofs.TiedParts.{current_item, some_item, tied_changed}
+use Rattle.segcache.specs.Writes.{StandsAt, GoesOver, unread, goes_over}
+use Rattle.segcache.proofs.TiedParts.{current_item, tied_changed}
 use Rattle.segcache.proofs.OpeningMoments.{past_changed}
 use Rattle.segcache.proofs.AppendedItems.{may_wait}
 use Rattle.segcache.proofs.ChangedItems.{over_entry, other_entry, apart, shown_over, waiting, over_keeps}
-use Rattle.segcache.proofs.KeptEntries.{adds_none, undated_place, keeps_changed}
+use Rattle.segcache.proofs.KeptEntries.{adds_none, keeps_changed}
 use Rattle.segcache.proofs.WritesWithRoom.{written_more, all_last}
 use Rattle.segcache.specs.Invariants.{AreDated}
 use Rattle.segcache.proofs.OwnDeadlines.{MayStand, own_dated, stands, none_of_its_own}

@@ -1,9 +1,8 @@
 -- That a store whose items have deadlines of their own keeps them to the second.
-use Rattle.std.proofs.Common.{◌≡◌, ◌≢◌, ℕ, Bool, true, false, List, [], ◌∷◌, Option, Some, None, refl, sym, ap, subst, ◌∙◌, inl, inr}
+use Rattle.std.proofs.Common.{◌≡◌, ◌≢◌, ℕ, true, List, [], ◌∷◌, Option, Some, refl, sym, ap, subst, ◌∙◌, inl, inr}
 use Rattle.std.specs.Prelude.{◌&&◌, ◌⊎◌}
 use Rattle.std.specs.FinMap as finite
 use Rattle.std.proofs.lemmas.Option.{none-some}
-use Rattle.std.proofs.lemmas.Bool.{false≢true}
 use Rattle.proto.specs.declared.message.Request.{Request}
 use Rattle.proto.specs.declared.message.Reply.{Reply}
 use Rattle.proto.specs.declared.message.Reply.TheVariants.{NoMemory}
@@ -24,10 +23,10 @@ use Rattle.segcache.specs.Allocation.{MakesRoom}
 use Rattle.segcache.specs.Allocation.MakesRoom.{has_room, gives_back, evicts}
 use Rattle.segcache.specs.LiveItems.{live_others}
 use Rattle.segcache.specs.declared.segment_map.SegmentMap.{SegmentMap}
-use Rattle.segcache.specs.Shown.{shown_entries, kept_entry}
+use Rattle.segcache.specs.Shown.{shown_entries}
 use Rattle.segcache.specs.State.{MapState}
 use Rattle.engine.specs.Deadlines.{is_storable_deadline, StoresAsAsked, KeepsDeadlines}
-use Rattle.segcache.specs.Writes.{WritesToSegments, ChangesInPlace, StaysDated, GoesOver, WritesAnew, unread, is_same, touch_leaves_by, stays_as}
+use Rattle.segcache.specs.Writes.{WritesToSegments, StaysDated, unread, is_same}
 use Rattle.segcache.specs.Writes.{IsReadAgain}
 use Rattle.segcache.specs.Requests.{LeavesSegments, HandlesSegments}
 use Rattle.segcache.specs.Requests.LeavesSegments.{writes, changes, dates, reads, stays, refuses}

@@ -121,11 +121,12 @@ deadline_there m key place e stands there =
 
 -- a value has no more bytes than the largest item
 pub value_small : (p : PoolState) (place : Place) (i : Item) (e : Entry) → IsPool p → item_in p place ≡ Some i
-    → e ≡ entry_at p place → length e.value ≤ 131072
+    → e ≡ entry_at p place → length e.value ≤ 1048576
 value_small p place i e pool here is =
     let small = (item_storable p place i pool here).small in
     let value : length e.value ≡ length i.value = ap (λ (x : Entry). length x.value) (is ∙ entry_is p place i here) in
-    fits (length i.key) (length i.value) (length e.value) p.sizes.segment_size small pool.geometry.largest value
+    fits (length i.key) (length i.value) (length e.value) p.sizes.segment_size p.sizes.largest_item small
+    pool.geometry.largest value
   where
-    fits : (k v n size : ℕ) → 8 * ((24 + k + v + 7) / 8) ≤ size / 8 → size ≤ 1048576 → n ≡ v → n ≤ 131072
-    fits k v n size a b c = omega (arith, a, b, c)
+    fits : (k v n size limit : ℕ) → 8 * ((24 + k + v + 7) / 8) ≤ min limit size → size ≤ 1048576 → n ≡ v → n ≤ 1048576
+    fits k v n size limit a b c = omega (arith, a, b, c)

@@ -1,7 +1,7 @@
 -- Deadlines that items have of their own.
-use Rattle.std.proofs.Common.{◌≡◌, ℕ, ◌+◌, ◌-◌, ◌*◌, ◌/◌, ◌<◌, ◌≤◌, ◌^◌, Bool, true, false, Option, Some, None, refl, sym, ap, subst}
-use Rattle.std.proofs.Common.{◌∙◌, inl, inr, arith, le-leb, le_trans}
-use Rattle.std.specs.Prelude.{min, nat_le, nat_lt, ◌&&◌, ◌||◌, ◌==◌, ◌⊎◌, if◌then◌else◌}
+use Rattle.std.proofs.Common.{◌≡◌, ℕ, ◌+◌, ◌-◌, ◌*◌, ◌/◌, ◌<◌, ◌≤◌, ◌^◌, Bool, true, false, Option, Some, None, refl, sym, subst}
+use Rattle.std.proofs.Common.{◌∙◌, inl, inr, arith, le-leb}
+use Rattle.std.specs.Prelude.{min, nat_le, nat_lt, ◌&&◌, ◌||◌}
 use Rattle.std.proofs.lemmas.Bool.{cases_Bool, cases_eq, and_parts, leb-true, leb-false, ltb-true, lt-leb, eq-eqb, ne_eqb, false≢true}
 use Rattle.std.proofs.lemmas.Option.{none-some}
 use Rattle.proto.specs.Buckets.{MayLive, life_width}
@@ -9,7 +9,7 @@ use Rattle.proto.specs.Cache.{has_arrived}
 use Rattle.proto.proofs.DeadlineLemmas.{may_be_exact}
 use Rattle.segments.specs.Items.{Item, own_or_shared, item_deadline}
 use Rattle.segcache.specs.Invariants.{IsDatedIn}
-use Rattle.segcache.specs.OwnDeadlines.{own_deadline_by, storable_or_zero}
+use Rattle.segcache.specs.OwnDeadlines.{own_deadline_by}
 use Rattle.engine.specs.Deadlines.{is_storable_deadline}
 use Rattle.segcache.specs.Writes.{may_give, may_share_segment, suits_segment, loses_little}
 

@@ -24,7 +24,7 @@ use Rattle.engine.specs.Outcomes.{outcome_at}
 use Rattle.engine.specs.Engines.{Way, way_of}
 use Rattle.engine.proofs.KeepingLemmas.{answered_item}
 use Rattle.segments.specs.Items.{Item}
-use Rattle.segments.specs.Pools.{PoolState, item_in, place_deadline}
+use Rattle.segments.specs.Pools.{PoolState, item_in}
 use Rattle.segments.specs.Changes.{with_read, with_item_at}
 use Rattle.segments.specs.Items.{read_again}
 use Rattle.segments.specs.Filling.{IsFilled, HoldsLittle, held_size}

@@ -1,7 +1,7 @@
 -- A write by what the parts of it leave.
 use Rattle.std.proofs.Common.{◌≡◌, ℕ, ◌+◌, ◌*◌, ◌/◌, ◌<◌, ◌≤◌, ◌^◌, Bool, true, false, cond, List, length, Option, Some, None}
 use Rattle.std.proofs.Common.{refl, sym, ap, subst, ◌∙◌, inl, inr, arith}
-use Rattle.std.specs.Prelude.{bytes_eq, is_some, option_map, IsSome}
+use Rattle.std.specs.Prelude.{bytes_eq, min, is_some, option_map, IsSome}
 use Rattle.std.specs.FinMap as finite
 use Rattle.std.proofs.lemmas.Bool.{cases_Bool, false≢true}
 use Rattle.std.proofs.lemmas.Slice.Eq.{bytes_eq-Decides}
@@ -118,7 +118,8 @@ may_store p index marks t i tied (inr (inl f)) cas flags reads own_deadline =
     let some = s.some_key in
     let short = s.short_key in
     let few = f.1 in
-    let g = tied.known.pool.geometry.smallest in
+    let g = tied.known.pool.geometry.item_small in
+    let size = tied.known.pool.geometry.smallest in
     record {
       cas = cas;
       flags = flags;
@@ -126,8 +127,10 @@ may_store p index marks t i tied (inr (inl f)) cas flags reads own_deadline =
       short_key = omega (arith, short, key);
       reads = omega (arith, reads);
       own_deadline = own_deadline;
-      small = small_number (length i.key) (length i.value) p.sizes.segment_size (omega (arith, short, key)) few g;
+      small = small_number (length i.key) (length i.value) p.sizes.largest_item p.sizes.segment_size
+          (omega (arith, short, key)) few g size;
     }
   where
-    small_number : (k v size : ℕ) → k ≤ 250 → v ≤ 20 → 4096 ≤ size → 8 * ((24 + k + v + 7) / 8) ≤ size / 8
-    small_number k v size a b c = omega (arith, a, b, c)
+    small_number : (k v limit size : ℕ) → k ≤ 250 → v ≤ 20 → 512 ≤ limit → 4096 ≤ size
+        → 8 * ((24 + k + v + 7) / 8) ≤ min limit size
+    small_number k v limit size a b c d = omega (arith, a, b, c, d)

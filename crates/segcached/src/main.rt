@@ -19,8 +19,10 @@ fn replay_file<H: Runtime>(
     options: &Options,
 ) -> Result<(), replaying::Fault> {
     let alloc = rt.alloc();
-    let geometry = geometry_of(options.segment_size, options.segments).ok_or(
-        replaying::Fault::BadGeometry,
+    let geometry = geometry_of(
+        options.segment_size,
+        options.segments,
+        options.max_item_size,
     )?;
     let script: File = fs::open(rt, options.file.as_str()).map_err(|error| cannot_read(
         alloc, options, &error,
@@ -37,8 +39,10 @@ fn serve_at<H: System>(
     options: &ServeOptions,
 ) -> Result<(), serving::Fault> {
     let alloc = rt.alloc();
-    let geometry = geometry_of(options.segment_size, options.segments).ok_or(
-        serving::Fault::BadGeometry,
+    let geometry = geometry_of(
+        options.segment_size,
+        options.segments,
+        options.max_item_size,
     )?;
     let mut out = BufWriter::new(alloc, io::writer(rt)).map_err(|_| serving::Fault::NoMemory)?;
     serve_to_end(*threads, alloc, options, geometry, seed_of(rt), &mut out)

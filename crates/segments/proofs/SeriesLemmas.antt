@@ -412,7 +412,7 @@ has_space p b t i k time filled little s none =
     ap series_among (series_with_new p p.order g)
     ∙ series_last (map (series_of p) p.order) g in
     let held : sizes_in (with_new p p.order g) ≡ held_size p = new_sizes p p.order g in
-    let large = k.geometry.smallest in
+    let large = k.geometry.item_large in
     let D = filled_size p in
     let one : suc p.sizes.segments * D ≤ held_size p + series_with p b t * D =
     subst (λ x. suc p.sizes.segments * D ≤ held_size p + x * D) series

@@ -8,9 +8,9 @@ smallest_segment = 4096
 abbrev pub largest_segment : ℕ
 largest_segment = 1048576
 
--- the bytes of the largest item, an eighth of the largest segment, and of the longest key
+-- the bytes of the largest item, which fills the largest segment, and of the longest key
 abbrev pub largest_item : ℕ
-largest_item = 131072
+largest_item = 1048576
 
 abbrev pub longest_key : ℕ
 longest_key = 250

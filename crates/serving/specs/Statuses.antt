@@ -14,7 +14,7 @@ listen_status net.NoMemory = 3
 
 -- 2 after options that can't be met, 3 where the address can't be had, else 1
 abbrev pub fault_status : Fault → ℕ
-fault_status fault.BadGeometry = 2
+fault_status (fault.BadSizes why) = 2
 fault_status (fault.CannotListen addr why) = listen_status why
 fault_status fault.CannotWrite = 1
 fault_status fault.NoThread = 1

@@ -1,11 +1,12 @@
 //! Why serving failed.
 
 ghost use Rattle.std.specs.Prelude.{◌≡◌};
-ghost use Rattle.serving.specs.declared.fault.Fault.TheVariants.{NoMemory, Group, Exchange};
+ghost use Rattle.serving.specs.declared.fault.Fault.TheVariants.{BadSizes, NoMemory, Group, Exchange};
 ghost use Rattle.serving.specs.Statuses.{fault_status};
 
+use command_line::BadSizes;
 use exchange::MakeFault;
-use group::GroupFault;
+use group::{GroupFault, NotRun};
 use net::NetFault;
 use proto::NoMemory;
 use std::alloc::AllocError;
@@ -14,8 +15,9 @@ use thiserror::Error;
 /// A fault; its text is the line that the program prints. They are tested in this order.
 #[derive(Debug, Drop, Error)]
 pub enum Fault {
-    #[error("fault: bad geometry")]
-    BadGeometry,
+    /// No cache may have the sizes.
+    #[error("fault: {0}")]
+    BadSizes(BadSizes),
     /// The address, and why.
     #[error("fault: cannot listen on {0}: {1}")]
     CannotListen(String, NetFault),
@@ -40,13 +42,21 @@ impl Fault {
         ensures { result ≡ fault_status self.now }
     {
         match self {
-            Fault::BadGeometry => 2,
+            Fault::BadSizes(_) => 2,
             Fault::CannotListen(_, why) => match why {
                 NetFault::BadAddress | NetFault::BadPath => 2,
                 _ => 3,
             },
             _ => 1,
         }
+    }
+}
+
+impl From<BadSizes> for Fault {
+    ghost from_gives = { λ error fault. fault ≡ BadSizes error };
+
+    fn from(why: BadSizes) -> Fault {
+        Fault::BadSizes(why)
     }
 }
 
@@ -66,11 +76,11 @@ impl From<AllocError> for Fault {
     }
 }
 
-impl From<GroupFault> for Fault {
-    ghost from_gives = { λ error fault. fault ≡ Group error };
+impl From<NotRun> for Fault {
+    ghost from_gives = { λ error fault. fault ≡ Group error.fault };
 
-    fn from(fault: GroupFault) -> Fault {
-        Fault::Group(fault)
+    fn from(refused: NotRun) -> Fault {
+        Fault::Group(refused.fault)
     }
 }
 

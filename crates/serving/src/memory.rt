@@ -1,7 +1,7 @@
 //! How much memory a server may take at most, and how much it may.
 
 use command_line::ServeOptions;
-use proto::{Dialect, Geometry};
+use proto::{Dialect, Geometry, MAX_BLOCK};
 use std::alloc::Global;
 use std::fs::{self, Files};
 use std::io::Read;
@@ -11,14 +11,25 @@ const MIB: u64 = 1024 * 1024;
 /// The program, its threads, and room to spare for what isn't counted.
 const PROGRAM: u64 = 16 * MIB;
 
-/// A worker's spare buffers, and the values of its requests on their way.
-const BUFFERS: u64 = (16 + 32) * MIB;
+/// A worker's spare buffers.
+const SPARES: u64 = 16 * MIB;
+
+/// The requests that a worker has on their way at most, and the keys of `get`s among them.
+const REQUESTS: u64 = 64;
+
+const KEYS: u64 = 255;
 
 /// The output of all connections of a worker, above which large replies wait.
 const OUTPUT: u64 = 64 * MIB;
 
-/// What a connection takes beside its output: its state, the input that is kept, and a piece.
-const CONNECTION: u64 = 512 + 262_144 + 16_384;
+/// What a connection takes beside its output and the input that is kept: its state, and a piece.
+const CONNECTION: u64 = 512 + 16_384;
+
+/// The input that a connection keeps beside its longest data block.
+const BESIDE_BLOCK: u64 = 131_072;
+
+/// The input that the connections of a worker keep where a data block may have more than 131,072 bytes.
+const INPUT: u64 = 256 * MIB;
 
 /// The connections of a worker, unless it is told another number.
 const CONNECTIONS: u64 = 1024;
@@ -26,12 +37,32 @@ const CONNECTIONS: u64 = 1024;
 /// The bytes of segments above which a slot of the index takes eight bytes in place of four.
 const WIDE_INDEX: u64 = 32 * 1024 * MIB;
 
-/// What a worker takes for values on their way, and for one reply above the most output.
+/// How many bytes more the largest data block of a request may have than 131,072.
+fn more_than_block(dialect: Dialect) -> u64 {
+    dialect.most_data().saturating_sub(MAX_BLOCK)
+}
+
+/// What a worker takes for the values of replies on their way, and for one reply above the most output.
 fn answers_of(dialect: Dialect) -> (u64, u64) {
     match dialect {
-        Dialect::Lenient => (40 * MIB, 8 * MIB),
+        Dialect::Lenient(_) => (40 * MIB + KEYS * more_than_block(dialect), 8 * MIB),
         Dialect::Strict => (160 * MIB, 128 * MIB),
     }
+}
+
+/// What a worker takes for the values of its requests on their way. One of up to 131,072 bytes
+/// stands in up to four times its memory.
+fn requests_of(dialect: Dialect) -> u64 {
+    let value = MAX_BLOCK + more_than_block(dialect) + BESIDE_BLOCK;
+    REQUESTS * value.max(4 * MAX_BLOCK)
+}
+
+/// What the connections of a worker take beside their output.
+fn connections_of(dialect: Dialect, connections: u64) -> u64 {
+    let more = more_than_block(dialect);
+    let kept = connections.saturating_mul(BESIDE_BLOCK + MAX_BLOCK + more);
+    let kept = if more > 0 { kept.min(INPUT) } else { kept };
+    connections.saturating_mul(CONNECTION).saturating_add(kept)
 }
 
 /// The store: segments, room for merges, live marks, and an index for as many of the smallest items as there may be.
@@ -53,9 +84,9 @@ pub(crate) fn most_bytes(options: &ServeOptions, geometry: Geometry) -> u64 {
     let (values, reply) = answers_of(options.dialect);
     let output = OUTPUT.saturating_add(reply).saturating_mul(3);
     let connections = options.connections.unwrap_or(CONNECTIONS);
-    let worker = connections
-        .saturating_mul(CONNECTION)
-        .saturating_add(BUFFERS)
+    let worker = connections_of(options.dialect, connections)
+        .saturating_add(SPARES)
+        .saturating_add(requests_of(options.dialect))
         .saturating_add(values)
         .saturating_add(output);
     store_bytes(geometry)

@@ -1,7 +1,7 @@
 -- Where the data of a request stands in its spelling: in front of the last two bytes.
 use Rattle.std.proofs.Common.{◌≡◌, ℕ, ◌+◌, ◌-◌, ◌≤◌, Bool, true, false, List, [], ◌∷◌, ◌++◌, length, take, drop, Option, Some, None}
 use Rattle.std.proofs.Common.{refl, sym, ap, ◌∙◌, arith, inl, inr, append_assoc, take_at, drop_at, take-append-drop, length-take-le, length-append}
-use Rattle.std.proofs.lemmas.Bool.{both_ways, leb-true}
+use Rattle.std.proofs.lemmas.Bool.{both_ways}
 use Rattle.std.proofs.lemmas.List.{drop-drop, drop-take}
 use Rattle.std.specs.Prelude.{cond, not, ◌&&◌, ◌||◌, ◌==◌, codes, bytes_eq}
 use Rattle.std.specs.List.{list_any, slice_split}
@@ -16,8 +16,7 @@ use Rattle.proto.specs.declared.message.FatalKind.TheVariants as fatal
 use Rattle.proto.specs.declared.storage_line.StoreMode.{StoreMode}
 use Rattle.proto.specs.declared.storage_line.StoreMode.TheVariants as mode
 use Rattle.proto.specs.Answers.{is_ask}
-use Rattle.proto.specs.Grammar.{Spells, data_of, fault_of, lenient_words, begins_with}
-use Rattle.proto.specs.declared.limits.TheConstants.{MAX_KEPT}
+use Rattle.proto.specs.Grammar.{most_kept, Spells, data_of, fault_of, lenient_words, begins_with}
 use Rattle.proto.specs.Lines.{IsSearched, line_text}
 use Rattle.proto.specs.Needs.{NeedsMore}
 use Rattle.proto.specs.PlainReader.{message_by}
@@ -130,14 +129,14 @@ taken_put i d gone kept left need n how found made quiet q same none within spel
 
 -- what is left is read anew
 pub taken_anew : (d : Dialect) (gone kept left : List ℕ) (old count : ℕ) (quiet_then quiet : Bool) (held : Option (Message × ℕ))
-    → MayDrop d gone kept old quiet_then → old ≤ MAX_KEPT → length gone ≡ count → held ≡ None
+    → MayDrop d gone kept old quiet_then → old ≤ most_kept d → length gone ≡ count → held ≡ None
     → (length gone ≡ count) × NeedsMore d (gone ++ left) 1 × (IsSearched left 0 × HoldsMessage d (gone ++ left) held)
     × MayDrop d gone left 1 quiet
 taken_anew d gone kept left old count quiet_then quiet held may few same none = (
   same,
   needs_one d (gone ++ left),
   (record { within = omega arith; no_end = refl }, holds_none d (gone ++ left) held none),
-  inr (leb-true 1 MAX_KEPT refl, none_gone d gone kept old quiet_then may few),
+  inr (omega arith, none_gone d gone kept old quiet_then may few),
 )
 
 -- a part behind the first bytes

@@ -6,11 +6,10 @@ use Rattle.std.specs.Prelude.{◌⊎◌, min}
 use Rattle.std.proofs.lemmas.Bool.{cases_lt}
 use Rattle.std.proofs.lemmas.List.{append-nil, nil_from_length, length-take, length-drop, take-append-le}
 use Rattle.proto.specs.declared.dialect.Dialect.{Dialect}
-use Rattle.proto.specs.declared.limits.TheConstants.{MAX_KEPT}
 use Rattle.proto.specs.declared.message.Message.{Message}
 use Rattle.proto.specs.declared.message.Message.TheVariants.{Local}
 use Rattle.proto.specs.declared.message.LocalKind.TheVariants as local
-use Rattle.proto.specs.Grammar.{Spells}
+use Rattle.proto.specs.Grammar.{most_kept, Spells}
 use Rattle.proto.specs.Lines.{IsSearched}
 use Rattle.proto.specs.Needs.{NeedsMore, IsDropped}
 use Rattle.proto.specs.PlainReader.{Found, next}
@@ -22,19 +21,19 @@ use Rattle.session_book.proofs.Needing.{spells_none, unfinished_short}
 -- ---- which bytes were dropped
 
 -- bytes are dropped where many are needed
-pub dropping : (d : Dialect) (gone kept : List ℕ) (need : ℕ) (quiet : Bool) → MayDrop d gone kept need quiet → MAX_KEPT < need
+pub dropping : (d : Dialect) (gone kept : List ℕ) (need : ℕ) (quiet : Bool) → MayDrop d gone kept need quiet → most_kept d < need
     → IsDropping d gone kept need quiet
 dropping d gone kept need quiet (inl h) large = h
 dropping d gone kept need quiet (inr h) large = absurd (omega (arith, h.0, large))
 
 -- none are where few are
-pub none_gone : (d : Dialect) (gone kept : List ℕ) (need : ℕ) (quiet : Bool) → MayDrop d gone kept need quiet → need ≤ MAX_KEPT
+pub none_gone : (d : Dialect) (gone kept : List ℕ) (need : ℕ) (quiet : Bool) → MayDrop d gone kept need quiet → need ≤ most_kept d
     → gone ≡ []
 none_gone d gone kept need quiet (inl h) few = absurd (let l = h.large in omega (arith, l, few))
 none_gone d gone kept need quiet (inr h) few = h.1
 
 -- then all are kept that there are
-pub all_kept : (d : Dialect) (gone kept seen : List ℕ) (need : ℕ) (quiet : Bool) → MayDrop d gone kept need quiet → need ≤ MAX_KEPT
+pub all_kept : (d : Dialect) (gone kept seen : List ℕ) (need : ℕ) (quiet : Bool) → MayDrop d gone kept need quiet → need ≤ most_kept d
     → seen ≡ kept → seen ≡ gone ++ kept
 all_kept d gone kept seen need quiet may few seen_is =
     seen_is ∙ ap (λ (x : List ℕ). x ++ kept) (sym (none_gone d gone kept need quiet may few))
@@ -154,7 +153,7 @@ holds_behind d b piece (Some (m, n)) h = let s = h.spells in
 
 -- the parser said that the message is to be dropped
 pub starts_dropping : (d : Dialect) (gone kept seen gone_now kept_now : List ℕ) (old need count : ℕ) (quiet_then quiet : Bool)
-    → MayDrop d gone kept old quiet_then → old ≤ MAX_KEPT → seen ≡ kept → IsDropped d seen need quiet
+    → MayDrop d gone kept old quiet_then → old ≤ most_kept d → seen ≡ kept → IsDropped d seen need quiet
     → gone_now ≡ gone ++ seen → count ≡ length kept → kept_now ≡ drop count kept
     → (length gone_now ≡ count) × NeedsMore d (gone_now ++ kept_now) need
     × (IsSearched kept_now 0 × HoldsMessage d (gone_now ++ kept_now) None) × MayDrop d gone_now kept_now need quiet

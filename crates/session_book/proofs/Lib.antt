@@ -8,3 +8,4 @@ pub mod Steps
 pub mod Books
 pub mod Asking
 pub mod Emptied
+pub mod Heaviest

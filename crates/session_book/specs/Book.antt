@@ -1,11 +1,11 @@
 -- The sessions of one worker.
 use Rattle.std.specs.Prelude.{◌≡◌, ℕ, ◌+◌, ◌<◌, ◌≤◌, ◌⊎◌, Bool, true, false, List, []}
 use Rattle.std.specs.Prelude.{◌∷◌, ◌++◌, map, length, Option, Some, None, Result, Ok, Err, IsSome}
-use Rattle.std.specs.Prelude.{slice_get, drop, max, filter, ◌==◌, if◌then◌else◌}
+use Rattle.std.specs.Prelude.{slice_get, drop, max, filter, sum_by, ◌==◌, if◌then◌else◌}
 use Rattle.std.specs.Map.{lookup}
 use Rattle.std.specs.Bool.{nat_eq}
 use Rattle.proto.specs.declared.dialect.Dialect.{Dialect}
-use Rattle.proto.specs.declared.dialect.Dialect.TheVariants.{Lenient}
+use Rattle.proto.specs.Lines.{IsLenient}
 use Rattle.proto.specs.declared.message.Request.{Request}
 use Rattle.proto.specs.declared.message.Message.{Message}
 use Rattle.proto.specs.declared.history.Answered.{Answered}
@@ -22,6 +22,7 @@ use Rattle.proto.specs.declared.limits.TheConstants.{WINDOW}
 use Rattle.proto.specs.declared.limits.TheConstants.{MAX_POSTS}
 use Rattle.proto.specs.Sessions.{most_sessions}
 use Rattle.session_book.specs.declared.load.TheConstants.{SMALL_ANSWER}
+use Rattle.session_book.specs.Session.{kept_of}
 use Rattle.session_book.specs.Session.{SessionState, begins_asked, TakesPiece, IsInputFull, held_fed, ReadsUpTo, IsReady, Stops, with_reply, IsEmptied}
 
 -- A worker's book: the worker's number; the dialect of its sessions' lines; the open sessions by their numbers; how many requests got a number;
@@ -183,7 +184,17 @@ pub record IsUnemptied (book : BookState) (session : ℕ) : Type 0 where
 
 -- the sessions are lenient, and this one is open and has more output that wasn't given than a small answer has
 pub record IsUnread (book : BookState) (session : ℕ) : Type 0 where
-  pub lenient : book.dialect ≡ Lenient
+  pub lenient : IsLenient book.dialect
   pub s : SessionState
   pub there : session_of book session ≡ Some s
   pub output : SMALL_ANSWER < length s.out
+
+-- how many bytes of input are kept, over all sessions
+abbrev pub all_kept : List (ℕ × SessionState) → ℕ
+all_kept sessions = sum_by (λ (e : ℕ × SessionState). kept_of e.1) sessions
+
+-- the session is open, and none keeps more input
+pub record IsHeaviest (book : BookState) (session : ℕ) : Type 0 where
+  pub s : SessionState
+  pub there : session_of book session ≡ Some s
+  pub most : (other : ℕ) (o : SessionState) → session_of book other ≡ Some o → kept_of o ≤ kept_of s

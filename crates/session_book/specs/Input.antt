@@ -1,13 +1,12 @@
 -- The unread bytes of a session, and what they begin with.
-use Rattle.std.specs.Prelude.{◌≡◌, ℕ, ◌-◌, ◌<◌, ◌≤◌, ◌⊎◌, Bool, List, [], ◌++◌, length, take, drop, nat_lt, if◌then◌else◌}
+use Rattle.std.specs.Prelude.{◌≡◌, ℕ, ◌+◌, ◌-◌, ◌<◌, ◌≤◌, ◌⊎◌, Bool, List, [], ◌++◌, length, take, drop, max, nat_lt, if◌then◌else◌}
 use Rattle.std.specs.Prelude.{Option, IfSome, Result, Ok, Err}
 use Rattle.proto.specs.declared.dialect.Dialect.{Dialect}
-use Rattle.proto.specs.declared.limits.TheConstants.{MAX_KEPT}
 use Rattle.proto.specs.declared.message.Message.{Message}
 use Rattle.proto.specs.declared.message.Message.TheVariants.{Ask, Local}
 use Rattle.proto.specs.declared.message.LocalKind.TheVariants as local
 use Rattle.proto.specs.declared.no_memory.NoMemory.{NoMemory}
-use Rattle.proto.specs.Grammar.{Spells}
+use Rattle.proto.specs.Grammar.{max_data, most_kept, Spells}
 use Rattle.proto.specs.Needs.{IsUnfinished}
 use Rattle.session_book.specs.declared.input.Found.{Found}
 use Rattle.session_book.specs.declared.input.Found.TheVariants as found
@@ -18,21 +17,25 @@ pub record InputState : Type 0 where
   pub unread : List ℕ
   pub need : ℕ
 
+-- the most unread bytes of a session that are kept: 262,144, and where a request's data block may have more than 131,072, as many more
+abbrev pub max_unread : Dialect → ℕ
+max_unread d = 131072 + max 131072 (max_data d)
+
 -- How many of the unread bytes are kept. If more are needed than a message has that is kept, the bytes of one that is too large are
 -- dropped as they come: then those behind it.
-abbrev pub kept_length : List ℕ → ℕ → ℕ
-kept_length unread need = if nat_lt MAX_KEPT need then length unread - need else length unread
+abbrev pub kept_length : Dialect → List ℕ → ℕ → ℕ
+kept_length d unread need = if nat_lt (most_kept d) need then length unread - need else length unread
 
 -- The bytes gone are the first of a message that is too large, and nothing is kept before all of these have come.
 pub record IsDropping (d : Dialect) (gone kept : List ℕ) (need : ℕ) (quiet : Bool) : Type 0 where
-  pub large : MAX_KEPT < need
+  pub large : most_kept d < need
   pub within : length gone ≤ need
   pub nothing_kept : length gone < need → kept ≡ []
   pub spells : (more : List ℕ) → length (gone ++ more) ≡ need → Spells d (gone ++ more) (Local (local.TooLarge quiet))
 
 -- bytes are dropped, or none are
 abbrev pub MayDrop : Dialect → List ℕ → List ℕ → ℕ → Bool → Type 0
-MayDrop d gone kept need quiet = IsDropping d gone kept need quiet ⊎ ((need ≤ MAX_KEPT) × (gone ≡ []))
+MayDrop d gone kept need quiet = IsDropping d gone kept need quiet ⊎ ((need ≤ most_kept d) × (gone ≡ []))
 
 -- the first n bytes spell the message
 pub record Begins (i : InputState) (m : Message) (n : ℕ) : Type 0 where

@@ -12,13 +12,13 @@ use Rattle.proto.specs.Grammar.{Spells, SpellsNone}
 use Rattle.proto.specs.Reading.{Reads, asks}
 use Rattle.proto.specs.Needs.{IsUnfinished}
 use Rattle.proto.specs.Answers.{said, is_ask}
-use Rattle.session_book.specs.Input.{kept_length}
+use Rattle.session_book.specs.Input.{kept_length, max_unread}
 use Rattle.session_book.specs.declared.causes.EndCause.{EndCause}
 use Rattle.session_book.specs.declared.causes.EndCause.TheVariants as causes
 use Rattle.session_book.specs.declared.causes.Received.{Received}
 use Rattle.session_book.specs.declared.causes.Unasked.{Unasked}
 use Rattle.session_book.specs.declared.causes.Received.TheVariants as received
-use Rattle.session_book.specs.declared.session.TheConstants.{MAX_UNREAD, MAX_WAITING}
+use Rattle.session_book.specs.declared.session.TheConstants.{MAX_WAITING}
 
 -- An open session: the dialect of its lines; its unread bytes; the messages read, from its oldest unsettled request on; its output that
 -- wasn't given yet; whether it has read Quit or a fatal message; how many unread bytes there have to be
@@ -134,9 +134,13 @@ pub record IsEmptied (s : SessionState) : Type 0 where
   pub unfinished : finished_by s ≡ None
   pub stops : Stops s
 
+-- how many of a session's unread bytes are kept
+unfoldable pub kept_of : SessionState → ℕ
+kept_of s = kept_length s.dialect s.unread s.need
+
 -- the piece doesn't fit after the unread bytes that are kept; it always does once the session drops its input
 abbrev pub IsInputFull : SessionState → List ℕ → Type 0
-IsInputFull s piece = (s.ended ≡ None) × (MAX_UNREAD < kept_length s.unread s.need + length piece)
+IsInputFull s piece = (s.ended ≡ None) × (max_unread s.dialect < kept_length s.dialect s.unread s.need + length piece)
 
 -- the piece is held
 abbrev pub holding : SessionState → List ℕ → SessionState

@@ -5,6 +5,8 @@ ghost use Rattle.std.specs.Prelude.{slice_get};
 ghost use Rattle.std.specs.Prelude.{IfSome, OnOk, OnErr, IsSome};
 ghost use Rattle.session_book.specs.Session.{SessionState, IsEmptied, new_session, gave, finished_by, once_input_ended};
 ghost use Rattle.session_book.specs.Session.{HasReadAll};
+ghost use Rattle.session_book.specs.declared.book.TheConstants.{MAX_INPUT};
+ghost use Rattle.proto.specs.Grammar.{max_data};
 ghost use Rattle.std.specs.Bool.{OnTrue, OnFalse, nat_eq};
 ghost use Rattle.std.specs.Option.{option_and_then};
 ghost use Rattle.proto.specs.declared.limits.TheConstants.{WINDOW};
@@ -20,14 +22,21 @@ use crate::session::{MAX_WAITING, Offer, Session};
 use crate::upkeep::{Upkeep, key_count};
 use bytes::Bytes;
 use indexmap::IndexMap;
-use proto::{Answered, Dialect, Gauge, Gauges, MAX_POSTS, NoMemory, Request, WINDOW};
+use proto::{Answered, Dialect, Gauge, Gauges, MAX_BLOCK, MAX_POSTS, NoMemory, Request, WINDOW};
 use std::alloc::Global;
 use std::collections::VecDeque;
 use std::marker::Model;
 
-/// The most bytes that are reserved for one hit: an item takes 131,072 at most, of which 24 are neither key nor value, and
-/// 80 go to the words and numbers beside them.
+/// The most bytes that are reserved for one hit, unless larger items than an eighth of a segment are asked for: an item takes
+/// 131,072 at most, of which 24 are neither key nor value, and 80 go to the words and numbers beside them.
 pub const MAX_HIT: usize = 131_128;
+
+/// The same for items that may fill a segment.
+pub const MAX_LARGE_HIT: usize = 1_048_632;
+
+/// Bytes of unread input that are kept, over all sessions, above which the session with the most is closed, where data blocks may have
+/// more than 131,072 bytes: as many as 1,024 strict sessions may keep.
+pub const MAX_INPUT: usize = 268_435_456;
 
 /// The sessions of a worker. Contracts see it as a `BookState`.
 ///
@@ -61,6 +70,7 @@ impl Model for Book {
 impl Book {
     ghost use Rattle.session_book.specs.Book.{session_of, out_of, ChangesSession, Receives, FeedsHeldOf};
     ghost use Rattle.session_book.specs.Book.{OnlyAt, IsKnown, NextAsk, Settles, IsUnemptied, IsUnread};
+    ghost use Rattle.session_book.specs.Book.{all_kept, IsHeaviest};
 
     /// No session is open yet. The worker's number is kept for its owner.
     pub fn new(alloc: Global, worker: usize, dialect: Dialect) -> Self
@@ -331,6 +341,42 @@ impl Book {
             }
         }
         None
+    }
+
+    /// The session that keeps the most input, if more than `MAX_INPUT` bytes of it are kept, over all sessions, and data blocks may
+    /// have more than 131,072 bytes: else each session keeps too little.
+    pub fn heaviest(&self) -> Option<u64>
+        ensures large { IsSome result → 131072 < max_data self.now.dialect }
+        ensures above { IsSome result → MAX_INPUT < all_kept self.now.sessions }
+        ensures heaviest { IfSome result (IsHeaviest self.now) }
+    {
+        if self.dialect.most_data() <= MAX_BLOCK || self.upkeep.load.unread() <= MAX_INPUT as u64 {
+            return None;
+        }
+        self.find_heaviest()
+    }
+
+    /// The same, however much was counted, in each dialect.
+    fn find_heaviest(&self) -> Option<u64>
+        ensures above { IsSome result → MAX_INPUT < all_kept self.now.sessions }
+        ensures heaviest { IfSome result (IsHeaviest self.now) }
+        ensures none { result ≡ None → all_kept self.now.sessions ≤ MAX_INPUT }
+    {
+        let mut heaviest = None;
+        let mut most: usize = 0;
+        let mut others: usize = 0;
+        for (session, open) in self.sessions.iter() {
+            let kept = open.kept();
+            others = others.saturating_add(kept.min(most));
+            if kept > most {
+                most = kept;
+                heaviest = Some(*session);
+            }
+        }
+        if most.saturating_add(others) <= MAX_INPUT {
+            return None;
+        }
+        heaviest
     }
 
     /// Whether the session that was asked last can be read further.

@@ -184,7 +184,7 @@ const MAX_BUFFERS: usize = 128;
 const MAX_BYTES: usize = 16_777_216;
 
 /// The most bytes of a buffer that is kept. A larger one is freed, so that few bytes don't stand in much memory for long.
-const MAX_BUFFER: usize = 1_048_576;
+const MAX_BUFFER: usize = 1_179_648;
 
 /// The spare buffers of a worker, with one bound on all their bytes. A session's buffer borrows the memory of one while there
 /// are bytes in it, and a `get` one for its hits: so a session that is idle keeps no memory, and one that has much to give

@@ -3,17 +3,23 @@
 ghost use Rattle.std.specs.Prelude.{◌≡◌, ◌≤◌, ◌<◌, [], ◌++◌, length, drop, Ok, OnOk, OnErr};
 ghost use Rattle.std.specs.Bool.{OnTrue, OnFalse};
 ghost use Rattle.proto.specs.declared.message.Message.{Message};
-ghost use Rattle.proto.specs.declared.limits.TheConstants.{MAX_KEPT};
-ghost use Rattle.proto.specs.Grammar.{SpellsNone};
+ghost use Rattle.proto.specs.Grammar.{most_kept, SpellsNone};
 ghost use Rattle.proto.specs.Needs.{IsDropped};
 
 use crate::buffer::{Buffer, SpareBuffers, Use};
 use proto::{
-    ByteString, Dialect, LocalKind, MAX_KEPT, Message, MessageView, NextView, NoMemory, Put,
+    ByteString, Dialect, LocalKind, MAX_BLOCK, Message, MessageView, NextView, NoMemory, Put,
     Request, Trace, next_view_behind, request_to_store, to_message,
 };
 use std::alloc::Global;
 use std::marker::Model;
+
+/// Unread bytes of a session that are kept beside its longest data block. They are more than a line of 32,768 bytes and the end of the
+/// block, so a session whose input is full always has a message to read.
+const BESIDE_BLOCK: usize = 131_072;
+
+/// The bytes of a message for which there is room as soon as its length is known.
+const ROOM_AT_ONCE: usize = 262_144;
 
 /// What the input begins with.
 #[derive(Drop)]
@@ -36,7 +42,7 @@ pub(crate) struct Input {
     searched: usize,
     /// How many bytes there have to be before the parser is asked again.
     need: usize,
-    /// How many bytes were dropped, in front of those that are kept: none, unless the need is above `MAX_KEPT`.
+    /// How many bytes were dropped, in front of those that are kept: none, unless more are needed than a message has that is kept.
     dropped: usize,
     /// Which these were.
     gone: Trace<u8>,
@@ -63,7 +69,7 @@ impl Model for Input {
 }
 
 impl Input {
-    ghost use Rattle.session_book.specs.Input.{InputState, kept_length, Begins, Finds};
+    ghost use Rattle.session_book.specs.Input.{InputState, kept_length, max_unread, Begins, Finds};
 
     pub fn new(alloc: Global, dialect: Dialect) -> Self
         ensures { result ≡ record { dialect = dialect; unread = []; need = 1 } }
@@ -86,16 +92,24 @@ impl Input {
         ensures few { OnFalse result (length self.now.unread < self.now.need) }
         ensures none { OnFalse result (SpellsNone self.now.dialect self.now.unread) }
     {
-        if self.need > MAX_KEPT {
+        if self.need > self.dialect.most_kept() {
             self.dropped == self.need
         } else {
             self.kept.len() >= self.need
         }
     }
 
+    /// How many unread bytes are kept at most.
+    pub fn most_unread(&self) -> usize
+        ensures value { result ≡ max_unread self.now.dialect }
+        ensures some { 262144 ≤ result }
+    {
+        BESIDE_BLOCK + self.dialect.most_data().max(MAX_BLOCK) as usize
+    }
+
     /// The bytes that are kept.
     pub fn kept(&self) -> &[u8]
-        ensures { length result.now ≡ kept_length self.now.unread self.now.need }
+        ensures { length result.now ≡ kept_length self.now.dialect self.now.unread self.now.need }
     {
         self.kept.as_slice()
     }
@@ -105,13 +119,21 @@ impl Input {
         self.kept.len().saturating_add(self.dropped)
     }
 
+    /// How many bytes there is to be room for: those that the message needs, but if these are many, no more than twice as many as have
+    /// come. So what has only begun takes little memory.
+    fn room(&self) -> usize {
+        self.need
+            .min(self.kept.len().saturating_mul(2).max(ROOM_AT_ONCE))
+    }
+
     /// Puts a piece after the others. What is still to be dropped of a message is dropped.
     pub fn append(&mut self, piece: &[u8], spares: &mut SpareBuffers) -> Result<(), NoMemory>
         ensures ok { OnOk result (self.new ≡ record self.old { unread = self.old.unread ++ piece.now }) }
         ensures err { OnErr result (self.new ≡ self.old) }
     {
-        if self.need <= MAX_KEPT {
-            return self.kept.append(piece, self.need, spares);
+        if self.need <= self.dialect.most_kept() {
+            let room = self.room();
+            return self.kept.append(piece, room, spares);
         }
         let (front, behind) = piece.split_at((self.need - self.dropped).min(piece.len()));
         self.kept.append(behind, 0, spares)?;
@@ -129,7 +151,7 @@ impl Input {
         if let Some((message, length)) = self.held.take() {
             return Ok(Found::Copied(message, length));
         }
-        if self.need > MAX_KEPT {
+        if self.need > self.dialect.most_kept() {
             // All bytes of a message that is dropped have come.
             let message = Message::Local(LocalKind::TooLarge(self.noreply));
             return Ok(Found::Copied(message, self.need));
@@ -165,7 +187,7 @@ impl Input {
 
     /// The message is too large, and isn't kept: what there is of it is dropped, and so is what comes of it.
     fn start_dropping(&mut self, need: usize, noreply: bool, spares: &mut SpareBuffers) -> Found
-        requires none_dropped { self.old.need ≤ MAX_KEPT }
+        requires none_dropped { self.old.need ≤ most_kept self.old.dialect }
         requires dropped { IsDropped self.old.dialect self.old.unread need noreply }
         ensures { Finds self.old (Ok result) self.new }
     {

@@ -2,13 +2,16 @@
 
 ghost use Rattle.std.specs.Prelude.{◌≡◌, ◌≤◌, ◌+◌, ◌*◌, length};
 ghost use Rattle.proto.specs.declared.hits.Hit.{Hit};
-ghost use Rattle.proto.specs.declared.limits.TheConstants.{WINDOW, MAX_ANSWER, MAX_KEPT, MAX_POSTS};
+ghost use Rattle.proto.specs.declared.limits.TheConstants.{WINDOW, MAX_ANSWER, MAX_POSTS};
+ghost use Rattle.proto.specs.declared.dialect.Dialect.{Dialect};
 ghost use Rattle.proto.specs.declared.dialect.Dialect.TheVariants.{Strict, Lenient};
 ghost use Rattle.proto.specs.Sessions.{most_sessions};
 ghost use Rattle.proto.specs.Hits.{hit_room};
-ghost use Rattle.session_book.specs.declared.session.TheConstants.{MAX_UNREAD, MAX_WAITING};
+ghost use Rattle.session_book.specs.declared.session.TheConstants.{MAX_WAITING};
+ghost use Rattle.proto.specs.Grammar.{most_kept};
+ghost use Rattle.session_book.specs.Input.{max_unread};
 ghost use Rattle.session_book.specs.declared.load.TheConstants.{MAX_KEYS, OUTPUT_BUDGET, SMALL_ANSWER};
-ghost use Rattle.session_book.specs.declared.book.TheConstants.{MAX_HIT};
+ghost use Rattle.session_book.specs.declared.book.TheConstants.{MAX_HIT, MAX_LARGE_HIT};
 ghost use Rattle.session_book.specs.Accounts.{StartsAccounts, FeedKeeps, ReadKeeps, SettleKeeps, GiveKeeps, ReadBegins};
 ghost use Rattle.session_book.specs.Accounts.{ReadIsWhole, SaidBegins, SaidIsWhole};
 
@@ -33,16 +36,21 @@ pub fn beginnings()
 /// room than is reckoned with, nor do the hits of as many keys with one more lenient answer, or with those of a strict line's keys.
 pub fn limits()
     ensures unsettled { WINDOW ≡ 64 }
-    ensures unread { MAX_UNREAD ≡ 262144 }
-    ensures kept { MAX_KEPT ≡ 163842 }
+    ensures unread { max_unread Strict ≡ 262144 }
+    ensures lenient_unread { max_unread (Lenient 1048512) ≡ 1179584 }
+    ensures has_room { (d : Dialect) → most_kept d + 65536 ≤ max_unread d }
+    ensures kept { most_kept Strict ≡ 163842 }
+    ensures lenient_kept { most_kept (Lenient 1048512) ≡ 1081282 }
     ensures waiting { MAX_WAITING ≡ 1048576 }
     ensures keys { MAX_KEYS ≡ 255 }
     ensures hit { (h : Hit) → 24 + length h.key + length h.value ≤ 131072 → hit_room h ≤ MAX_HIT }
     ensures hits { MAX_KEYS * MAX_HIT + MAX_ANSWER ≤ 41943040 }
+    ensures large_hit { (h : Hit) → 24 + length h.key + length h.value ≤ 1048576 → hit_room h ≤ MAX_LARGE_HIT }
+    ensures large_hits { MAX_KEYS * MAX_LARGE_HIT + MAX_ANSWER ≤ 275789768 }
     ensures strict_hits { (MAX_KEYS + 1021) * MAX_HIT ≤ 167772160 }
     ensures output { OUTPUT_BUDGET ≡ 67108864 }
     ensures small { SMALL_ANSWER ≡ 16384 }
     ensures sessions { most_sessions Strict ≡ 16777216 }
-    ensures lenient_sessions { most_sessions Lenient ≡ 4611686018427387904 }
+    ensures lenient_sessions { most_sessions (Lenient 1048512) ≡ 4611686018427387904 }
     ensures posts { MAX_POSTS ≡ 4611686018427387904 }
 {}

@@ -14,7 +14,8 @@ const MAX_COMING: usize = 1_048_576;
 
 /// Keys of unsettled requests, over all sessions, above which one request at a time goes on, whatever their answers are likely to
 /// take. Up to then each key has a hit at most, and the last request one answer: so before they are put into outputs, their hits
-/// take no more than 40 MiB leniently, and strictly, if a line has 1,021 keys at most, no more than 160 MiB.
+/// take no more than 40 MiB leniently if items have at most 131,072 bytes, or 264 MiB if they have 1 MiB; and strictly, if a line
+/// has 1,021 keys at most, no more than 160 MiB.
 pub const MAX_KEYS: usize = 255;
 
 /// The bytes that waiting output and the answers on their way may take, over all sessions. A `get` that is likely to exceed
@@ -128,6 +129,11 @@ impl Load {
     /// So many bytes are to be read.
     pub(crate) fn fed(&mut self, n: usize) {
         self.counts.unread = self.counts.unread.wrapping_add(n as u64);
+    }
+
+    /// How many bytes of open sessions no message was read from yet, with those that were dropped as they came.
+    pub(crate) fn unread(&self) -> u64 {
+        self.counts.unread
     }
 
     /// A message of this length was read.

@@ -23,10 +23,6 @@ use std::alloc::Global;
 use std::collections::VecDeque;
 use std::marker::Model;
 
-/// Unread bytes of a session that are kept. It is above the longest message that is, a line of 32,768 bytes and a data block of
-/// 131,072 with its end, so a session whose input is full always has a message to read.
-pub const MAX_UNREAD: usize = 262_144;
-
 /// Bytes of waiting output above which a session isn't read.
 pub const MAX_WAITING: usize = 1_048_576;
 
@@ -34,8 +30,8 @@ pub const MAX_WAITING: usize = 1_048_576;
 const WORTH_GIVING: usize = 16_384;
 
 /// A held piece is fed once this much of the input is free, so that the port reads at least as much before the next pause.
-/// The 196,608 bytes that may still be unread are more than the longest message that is kept, so a session that waits for the
-/// rest of a message always has this room.
+/// The bytes that may still be unread are more than the longest message that is kept, so a session that waits for the rest of a message
+/// always has this room.
 const WORTH_FEEDING: usize = 65_536;
 
 /// What is to be done with a session's output now.
@@ -92,7 +88,7 @@ impl Session {
     ghost use Rattle.session_book.specs.Session.{new_session, IsInputFull, once_fed, TakesPiece, FeedsHeld};
     ghost use Rattle.session_book.specs.Session.{TriesNext, ReadsAsk};
     ghost use Rattle.session_book.specs.Session.{with_reply, gave, finished_by, once_input_ended, HasReadAll, IsReady};
-    ghost use Rattle.session_book.specs.Session.{IsEmptied, Stops};
+    ghost use Rattle.session_book.specs.Session.{IsEmptied, Stops, kept_of};
 
     pub fn new(alloc: Global, dialect: Dialect) -> Self
         ensures { result ≡ new_session dialect }
@@ -152,7 +148,8 @@ impl Session {
         ensures not_fed { (result ≡ Ok true → ⊥) → self.new ≡ self.old }
     {
         if self.ended.is_none() {
-            if piece.len() > MAX_UNREAD || self.input.kept().len() > MAX_UNREAD - piece.len() {
+            let most = self.input.most_unread();
+            if piece.len() > most || self.input.kept().len() > most - piece.len() {
                 return Ok(false);
             }
             self.input.append(piece, &mut upkeep.spares)?;
@@ -259,7 +256,7 @@ impl Session {
 
     /// Whether it is worth feeding. A session that has ended drops what it is fed.
     fn has_room(&self) -> bool {
-        self.ended.is_some() || self.input.kept().len() <= MAX_UNREAD - WORTH_FEEDING
+        self.ended.is_some() || self.input.kept().len() <= self.input.most_unread() - WORTH_FEEDING
     }
 
     /// Gives the first request of the queue, for so many keys, its reply. It answers how many bytes of output that made. If there
@@ -409,6 +406,14 @@ impl Session {
             Some(piece) => piece,
             None => &[],
         }
+    }
+
+    /// How many bytes of input are kept.
+    #[tactic(auto, unfolding(crate::specs::Session::kept_of))]
+    pub fn kept(&self) -> usize
+        ensures { result ≡ kept_of self.now }
+    {
+        self.input.kept().len()
     }
 
     pub fn out(&self) -> &[u8]

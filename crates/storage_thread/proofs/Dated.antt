@@ -1,5 +1,5 @@
 -- A history that goes on with each entry as its request asks.
-use Rattle.std.proofs.Common.{◌≡◌, ◌⊎◌, ℕ, Bool, true, List, [], ◌∷◌, ◌++◌, Some, refl, sym, ap, subst, ◌∙◌, inl, inr}
+use Rattle.std.proofs.Common.{◌≡◌, ◌⊎◌, Bool, true, List, [], ◌∷◌, ◌++◌, Some, refl, sym, subst, ◌∙◌, inl, inr}
 use Rattle.std.proofs.lemmas.Option.{none-some}
 use Rattle.proto.specs.declared.history.Answered.{Answered}
 use Rattle.proto.specs.declared.message.Request.{Request}
@@ -9,7 +9,7 @@ use Rattle.proto.specs.Sizes.{Sizes}
 use Rattle.proto.specs.Cache.{Cache, empty_cache}
 use Rattle.proto.specs.History.{Chain}
 use Rattle.engine.specs.Outcomes.{outcome_at}
-use Rattle.engine.specs.Deadlines.{StoresAsAsked, KeepsDeadlines}
+use Rattle.engine.specs.Deadlines.{StoresAsAsked}
 use Rattle.engine.specs.Reaching.{last_cache}
 use Rattle.engine.proofs.ReachingLemmas.{IsStepOf, chain_more, last_more}
 use Rattle.storage_thread.specs.Deadlines.{AlwaysStoresAsAsked, LeadsAsAsked}

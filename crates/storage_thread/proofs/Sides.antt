@@ -1,5 +1,5 @@
 -- What a storage side leaves, at whatever moment between two requests.
-use Rattle.std.proofs.Common.{◌≡◌, ℕ, ◌<◌, Bool, List, [], All, Option, refl, sym, ap, subst, arith, length}
+use Rattle.std.proofs.Common.{◌≡◌, ℕ, ◌<◌, Bool, List, [], All, Option, sym, subst, arith}
 use Rattle.proto.specs.declared.logged_clock.ClockStart.{ClockStart}
 use Rattle.proto.specs.declared.terms.Terms.{Terms}
 use Rattle.proto.specs.Cache.{Cache}

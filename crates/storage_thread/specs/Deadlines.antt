@@ -1,5 +1,5 @@
 -- Histories in which each entry has the deadline that was asked for.
-use Rattle.std.specs.Prelude.{◌≡◌, ℕ, ⊤, Bool, true, List, ◌∷◌}
+use Rattle.std.specs.Prelude.{◌≡◌, ⊤, Bool, true, List, ◌∷◌}
 use Rattle.proto.specs.declared.history.Answered.{Answered}
 use Rattle.proto.specs.Sizes.{Sizes}
 use Rattle.proto.specs.Cache.{Cache, empty_cache}

@@ -1,11 +1,11 @@
 -- Histories in which nothing is forgotten, since little is stored.
-use Rattle.std.specs.Prelude.{◌≡◌, ℕ, ◌+◌, ◌-◌, ◌*◌, ◌/◌, ◌≤◌, ◌⊎◌, ⊤, List, ◌∷◌, All, None}
+use Rattle.std.specs.Prelude.{◌≡◌, ℕ, ◌+◌, ◌-◌, ◌*◌, ◌≤◌, ◌⊎◌, ⊤, List, ◌∷◌, All, None}
 use Rattle.std.specs.List.{AllByRecursion}
 use Rattle.std.specs.Option.{option_map_or}
 use Rattle.proto.specs.declared.history.Answered.{Answered}
 use Rattle.proto.specs.declared.message.Reply.{Reply}
 use Rattle.proto.specs.declared.message.Reply.TheVariants.{NoMemory}
-use Rattle.proto.specs.Sizes.{Sizes}
+use Rattle.proto.specs.Sizes.{Sizes, item_limit}
 use Rattle.proto.specs.Cache.{Cache, empty_cache}
 use Rattle.proto.specs.Buckets.{bucket_of}
 use Rattle.proto.specs.Commands.{Outcome, SetsNoDeadline}
@@ -39,7 +39,7 @@ MayForgetNothing sizes history =
     let start = empty_cache 0 in
     All (λ e. SetsNoDeadline e.request) history
     → ((caches : List Cache) → Chain sizes start history caches
-    → stored_bytes sizes start history caches ≤ (sizes.segments - 1) * (sizes.segment_size - sizes.segment_size / 8))
+    → stored_bytes sizes start history caches ≤ (sizes.segments - 1) * (sizes.segment_size - item_limit sizes))
     → (caches : List Cache) × Chain sizes start history caches × ForgetsNothing sizes start history caches
 
 -- so it is of each beginning of the history
@@ -54,7 +54,7 @@ KeepsSoFar sizes history caches keeps =
     let start = empty_cache 0 in
     let bytes = stored_bytes sizes start history caches in
     All (λ e. SetsNoDeadline e.request) history
-    → bytes ≤ (sizes.segments - 1) * (sizes.segment_size - sizes.segment_size / 8)
+    → bytes ≤ (sizes.segments - 1) * (sizes.segment_size - item_limit sizes)
     → (items : List StoredItem) × keeps items × (written items ≡ bytes)
     × AllByRecursion (λ i. i.bucket ≡ bucket_of None) items × ForgetsNothing sizes start history caches
 

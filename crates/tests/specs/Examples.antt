@@ -57,7 +57,7 @@ abbrev pub IsSpelled : Example → Type 0
 IsSpelled e = Spells Strict e.0 e.1
 
 abbrev pub IsSpelledLeniently : Example → Type 0
-IsSpelledLeniently e = Spells Lenient e.0 e.1
+IsSpelledLeniently e = Spells (Lenient 131072) e.0 e.1
 
 abbrev pub touch_of : List ℕ → ℤ → Request
 touch_of key exptime = Touch (record { key = key; exptime = exptime })

@@ -198,7 +198,7 @@ const ROWS: [Row; 11] = [
     // taken up.
     Row {
         name: "a session ends after a silent message",
-        dialect: Dialect::Lenient,
+        dialect: Dialect::Lenient(131_072),
         found: None,
         parts: &[(
             1,
@@ -231,7 +231,7 @@ const ROWS: [Row; 11] = [
     },
     Row {
         name: "above 1 MiB of output, over all sessions, is not little",
-        dialect: Dialect::Lenient,
+        dialect: Dialect::Lenient(131_072),
         found: None,
         parts: &[(
             1,
@@ -255,7 +255,7 @@ const ROWS: [Row; 11] = [
     // A key is likely to take as much as it took last, or half of what was likely before.
     Row {
         name: "a book is crowded above 1 MiB of likely answers",
-        dialect: Dialect::Lenient,
+        dialect: Dialect::Lenient(131_072),
         found: None,
         parts: &[
             (1, &[Open(1), Feed(1, b"get b\r\n"), AskNext(1)]),
@@ -286,7 +286,7 @@ const ROWS: [Row; 11] = [
     // A line that is answered without the cache stands in its place, and a silent one has no answer.
     Row {
         name: "local lines are answered in their places",
-        dialect: Dialect::Lenient,
+        dialect: Dialect::Lenient(131_072),
         found: Some("x"),
         parts: &[(1, &LOCAL_LINES)],
     },
@@ -308,7 +308,7 @@ const ROWS: [Row; 11] = [
     },
     Row {
         name: "the binary protocol is closed at once leniently",
-        dialect: Dialect::Lenient,
+        dialect: Dialect::Lenient(131_072),
         found: None,
         parts: &[(
             1,
@@ -351,7 +351,7 @@ const SLOW_ROWS: [Row; 3] = [
     // The longest line of the lenient dialect: a `get` with 32,761 spaces after its key.
     Row {
         name: "a long line comes byte by byte",
-        dialect: Dialect::Lenient,
+        dialect: Dialect::Lenient(131_072),
         found: Some("x"),
         parts: &[
             (1, &[Open(1), Feed(1, b"get a")]),
@@ -370,7 +370,7 @@ const SLOW_ROWS: [Row; 3] = [
     // Each of 32,766 bytes may begin the line's end.
     Row {
         name: "a long line of carriage returns comes byte by byte",
-        dialect: Dialect::Lenient,
+        dialect: Dialect::Lenient(131_072),
         found: None,
         parts: &[
             (1, &[Open(1), Feed(1, b"")]),
@@ -523,7 +523,7 @@ const LARGE: [(&[(&str, usize)], &str, &[Part]); 8] = [
 #[test]
 fn what_is_likely_to_be_large_waits(rt: HostRuntime) -> Result<(), Fail> {
     for (answers, next, parts) in &LARGE {
-        let mut player = Player::new(rt.alloc(), Dialect::Lenient, None);
+        let mut player = Player::new(rt.alloc(), Dialect::Lenient(131_072), None);
         let checked = check_large(&rt, &mut player, answers, next, parts);
         drop(player);
         checked?;
@@ -630,7 +630,7 @@ const ROOM_ROWS: [Row; 5] = [
     },
     Row {
         name: "a lenient client that takes nothing for ten seconds has left its output unread",
-        dialect: Dialect::Lenient,
+        dialect: Dialect::Lenient(131_072),
         found: None,
         parts: &[
             (1, &BEFORE_ROOM),

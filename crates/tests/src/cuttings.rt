@@ -153,7 +153,7 @@ fn cuttings_give_one_output(rt: HostRuntime) -> Result<(), Fail> {
             check_row(&rt, rt.alloc(), Dialect::Strict, row, seed)?;
         }
         for row in &LENIENT_ROWS {
-            check_row(&rt, rt.alloc(), Dialect::Lenient, row, seed)?;
+            check_row(&rt, rt.alloc(), Dialect::Lenient(131_072), row, seed)?;
         }
     }
     Ok(())

@@ -209,14 +209,16 @@ fn one_to_eight_workers(rt: HostRuntime) -> Result<(), Fail> {
     Ok(())
 }
 
-/// Two histories that the worker was told of are compared, and one of them is checked.
+/// Two histories that the worker was told of are compared, and one of them is checked, and compared with a later one.
 fn apply_laws(batch: &mut WorkerBatch)
     ensures { batch.new ≡ batch.old }
 {
     let first = batch.told();
     let second = batch.told();
     let first = batch.compare(first, second);
-    batch.check(first);
+    let first = batch.check(first);
+    let later = batch.told();
+    drop(batch.compare(first, later));
 }
 
 /// Whether a request can be put and sent after the laws.

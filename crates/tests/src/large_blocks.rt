@@ -111,7 +111,7 @@ fn send(player: &mut Player, input: &[u8], step: usize) -> Result<(), Fail> {
 /// The row's output is there, and the parser was asked five times at most: twice for the line and for the `get`,
 /// whose ends may come later, and once for the message.
 fn check_row(rt: &impl Abort, alloc: Global, row: &Row, input: &[u8]) -> Result<(), Fail> {
-    let mut player = Player::new(alloc, Dialect::Lenient, Some("x"));
+    let mut player = Player::new(alloc, Dialect::Lenient(131_072), Some("x"));
     let sent = send(&mut player, input, row.step);
     let is_given = player.book.out(7) == row.output.as_bytes();
     let looks = player.book.looks();

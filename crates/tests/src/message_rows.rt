@@ -442,3 +442,11 @@ pub const DROPS: [(&[u8], Option<bool>); 5] = [
     (b"append a 0 0 200000 noreply \r\nx", Some(true)),
     (b"set a 0 0 8388608\r\n", Some(false)),
 ];
+
+/// The same where the largest item has this many bytes.
+pub const LIMITED_DROPS: [(u32, &[u8], Option<bool>); 4] = [
+    (8192, b"set a 0 0 40943\r\n", None),
+    (8192, b"set a 0 0 40944\r\n", Some(false)),
+    (1_048_512, b"set a 0 0 1081261\r\n", None),
+    (1_048_512, b"set a 0 0 1081262\r\n", Some(false)),
+];

@@ -3,7 +3,7 @@
 use crate::made::{spell, values};
 use crate::message_rows::{
     DROPS, FAULTS, Given, LENIENT_FAULTS, LENIENT_LONG_LINES, LENIENT_NEEDS, LENIENT_REQUESTS,
-    LONG_LINES, LongLine, NEEDS, REQUESTS, Row, SPELLINGS,
+    LIMITED_DROPS, LONG_LINES, LongLine, NEEDS, REQUESTS, Row, SPELLINGS,
 };
 use crate::same::check_same;
 use proto::{
@@ -140,10 +140,10 @@ fn check_rows(rt: &impl Abort, alloc: Global, dialect: Dialect, rows: &[Row]) ->
 fn messages_are_read_and_answered(rt: HostRuntime) -> Result<(), Fail> {
     let alloc = rt.alloc();
     check_rows(&rt, alloc, Dialect::Strict, &REQUESTS)?;
-    check_rows(&rt, alloc, Dialect::Lenient, &REQUESTS)?;
+    check_rows(&rt, alloc, Dialect::Lenient(131_072), &REQUESTS)?;
     check_rows(&rt, alloc, Dialect::Strict, &FAULTS)?;
-    check_rows(&rt, alloc, Dialect::Lenient, &LENIENT_REQUESTS)?;
-    check_rows(&rt, alloc, Dialect::Lenient, &LENIENT_FAULTS)
+    check_rows(&rt, alloc, Dialect::Lenient(131_072), &LENIENT_REQUESTS)?;
+    check_rows(&rt, alloc, Dialect::Lenient(131_072), &LENIENT_FAULTS)
 }
 
 #[test]
@@ -183,7 +183,13 @@ fn check_long_lines(
 fn lines_end_within_their_limits(rt: HostRuntime) -> Result<(), Fail> {
     let alloc = rt.alloc();
     check_long_lines(&rt, alloc, Dialect::Strict, &LONG_LINES, 2048)?;
-    check_long_lines(&rt, alloc, Dialect::Lenient, &LENIENT_LONG_LINES, 32_768)
+    check_long_lines(
+        &rt,
+        alloc,
+        Dialect::Lenient(131_072),
+        &LENIENT_LONG_LINES,
+        32_768,
+    )
 }
 
 /// How many bytes are needed, where no message was found, and whether a message to be dropped has `noreply`.
@@ -207,12 +213,16 @@ fn a_storage_line_says_what_is_needed_and_dropped(rt: HostRuntime) {
     }
     for rows in [NEEDS.as_slice(), LENIENT_NEEDS.as_slice()] {
         for (input, need) in rows {
-            let view = next_view(Dialect::Lenient, input);
+            let view = next_view(Dialect::Lenient(131_072), input);
             check_same(&rt, wants(view).0, Some(*need), *input);
         }
     }
+    for (limit, input, wanted) in &LIMITED_DROPS {
+        let view = next_view(Dialect::Lenient(*limit), input);
+        check_same(&rt, wants(view).1, *wanted, *input);
+    }
     for (input, wanted) in &DROPS {
-        let view = next_view(Dialect::Lenient, input);
+        let view = next_view(Dialect::Lenient(131_072), input);
         check_same(&rt, wants(view).1, *wanted, *input);
         check_same(
             &rt,

@@ -18,6 +18,15 @@ const SIZES: [(u32, u32, bool); 10] = [
     (12_288, 8, false),
 ];
 
+/// The largest item of segments of 4,096 bytes, and whether that is within the limits.
+const ITEM_LIMITS: [(u32, bool); 5] = [
+    (512, true),
+    (1000, true),
+    (4032, true),
+    (511, false),
+    (4033, false),
+];
+
 #[test]
 fn sizes_are_within_their_limits(rt: HostRuntime) -> Result<(), Fail> {
     for (size, segments, is_good) in &SIZES {
@@ -32,5 +41,10 @@ fn sizes_are_within_their_limits(rt: HostRuntime) -> Result<(), Fail> {
         ((4096, 9), 512),
         "4096 by 9",
     );
+    for (limit, is_good) in &ITEM_LIMITS {
+        let found = geometry.with_item_limit(*limit);
+        let limited = found.map(|limited| limited.item_limit()).ok();
+        check_same(&rt, limited, is_good.then_some(*limit), *limit);
+    }
     Ok(())
 }

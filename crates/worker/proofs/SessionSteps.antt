@@ -4,7 +4,7 @@ use Rattle.std.proofs.Common.{List, [], ◌∷◌, ◌++◌, length, take, refl,
 use Rattle.std.proofs.Common.{append_assoc, append-nil, arith, Option, Some, None, is_some}
 use Rattle.std.proofs.lemmas.List.{length-append}
 use Rattle.proto.specs.declared.dialect.Dialect.{Dialect}
-use Rattle.proto.specs.declared.dialect.Dialect.TheVariants.{Lenient}
+use Rattle.proto.specs.Lines.{IsLenient}
 use Rattle.proto.specs.declared.message.Request.{Request}
 use Rattle.proto.specs.declared.message.Reply.{Reply}
 use Rattle.proto.specs.declared.message.Message.{Message}
@@ -329,7 +329,7 @@ closed_no_memory f g s held h k shut = closed_as f g s held causes.NoMemory h k 
 
 -- and a lenient one with the cause Unread
 pub closed_unread : (f g : SessionFacts) (s : SessionState) (held : List ℕ) → IsSessionServed held f s → Stays f g
-    → g.port.shut ≡ true → g.dialect ≡ Lenient → IsClosed g causes.Unread
+    → g.port.shut ≡ true → IsLenient g.dialect → IsClosed g causes.Unread
 closed_unread f g s held h k shut lenient = closed_as f g s held causes.Unread h k (shut, lenient) (inr shut)
 
 -- the same where one more reply came back, which found no memory

@@ -9,7 +9,7 @@ use Rattle.session_book.specs.declared.causes.EndCause.{EndCause}
 use Rattle.session_book.specs.declared.causes.EndCause.TheVariants as causes
 use Rattle.session_book.specs.Session.{SessionState, once_fed, once_input_ended, holding}
 use Rattle.session_book.specs.Book.{BookState, session_of, IsUnread}
-use Rattle.proto.specs.declared.dialect.Dialect.TheVariants.{Lenient}
+use Rattle.proto.specs.Lines.{IsLenient}
 use Rattle.worker_port.specs.declared.events.PortRecord.{PortRecord}
 use Rattle.worker_port.specs.declared.events.PortRecord.TheVariants as was
 use Rattle.worker.specs.declared.worker.WorkerState.{WorkerState}
@@ -147,7 +147,7 @@ told_no_memory v v' unopened ended t h k r =
 
 -- shut as its client took no output
 pub told_unread : (v v' : RunView) (unopened : ℕ) (ended : Bool) (t : ℕ) → IsTraceKnown v unopened ended
-    → ClosesIn v v' t causes.Unread (was.Shut t) → v'.dialect ≡ Lenient → Runs (facts v t) → IsTraceKnown v' unopened ended
+    → ClosesIn v v' t causes.Unread (was.Shut t) → IsLenient v'.dialect → Runs (facts v t) → IsTraceKnown v' unopened ended
 told_unread v v' unopened ended t h k lenient r =
     let here = shuts_here v v' t causes.Unread causes.Drained k r.cause in
     let port = record (port_facts v.events t) { shut = true } in
@@ -348,10 +348,10 @@ no_memory_goes_on told old new t s k h e =
 -- so does one that has shut a lenient session whose client took no output
 pub unread_goes_on : {P : Type 0} (told : P → Option PortTrace) (old new : WorkerState P) (t : ℕ)
     → Shuts told old new t causes.Unread → IsWorkerServing told old → IsUnread old.book t → WorkerGoesOn told old new
-unread_goes_on told old new t k h u =
+unread_goes_on told old new t k h u = let lenient = u.lenient in
     shut_goes_on told old new t causes.Unread k h (λ trace is was_told closes. told_unread (run_view trace old)
     (run_view (then_told (was.Shut t ∷ []) trace) new) old.unopened old.ended t was_told closes
-    ((h.whose trace is).1 ∙ u.lenient) (runs (facts (run_view trace old) t) u.s (was_told.each t) u.there))
+    (lenient.0, (h.whose trace is).1 ∙ lenient.1) (runs (facts (run_view trace old) t) u.s (was_told.each t) u.there))
 
 -- ---- an event of the port
 

@@ -4,7 +4,7 @@ use Rattle.std.specs.Prelude.{All, Some, None, IsSome}
 use Rattle.std.specs.List.{list_any, last_or}
 use Rattle.std.specs.List.Sorted.{IsStrictlyIncreasing}
 use Rattle.proto.specs.declared.dialect.Dialect.{Dialect}
-use Rattle.proto.specs.declared.dialect.Dialect.TheVariants.{Lenient}
+use Rattle.proto.specs.Lines.{IsLenient}
 use Rattle.proto.specs.declared.message.FatalKind.{FatalKind}
 use Rattle.proto.specs.declared.message.Message.{Message}
 use Rattle.proto.specs.declared.message.Message.TheVariants.{Quit, Fatal}
@@ -32,7 +32,7 @@ IsCauseOf d events s messages causes.EndOfInput =
     (is_in (was.EndOfInput s) events ≡ true) × (is_in (was.Shut s) events ≡ true) × (list_any ends_session messages ≡ false)
 IsCauseOf d events s messages causes.Gone = is_in (was.Gone s) events ≡ true
 IsCauseOf d events s messages causes.NoMemory = is_in (was.Shut s) events ≡ true
-IsCauseOf d events s messages causes.Unread = (is_in (was.Shut s) events ≡ true) × (d ≡ Lenient)
+IsCauseOf d events s messages causes.Unread = (is_in (was.Shut s) events ≡ true) × IsLenient d
 IsCauseOf d events s messages causes.Quit = (is_in (was.Shut s) events ≡ true) × (last_or None messages ≡ Some Quit)
 IsCauseOf d events s messages causes.Fatal =
     (is_in (was.Shut s) events ≡ true) × (kind : FatalKind) × (last_or None messages ≡ Some (Fatal kind))

@@ -2,7 +2,7 @@
 use Rattle.std.specs.Prelude.{◌≡◌, ℕ, ◌≤◌, ◌⊎◌, Bool, true, false, List, [], ◌∷◌, ◌++◌, length, Option, Some, None}
 use Rattle.std.specs.Prelude.{◌==◌, if◌then◌else◌, map, filter}
 use Rattle.proto.specs.declared.dialect.Dialect.{Dialect}
-use Rattle.proto.specs.declared.dialect.Dialect.TheVariants.{Lenient}
+use Rattle.proto.specs.Lines.{IsLenient}
 use Rattle.proto.specs.declared.message.Request.{Request}
 use Rattle.proto.specs.declared.message.Reply.{Reply}
 use Rattle.proto.specs.declared.message.Message.{Message}
@@ -110,7 +110,7 @@ IsCaused f messages rest causes.Quit = (f.port.shut ≡ true) × IsWhole f messa
 IsCaused f messages rest causes.Fatal = (f.port.shut ≡ true) × IsWhole f messages (Some causes.Fatal)
 IsCaused f messages rest causes.Gone = f.port.gone ≡ true
 IsCaused f messages rest causes.NoMemory = f.port.shut ≡ true
-IsCaused f messages rest causes.Unread = (f.port.shut ≡ true) × (f.dialect ≡ Lenient)
+IsCaused f messages rest causes.Unread = (f.port.shut ≡ true) × IsLenient f.dialect
 
 -- the session is closed: some first messages were read and asked, and a beginning of their answers was given
 pub record IsClosed (f : SessionFacts) (cause : EndCause) : Type 0 where

@@ -218,6 +218,22 @@ fn shut_unread<P: Port, R: Clock>(
     moved
 }
 
+/// Shuts the sessions that keep the most input, as long as more is kept over all sessions than there is room for. True if something
+/// was done.
+fn limit_input<P: Port>(worker: &mut Worker<P>) -> bool
+    ensures { Continues P.told P.leads_to worker.old worker.new }
+{
+    let mut moved = false;
+    for _ in 0..WINDOW {
+        let Some(session) = worker.state.book.heaviest() else {
+            break;
+        };
+        worker.state.shut(session, EndCause::NoMemory);
+        moved = true;
+    }
+    moved
+}
+
 /// One turn. True if something was done. It puts the held request, then what has come and what fits by now. Storage knows of
 /// all of it before the answers are looked for, so nothing is kept back while the worker waits.
 fn take_turn<P: Port, G: Gate, E: Executor, R: Clock>(
@@ -238,7 +254,7 @@ fn take_turn<P: Port, G: Gate, E: Executor, R: Clock>(
     let settled = settle_answers(worker, gate);
     let given = give_output(worker, Task::Give, usize::MAX);
     let given_again = retry_output(worker, &mut pauses.retries);
-    let shut = shut_unread(rt, worker, &mut pauses.seconds, storage);
+    let shut = shut_unread(rt, worker, &mut pauses.seconds, storage) | limit_input(worker);
     held || came > 0 || fed || asked || settled || given || given_again || shut
 }
 

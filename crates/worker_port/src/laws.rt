@@ -16,9 +16,13 @@ use exchange::{ToldHistory, WorkerBatch};
 /// request of the session, one that this read or a later one brought. Then it is the earlier history with more entries,
 /// and the request stands among these. And the earlier history has of the session only requests that the bytes before this read
 /// spell.
-pub fn order_in_real_time(sender: &mut WorkerBatch, earlier: ToldHistory)
+///
+/// Call it before the later history is told: of a request that the worker has sent by the call it says nothing. The earlier
+/// history is handed back, and `WorkerBatch::compare` says of it and the later one that they are of one history.
+pub fn order_in_real_time(sender: &mut WorkerBatch, earlier: ToldHistory) -> ToldHistory
     requires { earlier.exchange ≡ sender.old.end.exchange }
     ensures same { sender.new ≡ sender.old }
+    ensures handed_back { result ≡ earlier }
     ensures behind { (session place : ℕ) (spelled : List Request) (later : List Answered) (entry : Answered)
         → StartsWith spelled (sent_for sender.old.end.sent session) → AreOfOne earlier.items later
         → get_elem? (session_share later sender.old.end.worker session) place ≡ some entry → length spelled ≤ place
@@ -26,5 +30,5 @@ pub fn order_in_real_time(sender: &mut WorkerBatch, earlier: ToldHistory)
     ensures own { (session : ℕ) (spelled : List Request) → StartsWith spelled (sent_for sender.old.end.sent session)
         → StartsWith spelled (map (λ e. e.request) (session_share earlier.items sender.old.end.worker session)) }
 {
-    sender.check(earlier);
+    sender.check(earlier)
 }

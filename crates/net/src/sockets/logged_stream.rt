@@ -15,6 +15,7 @@ use crate::streams::Owner;
 use exchange::{ExchangeName, WorkerBatch};
 use proto::{Noted, Trace};
 use std::io::{self, Read, Write};
+use std::snapshot::Snapshot;
 use worker_port::ToldHistory;
 
 /// A session's stream.
@@ -38,6 +39,8 @@ pub(crate) struct LoggedStream<S: Drop> {
     stream: S,
     /// The stream as it was at first, for clauses alone: it tells which socket it is.
     pub(crate) origin: Trace<S>,
+    /// The exchange whose worker it is served for, for clauses alone.
+    pub(crate) exchange: Snapshot<ExchangeName>,
     pub(crate) received: Trace<u8>,
     pub(crate) sent: Trace<u8>,
     /// A read of no bytes came: no more come.
@@ -52,8 +55,10 @@ impl LoggedStream<RawStream> {
 }
 
 impl<S: Read + Write + Drop> LoggedStream<S> {
-    pub(super) fn new(stream: S) -> LoggedStream<S>
+    /// A stream for a worker of this exchange. It stays of this exchange.
+    pub(super) fn new(stream: S, exchange: &ExchangeName) -> LoggedStream<S>
         ensures origin { result.origin.items ≡ stream ∷ [] }
+        ensures exchange { result.exchange.value ≡ exchange.now }
         ensures received { result.received.items ≡ [] }
         ensures sent { result.sent.items ≡ [] }
         ensures goes_on { result.has_ended ≡ false }
@@ -63,6 +68,7 @@ impl<S: Read + Write + Drop> LoggedStream<S> {
         LoggedStream {
             stream,
             origin,
+            exchange: Snapshot::of(exchange),
             received: Trace::new(),
             sent: Trace::new(),
             has_ended: false,
@@ -73,17 +79,17 @@ impl<S: Read + Write + Drop> LoggedStream<S> {
         self.stream
     }
 
-    /// What was read stands first in the buffer. A read of no bytes is the end of the input. While it reads, what its worker has
-    /// sent for this session are the first of the requests that the bytes spell which were read before.
+    /// What was read stands first in the buffer. A read of no bytes is the end of the input. While it reads, what its worker, one
+    /// of the stream's exchange, has sent for this session are the first of the requests that the bytes spell which were read
+    /// before.
     pub(crate) fn read(
         &mut self,
         _owner: Owner,
-        _exchange: &ExchangeName,
         _session: u64,
         _sender: &WorkerBatch,
         buf: &mut [u8],
     ) -> io::Result<usize>
-        requires whose { (_sender.now.end.worker ≡ _owner.worker) × (_sender.now.end.exchange ≡ _exchange.now) }
+        requires whose { (_sender.now.end.worker ≡ _owner.worker) × (_sender.now.end.exchange ≡ self.old.exchange.value) }
         requires asked { (messages : List Message) (rest : List ℕ)
             → Reads _owner.dialect self.old.received.items messages rest
             → StartsWith (asks messages) (sent_for _sender.now.end.sent _session) }
@@ -96,6 +102,7 @@ impl<S: Read + Write + Drop> LoggedStream<S> {
         ensures failed_on { OnErr result (self.new.has_ended ≡ false) }
         ensures sent { self.new.sent.items ≡ self.old.sent.items }
         ensures origin { self.new.origin.items ≡ self.old.origin.items }
+        ensures exchange { self.new.exchange.value ≡ self.old.exchange.value }
         ensures given { ReadConsumes (S.remaining self.old.stream) (S.remaining self.new.stream) result buf.new }
     {
         let answer = self.stream.read(buf);
@@ -106,17 +113,16 @@ impl<S: Read + Write + Drop> LoggedStream<S> {
         answer
     }
 
-    /// It took the first of the bytes. In the history that its worker was told of, they are due to this session by what was
-    /// read from it and what it took before.
+    /// It took the first of the bytes. In the history that its worker was told of, which is one of the stream's exchange, they are
+    /// due to this session by what was read from it and what it took before.
     pub(crate) fn write(
         &mut self,
         _owner: Owner,
-        _exchange: &ExchangeName,
         _session: u64,
         bytes: &[u8],
         _history: &ToldHistory,
     ) -> io::Result<usize>
-        requires exchange { _history.now.exchange ≡ _exchange.now }
+        requires exchange { _history.now.exchange ≡ self.old.exchange.value }
         requires due { MayBeSent (by_system_clock _owner.geometry) _owner.dialect _owner.worker _history.now.items _session
             self.old.received.items self.old.sent.items bytes.now }
         ensures within { IfOk result (λ n. n ≤ length bytes.now) }
@@ -125,6 +131,7 @@ impl<S: Read + Write + Drop> LoggedStream<S> {
         ensures received { self.new.received.items ≡ self.old.received.items }
         ensures input { self.new.has_ended ≡ self.old.has_ended }
         ensures origin { self.new.origin.items ≡ self.old.origin.items }
+        ensures exchange { self.new.exchange.value ≡ self.old.exchange.value }
         ensures took { WriteAppends (S.contents self.old.stream) (S.contents self.new.stream) result bytes.now }
     {
         let answer = self.stream.write(bytes);

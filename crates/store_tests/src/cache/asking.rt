@@ -45,7 +45,7 @@ fn push_first_answer<E: StorageEngine>(
     text: &str,
     out: &mut Vec<u8>,
 ) -> Result<(), NoMemory> {
-    match next_message_in(alloc, Dialect::Lenient, text.as_bytes())? {
+    match next_message_in(alloc, Dialect::Lenient(131_072), text.as_bytes())? {
         Next::Found(mut message, _) => push_answer(store, now, &mut message, out),
         Next::More => Ok(()),
     }

@@ -103,7 +103,7 @@ fn check_dropped(rt: &impl Abort, alloc: Global, book: &mut Book) -> Result<(), 
 
 #[test]
 fn a_dropped_block_is_no_unread_input(rt: HostRuntime) -> Result<(), Fail> {
-    let mut book = Book::new(rt.alloc(), 0, Dialect::Lenient);
+    let mut book = Book::new(rt.alloc(), 0, Dialect::Lenient(131_072));
     let checked = check_dropped(&rt, rt.alloc(), &mut book);
     drop(book);
     checked

@@ -22,7 +22,7 @@ front_is d b front longest n most least is = rw (is, least, most) (take_min (lon
 -- no longer one is read in any dialect
 most_read : (d : Dialect) (n : ℕ) → n ≤ longest_block d → n ≤ 8388608
 most_read Strict n h = omega (arith, h)
-most_read Lenient n h = h
+most_read (Lenient limit) n h = h
 
 pub find_line_end-requires : goal.find_line_end-requires
 find_line_end-requires c =

@@ -1,4 +1,4 @@
-use Rattle.std.proofs.Common.{◌≡◌, [], rules, ap, subst, ◌∙◌}
+use Rattle.std.proofs.Common.{[], ap, subst, ◌∙◌}
 use Rattle.exchange.specs.Ends.{StorageView}
 use Rattle.storage_thread.specs.Sides.{IsLeftBySide}
 use Rattle.storage_thread.proofs.serving.run_storage.Goals as goal

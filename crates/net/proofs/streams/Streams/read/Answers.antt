@@ -5,9 +5,11 @@ use Rattle.std.specs.Bool.{nat_eq}
 use Rattle.worker_port.specs.declared.events.PortRecord.TheVariants as was
 use Rattle.worker_port.specs.declared.events.PortEvent.TheVariants as event
 use Rattle.net.specs.Shown.{shown_stream, seen_of}
-use Rattle.net.specs.Seen.{IsSet, then_received, then_input_ended, is_paused_stream, has_input_ended}
+use Rattle.net.specs.Ties.{AreOfExchange}
+use Rattle.net.specs.Seen.{Seen, IsSet, then_received, then_input_ended, is_paused_stream, has_input_ended}
 use Rattle.net.specs.Traces.{trace_of, Tells}
 use Rattle.net.proofs.StreamLemmas.{Agree, trace_after, set_by, open_with, shown_with}
+use Rattle.net.proofs.SocketLemmas.{named_set, named_now, named_none}
 use Rattle.net.proofs.StreamLemmas.{agree_fed, agree_input_ended, agree_gone, tell_fed, tell_input_ended, tell_gone}
 use Rattle.std.proofs.Common.{subst}
 use Rattle.std.specs.Prelude.{is_some}
@@ -70,6 +72,44 @@ gone c =
       tell_gone old after s told (open_with old s x found) c.requires.goes_on c.note_as-in-Gone.ensures closed,
     )
 
+-- in each case the streams stay of the exchange
+named_fed : (c : After-note_as)
+    → AreOfExchange c.args.self.now.exchange (shown_stream (c.get_mut.follows.lender c.read.new.self).entries)
+named_fed c =
+    let old = c.args.self.now in let s = c.args.session in let x = c.in-Some.open.now in let y = c.read.new.self in
+    let after = (c.get_mut.follows.lender y).entries in
+    let found : Some x ≡ lookup (nat_eq s) old.open.entries = search rules in
+    let set : IsSet s (Some (seen_of y)) (shown_stream old.open.entries) (shown_stream after) = search rules in
+    let of_exchange = ap (λ (z : Seen). z.exchange) c.in-Bytes.ensures.arrives.0
+    ∙ old.named s (seen_of x) (sym (shown_with old s x found)) in
+    named_set old.exchange (shown_stream old.open.entries) (shown_stream after) s (Some (seen_of y))
+    (named_now old.exchange (seen_of y) of_exchange) set old.named
+
+named_ended : (c : After-note_as-in-Ended)
+    → AreOfExchange c.args.self.now.exchange (shown_stream (c.get_mut.follows.lender c.read.new.self).entries)
+named_ended c =
+    let old = c.args.self.now in let s = c.args.session in let x = c.in-Some.open.now in let y = c.read.new.self in
+    let after = (c.get_mut.follows.lender y).entries in
+    let found : Some x ≡ lookup (nat_eq s) old.open.entries = search rules in
+    let set : IsSet s (Some (seen_of y)) (shown_stream old.open.entries) (shown_stream after) = search rules in
+    let of_exchange = ap (λ (z : Seen). z.exchange) c.in-Ended.ensures.arrives.0
+    ∙ old.named s (seen_of x) (sym (shown_with old s x found)) in
+    named_set old.exchange (shown_stream old.open.entries) (shown_stream after) s (Some (seen_of y))
+    (named_now old.exchange (seen_of y) of_exchange) set old.named
+
+pub invariant_of-self-in-Bytes-clause-named : goal.invariant_of-self-in-Bytes-clause-named
+invariant_of-self-in-Bytes-clause-named c = named_fed (goal.at.invariant_of-self-in-Bytes-clause-named c).After-note_as
+
+pub invariant_of-self-in-Ended-clause-named : goal.invariant_of-self-in-Ended-clause-named
+invariant_of-self-in-Ended-clause-named c =
+    named_ended (goal.at.invariant_of-self-in-Ended-clause-named c).After-note_as-in-Ended
+
+pub invariant_of-self-in-Gone-clause-named : goal.invariant_of-self-in-Gone-clause-named
+invariant_of-self-in-Gone-clause-named c =
+    let old = c.args.self.now in let s = c.args.session in let after = c.remove.new.self.entries in
+    let closed : IsSet s None (shown_stream old.open.entries) (shown_stream after) = search rules in
+    named_set old.exchange (shown_stream old.open.entries) (shown_stream after) s None (named_none old.exchange) closed old.named
+
 pub invariant_of-self-in-Bytes-clause-ties : goal.invariant_of-self-in-Bytes-clause-ties
 invariant_of-self-in-Bytes-clause-ties c = (fed (goal.at.invariant_of-self-in-Bytes-clause-ties c).After-note_as).0
 
@@ -100,4 +140,10 @@ read-requires-clause-asked c = λ messages rest reads.
     (ap received_of shown ∙ sym came) reads)
 
 pub read-requires-clause-whose : goal.read-requires-clause-whose
-read-requires-clause-whose c = (c.requires.asked.worker, c.requires.asked.exchange)
+read-requires-clause-whose c =
+    let old = c.args.self.now in let s = c.args.session in let x = c.in-Some.open.now in
+    let found : Some x ≡ lookup (nat_eq s) old.open.entries = search rules in
+    let shown : Some (seen_of x) ≡ shown_stream old.open.entries s = shown_with old s x found in (
+      c.requires.asked.worker,
+      c.requires.asked.exchange ∙ sym (old.named s (seen_of x) (sym shown)),
+    )

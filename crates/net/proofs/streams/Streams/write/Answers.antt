@@ -6,9 +6,10 @@ use Rattle.std.specs.Bool.{nat_eq}
 use Rattle.worker_port.specs.declared.events.PortRecord.TheVariants as was
 use Rattle.worker_port.specs.Ports.{then_gave}
 use Rattle.net.specs.Shown.{shown_stream, seen_of}
-use Rattle.net.specs.Seen.{IsSet, then_sent}
+use Rattle.net.specs.Seen.{Seen, IsSet, then_sent}
 use Rattle.net.specs.Traces.{whose_of, trace, trace_of}
-use Rattle.net.proofs.StreamLemmas.{set_by, agree_given, agree_gone}
+use Rattle.net.proofs.SocketLemmas.{named_set, named_now, named_none}
+use Rattle.net.proofs.StreamLemmas.{set_by, shown_with, agree_given, agree_gone}
 use Rattle.net.proofs.TraceLemmas.{sent_no_bytes, gave_by, gave_lost, tells_given}
 use Rattle.net.proofs.streams.Streams.write.Goals as goal
 
@@ -26,6 +27,24 @@ invariant_of-self-in-Err-clause-ties c =
     let old = c.args.self.now in let s = c.args.session in let after = c.remove.new.self.entries in
     let closed : IsSet s None (shown_stream old.open.entries) (shown_stream after) = search rules in
     agree_gone old after s c.note_as-in-Err.new.self.items c.requires.«open» c.note_as-in-Err.ensures closed
+
+-- a stream that took bytes stays of its exchange
+pub invariant_of-self-then-count-gt0-clause-named : goal.invariant_of-self-then-count-gt0-clause-named
+invariant_of-self-then-count-gt0-clause-named c =
+    let old = c.args.self.now in let s = c.args.session in let x = c.in-Some.open.now in let y = c.write-answer.new.self in
+    let after = (c.get_mut.follows.lender y).entries in
+    let found : Some x ≡ lookup (nat_eq s) old.open.entries = search rules in
+    let set : IsSet s (Some (seen_of y)) (shown_stream old.open.entries) (shown_stream after) = search rules in
+    let of_exchange = ap (λ (z : Seen). z.exchange) c.in-Ok.ensures.sends
+    ∙ old.named s (seen_of x) (sym (shown_with old s x found)) in
+    named_set old.exchange (shown_stream old.open.entries) (shown_stream after) s (Some (seen_of y))
+    (named_now old.exchange (seen_of y) of_exchange) set old.named
+
+pub invariant_of-self-in-Err-clause-named : goal.invariant_of-self-in-Err-clause-named
+invariant_of-self-in-Err-clause-named c =
+    let old = c.args.self.now in let s = c.args.session in let after = c.remove.new.self.entries in
+    let closed : IsSet s None (shown_stream old.open.entries) (shown_stream after) = search rules in
+    named_set old.exchange (shown_stream old.open.entries) (shown_stream after) s None (named_none old.exchange) closed old.named
 
 pub returns-in-Ok-clause-told : goal.returns-in-Ok-clause-told
 returns-in-Ok-clause-told c =

@@ -1,10 +1,9 @@
-use Rattle.std.proofs.Common.{◌≡◌, ◌∷◌, true, false, refl, sym, ap, subst, ◌∙◌, Some, inl, inr}
+use Rattle.std.proofs.Common.{◌≡◌, ◌∷◌, true, false, sym, ap, subst, ◌∙◌, Some, inl, inr}
 use Rattle.std.proofs.lemmas.List.Elements.{All-head}
 use Rattle.proto.specs.Cache.{has_arrived}
-use Rattle.segments.specs.Pools.{Standing, item_in, place_deadline, deadline_in, segment_at}
+use Rattle.segments.specs.Pools.{Standing, item_in, place_deadline}
 use Rattle.segments.specs.Walks.{standing_at}
 use Rattle.segments.specs.Shown.{item_of}
-use Rattle.segments.specs.Items.{item_deadline}
 use Rattle.segcache.specs.Shown.{current}
 use Rattle.segcache.proofs.LeftPlaces.{IsArriving, arriving_first, arriving_passed, arriving_more, has_arrived_left, deadline_shown}
 use Rattle.segcache.proofs.segment_map.SegmentMap.unindex_arrived.Goals as goal

@@ -1,8 +1,9 @@
-use Rattle.std.proofs.Common.{◌/◌, List, Option, None, refl, ap, sym, ◌∙◌, subst, length, arith}
+use Rattle.std.proofs.Common.{◌≤◌, List, Option, None, refl, ap, sym, ◌∙◌, subst, length, arith}
 use Rattle.std.specs.Prelude.{option_map}
 use Rattle.std.proofs.lemmas.List.{length-set}
 use Rattle.std.proofs.lemmas.List.Elements.{All-set}
 use Rattle.std.proofs.lemmas.Option.{none-some}
+use Rattle.proto.specs.Sizes.{item_limit}
 use Rattle.segments.specs.Items.{Item, IsStorable}
 use Rattle.segments.specs.Shown.{item_of}
 use Rattle.segments.specs.Hits.{HitCounts}
@@ -12,6 +13,7 @@ use Rattle.segments.specs.Changes.{with_segment, with_item_at, change_in}
 use Rattle.segments.specs.declared.segment.Segment.{Segment}
 use Rattle.segments.proofs.ItemChanges.{keeps_over}
 use Rattle.segments.proofs.PoolLemmas.{changing, change_kept, change_shown, kept_one, linked_items, changed_shown, pool_kept}
+use Rattle.segments.proofs.PackingLemmas.{storable_within}
 use Rattle.segments.proofs.pool.Pool.overwrite.Goals as goal
 
 pub count-requires : goal.count-requires
@@ -25,6 +27,18 @@ count-requires c =
     let hits = c.self.invariant.hit_count in
     omega arith
 
+pub overwrite-requires-clause-storable : goal.overwrite-requires-clause-storable
+overwrite-requires-clause-storable c =
+    let a = c.self.inside in
+    let new : Item = item_of c.args.item in
+    let s : Segment = c.index_mut-segment.result.now in
+    let at = c.index_mut-segment.ensures.value in
+    let q = changing (λ _. new) a c.args.self.now c.args.place s c.self.view_is (keeps_over new _ c.requires.fits) at in
+    let size = (kept_one a c.args.place.segment s c.self.invariant q.within at).sized in
+    let storable : IsStorable (item_limit a.geometry) new =
+    subst (λ (p : PoolState). IsStorable (item_limit p.sizes) new) (sym c.self.view_is) c.requires.storable in
+    storable_within (item_limit a.geometry) s.packed.size new (omega (arith, size)) storable
+
 pub invariant_of-self : goal.invariant_of-self
 invariant_of-self c =
     let a = c.self.inside in
@@ -37,8 +51,8 @@ invariant_of-self c =
     let lt = q.within in
     let o = q.is_open in
     let m = i.merge_room in
-    let storable : IsStorable (a.geometry.segment_size / 8) new =
-    subst (λ (p : PoolState). IsStorable (p.sizes.segment_size / 8) new) (sym c.self.view_is) c.requires.storable in
+    let storable : IsStorable (item_limit a.geometry) new =
+    subst (λ (p : PoolState). IsStorable (item_limit p.sizes) new) (sym c.self.view_is) c.requires.storable in
     record {
       geometry = i.geometry;
       count = length-set a.segments.items c.args.place.segment t ∙ i.count;

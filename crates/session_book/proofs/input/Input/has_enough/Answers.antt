@@ -7,10 +7,11 @@ use Rattle.session_book.proofs.Inputs.{none_gone}
 use Rattle.session_book.proofs.Needing.{none_short}
 use Rattle.session_book.proofs.input.Input.has_enough.Goals as goal
 
-pub returns-else-self-gt-MAX_KEPT-clause-none : goal.returns-else-self-gt-MAX_KEPT-clause-none
-returns-else-self-gt-MAX_KEPT-clause-none c =
+pub returns-else-self-most_kept-clause-none : goal.returns-else-self-most_kept-clause-none
+returns-else-self-most_kept-clause-none c =
     let i = c.self.inside in
-    let none = none_gone i.dialect i.gone.items i.kept i.need i.noreply c.self.invariant.3 c.if-self-gt-MAX_KEPT.false in
+    let none = none_gone i.dialect i.gone.items i.kept i.need i.noreply c.self.invariant.3
+    (rw c.most_kept.ensures.value at c.if-self-most_kept.false) in
     let gone : length i.gone.items ≡ 0 = ap (λ (x : List ℕ). length x) none in
     subst (λ (j : InputState). OnFalse (nat_le i.need c.len.result) (SpellsNone j.dialect j.unread)) c.self.view_is
     (none_short i.dialect (i.gone.items ++ i.kept) i.need c.len.result

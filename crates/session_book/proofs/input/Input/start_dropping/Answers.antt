@@ -1,5 +1,5 @@
 use Rattle.std.proofs.Common.{◌≤◌, refl, sym, subst, ap, ◌∙◌, List, ℕ, ◌++◌}
-use Rattle.proto.specs.declared.limits.TheConstants.{MAX_KEPT}
+use Rattle.proto.specs.Grammar.{most_kept}
 use Rattle.proto.specs.Needs.{IsDropped}
 use Rattle.session_book.specs.Input.{InputState}
 use Rattle.session_book.proofs.Inputs.{all_kept, starts_dropping}
@@ -8,7 +8,7 @@ use Rattle.session_book.proofs.input.Input.start_dropping.Goals as goal
 pub invariant_of-self : goal.invariant_of-self
 invariant_of-self c =
     let i = c.self.inside in
-    let few = subst (λ (j : InputState). j.need ≤ MAX_KEPT) (sym c.self.view_is) c.requires.none_dropped in
+    let few = subst (λ (j : InputState). j.need ≤ most_kept j.dialect) (sym c.self.view_is) c.requires.none_dropped in
     let dropped = subst (λ (j : InputState). IsDropped j.dialect j.unread c.args.need c.args.noreply) (sym c.self.view_is)
     c.requires.dropped in
     let all = all_kept i.dialect i.gone.items i.kept i.kept i.need i.noreply c.self.invariant.3 few refl in

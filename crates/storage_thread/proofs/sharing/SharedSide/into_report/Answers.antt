@@ -1,4 +1,4 @@
-use Rattle.std.proofs.Common.{◌≡◌, [], ap, subst, ◌∙◌}
+use Rattle.std.proofs.Common.{[], ap, subst, ◌∙◌}
 use Rattle.exchange.specs.Ends.{StorageView}
 use Rattle.storage_thread.specs.Sides.{IsLeftBySide}
 use Rattle.storage_thread.proofs.sharing.SharedSide.into_report.Goals as goal

@@ -1,4 +1,4 @@
-use Rattle.std.proofs.Common.{◌≡◌, [], rules, refl, sym, ap, subst, ◌∙◌}
+use Rattle.std.proofs.Common.{[], refl, ap, subst, ◌∙◌}
 use Rattle.exchange.specs.Ends.{StorageBatchView}
 use Rattle.storage_thread.specs.declared.side.SideState.{SideState}
 use Rattle.storage_thread.specs.declared.serving.StorageReport.{StorageReport}

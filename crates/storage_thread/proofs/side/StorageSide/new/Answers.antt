@@ -1,15 +1,13 @@
-use Rattle.std.proofs.Common.{◌≡◌, [], rules, true, refl, ap, sym, subst, ◌∙◌}
+use Rattle.std.proofs.Common.{◌≡◌, [], rules, true, ap, sym, subst, ◌∙◌}
 use Rattle.proto.specs.History.{RefusesBy}
 use Rattle.proto.proofs.HistoryLemmas.{refuses_none}
-use Rattle.proto.specs.Tallies.{no_counts, counts_after}
-use Rattle.proto.specs.declared.history.Answered.{Answered}
 use Rattle.exchange.specs.Ends.{StorageView, StorageBatchView}
 use Rattle.storage_thread.specs.Serving.{IsStorageServing}
 use Rattle.storage_thread.specs.Keeping.{LeadsKeeping}
 use Rattle.storage_thread.specs.Deadlines.{LeadsAsAsked}
 use Rattle.storage_thread.proofs.Kept.{leads_first}
 use Rattle.storage_thread.proofs.Dated.{dated_first}
-use Rattle.storage_thread.proofs.Turns.{serving_first, read_first}
+use Rattle.storage_thread.proofs.Turns.{serving_first}
 use Rattle.storage_thread.proofs.side.StorageSide.new.Goals as goal
 use Rattle.storage_thread.specs.Serving.{IsUnused}
 

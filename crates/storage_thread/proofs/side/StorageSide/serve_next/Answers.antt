@@ -1,7 +1,6 @@
 use Rattle.std.proofs.Common.{◌≡◌, rules, arith, ℕ, List, refl, ap, sym, subst, ◌∙◌}
 use Rattle.proto.specs.declared.history.Posted.{Posted}
 use Rattle.exchange.specs.Ends.{StorageView}
-use Rattle.proto.specs.declared.terms.Terms.{Terms}
 use Rattle.proto.specs.ClockAnswers.{GivenAnswer}
 use Rattle.proto.specs.History.{RefusesBy}
 use Rattle.proto.specs.Tallies.{no_counts, counts_after}

@@ -55,7 +55,7 @@ fn number_of(reason: CloseReason) -> usize {
         CloseReason::Sent(FatalKind::Binary) => 4,
         CloseReason::Idle => 5,
         CloseReason::Memory => 6,
-        CloseReason::Unread => 7,
+        CloseReason::Stalled => 7,
     }
 }
 

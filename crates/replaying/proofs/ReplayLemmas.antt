@@ -107,7 +107,7 @@ may_end d events s never messages causes.Quit caused = caused.1
 may_end d events s never messages causes.Fatal caused = (caused.1, caused.2)
 may_end d events s never messages causes.Gone caused = tt
 may_end d events s never messages causes.NoMemory caused = tt
-may_end d events s never messages causes.Unread caused = caused.1
+may_end d events s never messages causes.Stalled caused = caused.1
 
 -- what holds of the sessions of all requests of a list, as they were posted, holds of an entry's
 posted_there : (P : ℕ → Type 0) (entries : List Answered) → All (λ (p : Posted). P p.session) (asked_posted entries)

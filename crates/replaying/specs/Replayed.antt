@@ -40,7 +40,7 @@ MayEnd d messages causes.Drained = list_any ends_session messages ≡ false
 MayEnd d messages causes.EndOfInput = ⊥
 MayEnd d messages causes.Gone = ⊤
 MayEnd d messages causes.NoMemory = ⊤
-MayEnd d messages causes.Unread = IsLenient d
+MayEnd d messages causes.Stalled = IsLenient d
 MayEnd d messages causes.Quit = last_or None messages ≡ Some Quit
 MayEnd d messages causes.Fatal = (kind : FatalKind) × (last_or None messages ≡ Some (Fatal kind))
 
@@ -53,7 +53,7 @@ pub record GivesAnswersOf (d : Dialect) (history : List Answered) (worker : ℕ)
   pub rest : List ℕ
   pub reads : Reads d outcome.came messages rest
   pub answers : BeginsAnswers history worker outcome.number outcome.given messages
-  pub complete : cause ≢ causes.Gone → cause ≢ causes.NoMemory → cause ≢ causes.Unread
+  pub complete : cause ≢ causes.Gone → cause ≢ causes.NoMemory → cause ≢ causes.Stalled
       → (asked (session_share history worker outcome.number) ≡ asks messages)
       × (outcome.given ≡ said messages (had (session_share history worker outcome.number)))
   pub may_end : MayEnd d messages cause

@@ -36,7 +36,7 @@ fn reason_text(reason: CloseReason) -> &'static str {
         CloseReason::Sent(FatalKind::Binary) => "binary protocol",
         CloseReason::Idle => "idle",
         CloseReason::Memory => "out of memory",
-        CloseReason::Unread => "output unread",
+        CloseReason::Stalled => "stalled",
     }
 }
 

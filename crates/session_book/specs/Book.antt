@@ -1,7 +1,7 @@
 -- The sessions of one worker.
 use Rattle.std.specs.Prelude.{◌≡◌, ℕ, ◌+◌, ◌<◌, ◌≤◌, ◌⊎◌, Bool, true, false, List, []}
 use Rattle.std.specs.Prelude.{◌∷◌, ◌++◌, map, length, Option, Some, None, Result, Ok, Err, IsSome}
-use Rattle.std.specs.Prelude.{slice_get, drop, max, filter, sum_by, ◌==◌, if◌then◌else◌}
+use Rattle.std.specs.Prelude.{slice_get, drop, max, filter, ◌==◌, if◌then◌else◌}
 use Rattle.std.specs.Map.{lookup}
 use Rattle.std.specs.Bool.{nat_eq}
 use Rattle.proto.specs.declared.dialect.Dialect.{Dialect}
@@ -22,7 +22,7 @@ use Rattle.proto.specs.declared.limits.TheConstants.{WINDOW}
 use Rattle.proto.specs.declared.limits.TheConstants.{MAX_POSTS}
 use Rattle.proto.specs.Sessions.{most_sessions}
 use Rattle.session_book.specs.declared.load.TheConstants.{SMALL_ANSWER}
-use Rattle.session_book.specs.Session.{kept_of}
+use Rattle.session_book.specs.declared.input.TheConstants.{MAX_SMALL_MESSAGE}
 use Rattle.session_book.specs.Session.{SessionState, begins_asked, TakesPiece, IsInputFull, held_fed, ReadsUpTo, IsReady, Stops, with_reply, IsEmptied}
 
 -- A worker's book: the worker's number; the dialect of its sessions' lines; the open sessions by their numbers; how many requests got a number;
@@ -182,19 +182,19 @@ pub record IsUnemptied (book : BookState) (session : ℕ) : Type 0 where
   pub there : session_of book session ≡ Some s
   pub left : ¬ (IsEmptied s)
 
--- the sessions are lenient, and this one is open and has more output that wasn't given than a small answer has
-pub record IsUnread (book : BookState) (session : ℕ) : Type 0 where
+-- the session has more output that wasn't given than a small answer has, or its next message needs room of its own
+abbrev pub MayStall : SessionState → Type 0
+MayStall s = (SMALL_ANSWER < length s.out) ⊎ (MAX_SMALL_MESSAGE < s.need)
+
+-- the sessions are lenient, and this one is open and holds much memory
+pub record IsStalled (book : BookState) (session : ℕ) : Type 0 where
   pub lenient : IsLenient book.dialect
   pub s : SessionState
   pub there : session_of book session ≡ Some s
-  pub output : SMALL_ANSWER < length s.out
+  pub much : MayStall s
 
--- how many bytes of input are kept, over all sessions
-abbrev pub all_kept : List (ℕ × SessionState) → ℕ
-all_kept sessions = sum_by (λ (e : ℕ × SessionState). kept_of e.1) sessions
-
--- the session is open, and none keeps more input
-pub record IsHeaviest (book : BookState) (session : ℕ) : Type 0 where
+-- the session is open, and no piece of it is held
+pub record MayRead (book : BookState) (session : ℕ) : Type 0 where
   pub s : SessionState
   pub there : session_of book session ≡ Some s
-  pub most : (other : ℕ) (o : SessionState) → session_of book other ≡ Some o → kept_of o ≤ kept_of s
+  pub none_held : s.held ≡ []

@@ -6,7 +6,7 @@ use Rattle.proto.specs.declared.message.Message.{Message}
 use Rattle.proto.specs.declared.message.Message.TheVariants.{Ask, Local}
 use Rattle.proto.specs.declared.message.LocalKind.TheVariants as local
 use Rattle.proto.specs.declared.no_memory.NoMemory.{NoMemory}
-use Rattle.proto.specs.Grammar.{max_data, most_kept, Spells}
+use Rattle.proto.specs.Grammar.{most_kept, Spells}
 use Rattle.proto.specs.Needs.{IsUnfinished}
 use Rattle.session_book.specs.declared.input.Found.{Found}
 use Rattle.session_book.specs.declared.input.Found.TheVariants as found
@@ -17,9 +17,10 @@ pub record InputState : Type 0 where
   pub unread : List ℕ
   pub need : ℕ
 
--- the most unread bytes of a session that are kept: 262,144, and where a request's data block may have more than 131,072, as many more
-abbrev pub max_unread : Dialect → ℕ
-max_unread d = 131072 + max 131072 (max_data d)
+-- the most unread bytes of a session that are kept: 262,144, but where its next message is kept and needs more than 196,608, 65,536
+-- more than that needs
+abbrev pub max_unread : Dialect → ℕ → ℕ
+max_unread d need = if nat_lt (most_kept d) need then 262144 else max 262144 (need + 65536)
 
 -- How many of the unread bytes are kept. If more are needed than a message has that is kept, the bytes of one that is too large are
 -- dropped as they come: then those behind it.

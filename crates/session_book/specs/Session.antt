@@ -134,13 +134,10 @@ pub record IsEmptied (s : SessionState) : Type 0 where
   pub unfinished : finished_by s ≡ None
   pub stops : Stops s
 
--- how many of a session's unread bytes are kept
-unfoldable pub kept_of : SessionState → ℕ
-kept_of s = kept_length s.dialect s.unread s.need
-
 -- the piece doesn't fit after the unread bytes that are kept; it always does once the session drops its input
 abbrev pub IsInputFull : SessionState → List ℕ → Type 0
-IsInputFull s piece = (s.ended ≡ None) × (max_unread s.dialect < kept_length s.dialect s.unread s.need + length piece)
+IsInputFull s piece =
+    (s.ended ≡ None) × (max_unread s.dialect s.need < kept_length s.dialect s.unread s.need + length piece)
 
 -- the piece is held
 abbrev pub holding : SessionState → List ℕ → SessionState

@@ -5,8 +5,6 @@ ghost use Rattle.std.specs.Prelude.{slice_get};
 ghost use Rattle.std.specs.Prelude.{IfSome, OnOk, OnErr, IsSome};
 ghost use Rattle.session_book.specs.Session.{SessionState, IsEmptied, new_session, gave, finished_by, once_input_ended};
 ghost use Rattle.session_book.specs.Session.{HasReadAll};
-ghost use Rattle.session_book.specs.declared.book.TheConstants.{MAX_INPUT};
-ghost use Rattle.proto.specs.Grammar.{max_data};
 ghost use Rattle.std.specs.Bool.{OnTrue, OnFalse, nat_eq};
 ghost use Rattle.std.specs.Option.{option_and_then};
 ghost use Rattle.proto.specs.declared.limits.TheConstants.{WINDOW};
@@ -22,7 +20,7 @@ use crate::session::{MAX_WAITING, Offer, Session};
 use crate::upkeep::{Upkeep, key_count};
 use bytes::Bytes;
 use indexmap::IndexMap;
-use proto::{Answered, Dialect, Gauge, Gauges, MAX_BLOCK, MAX_POSTS, NoMemory, Request, WINDOW};
+use proto::{Answered, Dialect, Gauge, Gauges, MAX_POSTS, NoMemory, Request, WINDOW};
 use std::alloc::Global;
 use std::collections::VecDeque;
 use std::marker::Model;
@@ -34,13 +32,9 @@ pub const MAX_HIT: usize = 131_128;
 /// The same for items that may fill a segment.
 pub const MAX_LARGE_HIT: usize = 1_048_632;
 
-/// Bytes of unread input that are kept, over all sessions, above which the session with the most is closed, where data blocks may have
-/// more than 131,072 bytes: as many as 1,024 strict sessions may keep.
-pub const MAX_INPUT: usize = 268_435_456;
-
 /// The sessions of a worker. Contracts see it as a `BookState`.
 ///
-/// It keeps which sessions have something to do, in six ready queues. Calls put a session into one, and its owner takes it
+/// It keeps which sessions have something to do, in eight ready queues. Calls put a session into one, and its owner takes it
 /// out and does it; no clause says that a session stands in one.
 #[derive(Drop)]
 pub struct Book {
@@ -69,8 +63,8 @@ impl Model for Book {
 
 impl Book {
     ghost use Rattle.session_book.specs.Book.{session_of, out_of, ChangesSession, Receives, FeedsHeldOf};
-    ghost use Rattle.session_book.specs.Book.{OnlyAt, IsKnown, NextAsk, Settles, IsUnemptied, IsUnread};
-    ghost use Rattle.session_book.specs.Book.{all_kept, IsHeaviest};
+    ghost use Rattle.session_book.specs.Book.{OnlyAt, IsKnown, NextAsk, Settles, IsUnemptied, IsStalled};
+    ghost use Rattle.session_book.specs.Book.{MayRead};
 
     /// No session is open yet. The worker's number is kept for its owner.
     pub fn new(alloc: Global, worker: usize, dialect: Dialect) -> Self
@@ -310,8 +304,13 @@ impl Book {
         }
     }
 
+    /// Whether a session waits for memory: for room for its next answer, or for its large message.
+    pub fn waits_for_memory(&self) -> bool {
+        self.waits_for_room() || self.waits_to_read()
+    }
+
     /// Whether a session waits for room for its next answer, and has none.
-    pub fn waits_for_room(&self) -> bool {
+    fn waits_for_room(&self) -> bool {
         self.upkeep.ready.count(Task::AskForRoom) > 0 && !self.has_room_for_first()
     }
 
@@ -320,63 +319,61 @@ impl Book {
         self.upkeep.ready.only_wait() && !self.has_room_for_first()
     }
 
-    /// A second has passed in which a session waited for room.
+    /// A second has passed in which a session waited for memory.
     pub fn count_second(&mut self)
         ensures { self.new ≡ self.old }
     {
         self.upkeep.seconds = self.upkeep.seconds.saturating_add(1);
     }
 
-    /// A session whose client took none of its output in the last ten seconds that were counted, if it has more than 16,384 bytes
-    /// and the sessions are lenient.
-    pub fn find_unread(&self) -> Option<u64>
-        ensures { IfSome result (IsUnread self.now) }
+    /// A lenient session whose client has stopped for ten of the seconds that were counted, if it holds memory that others wait for: it
+    /// took none of more than 16,384 bytes of output, or sent no more of a large message.
+    pub fn find_stalled(&self) -> Option<u64>
+        ensures { IfSome result (IsStalled self.now) }
     {
         if matches!(self.dialect, Dialect::Strict) {
             return None;
         }
+        let (for_output, for_input) = (self.waits_for_room(), self.waits_to_read());
         for (session, open) in self.sessions.iter() {
-            if open.is_unread(&self.upkeep) {
+            if open.is_stalled(for_output, for_input, &self.upkeep) {
                 return Some(*session);
             }
         }
         None
     }
 
-    /// The session that keeps the most input, if more than `MAX_INPUT` bytes of it are kept, over all sessions, and data blocks may
-    /// have more than 131,072 bytes: else each session keeps too little.
-    pub fn heaviest(&self) -> Option<u64>
-        ensures large { IsSome result → 131072 < max_data self.now.dialect }
-        ensures above { IsSome result → MAX_INPUT < all_kept self.now.sessions }
-        ensures heaviest { IfSome result (IsHeaviest self.now) }
-    {
-        if self.dialect.most_data() <= MAX_BLOCK || self.upkeep.load.unread() <= MAX_INPUT as u64 {
-            return None;
-        }
-        self.find_heaviest()
+    /// Whether a session is paused until there is room for its large message.
+    fn waits_to_read(&self) -> bool {
+        self.upkeep.ready.count(Task::ReadOn) > 0
     }
 
-    /// The same, however much was counted, in each dialect.
-    fn find_heaviest(&self) -> Option<u64>
-        ensures above { IsSome result → MAX_INPUT < all_kept self.now.sessions }
-        ensures heaviest { IfSome result (IsHeaviest self.now) }
-        ensures none { result ≡ None → all_kept self.now.sessions ≤ MAX_INPUT }
+    /// Takes out the next session that is to be paused. It waits for room for its large message.
+    pub fn next_to_pause(&mut self) -> Option<u64>
+        ensures same { self.new ≡ self.old }
+        ensures open { IfSome result (λ n. IsSome (session_of self.now n)) }
     {
-        let mut heaviest = None;
-        let mut most: usize = 0;
-        let mut others: usize = 0;
-        for (session, open) in self.sessions.iter() {
-            let kept = open.kept();
-            others = others.saturating_add(kept.min(most));
-            if kept > most {
-                most = kept;
-                heaviest = Some(*session);
-            }
-        }
-        if most.saturating_add(others) <= MAX_INPUT {
+        let session = self.upkeep.ready.take(Task::Pause)?;
+        let place = find(&self.sessions, session, &mut self.upkeep.ready.place)?;
+        let (_, open) = self.sessions.pair_mut(place);
+        open.wait_to_read(session, &mut self.upkeep.ready);
+        Some(session)
+    }
+
+    /// Takes out the session that has waited longest for room for its large message, once there is some, and that too where the port
+    /// has ended. It is to be resumed, unless a piece of it is held, which is fed before.
+    pub fn next_to_resume(&mut self, has_ended: bool) -> Option<u64>
+        ensures same { self.new ≡ self.old }
+        ensures open { IfSome result (MayRead self.now) }
+    {
+        let (session, _) = self.upkeep.ready.first(Task::ReadOn)?;
+        let Some(place) = find(&self.sessions, session, &mut self.upkeep.ready.place) else {
+            self.upkeep.ready.take(Task::ReadOn);
             return None;
-        }
-        heaviest
+        };
+        let (_, open) = self.sessions.pair_mut(place);
+        open.read_on(session, has_ended, &mut self.upkeep)
+            .then_some(session)
     }
 
     /// Whether the session that was asked last can be read further.

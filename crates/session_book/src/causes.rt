@@ -76,8 +76,9 @@ pub enum EndCause {
     Gone,
     /// There was no memory for its input or its answer.
     NoMemory,
-    /// Its client took no output for some seconds, while others waited for the memory. Only lenient sessions end so.
-    Unread,
+    /// Its client stopped for some seconds while others waited for the memory that it held: it took no output, or sent no more of a
+    /// large message. Only lenient sessions end so.
+    Stalled,
 }
 
 /// A request that was given with this number and has no reply yet.

@@ -8,17 +8,23 @@ ghost use Rattle.proto.specs.Needs.{IsDropped};
 
 use crate::buffer::{Buffer, SpareBuffers, Use};
 use proto::{
-    ByteString, Dialect, LocalKind, MAX_BLOCK, Message, MessageView, NextView, NoMemory, Put,
-    Request, Trace, next_view_behind, request_to_store, to_message,
+    ByteString, Dialect, LocalKind, Message, MessageView, NextView, NoMemory, Put, Request, Trace,
+    next_view_behind, request_to_store, to_message,
 };
 use std::alloc::Global;
 use std::marker::Model;
 
-/// Unread bytes of a session that are kept beside its longest data block. They are more than a line of 32,768 bytes and the end of the
-/// block, so a session whose input is full always has a message to read.
-const BESIDE_BLOCK: usize = 131_072;
+/// The unread bytes of a session that are kept at most, unless its next message needs more.
+const MAX_UNREAD: usize = 262_144;
 
-/// The bytes of a message for which there is room as soon as its length is known.
+/// Unread bytes that are kept beside a message which needs more. They are more than a piece, so a session whose input is full always
+/// has a message to read.
+const BESIDE_MESSAGE: usize = 65_536;
+
+/// The longest message that is read without room of its own.
+pub const MAX_SMALL_MESSAGE: usize = 196_608;
+
+/// The bytes of a message for which there is memory as soon as its length is known.
 const ROOM_AT_ONCE: usize = 262_144;
 
 /// What the input begins with.
@@ -101,10 +107,25 @@ impl Input {
 
     /// How many unread bytes are kept at most.
     pub fn most_unread(&self) -> usize
-        ensures value { result ≡ max_unread self.now.dialect }
+        ensures value { result ≡ max_unread self.now.dialect self.now.need }
         ensures some { 262144 ≤ result }
     {
-        BESIDE_BLOCK + self.dialect.most_data().max(MAX_BLOCK) as usize
+        if self.need > self.dialect.most_kept() {
+            MAX_UNREAD
+        } else {
+            MAX_UNREAD.max(self.need + BESIDE_MESSAGE)
+        }
+    }
+
+    /// The bytes of the message that the unread ones begin, if it is kept and needs room of its own; else 0.
+    pub fn large_need(&self) -> usize
+        ensures { 0 < result → MAX_SMALL_MESSAGE < self.now.need }
+    {
+        if self.need > MAX_SMALL_MESSAGE && self.need <= self.dialect.most_kept() {
+            self.need
+        } else {
+            0
+        }
     }
 
     /// The bytes that are kept.

@@ -1,6 +1,6 @@
 //! What a caller carries over a whole run, over the definitions alone.
 
-ghost use Rattle.std.specs.Prelude.{◌≡◌, ◌≤◌, ◌+◌, ◌*◌, length};
+ghost use Rattle.std.specs.Prelude.{ℕ, ◌≡◌, ◌≤◌, ◌+◌, ◌*◌, length};
 ghost use Rattle.proto.specs.declared.hits.Hit.{Hit};
 ghost use Rattle.proto.specs.declared.limits.TheConstants.{WINDOW, MAX_ANSWER, MAX_POSTS};
 ghost use Rattle.proto.specs.declared.dialect.Dialect.{Dialect};
@@ -36,9 +36,9 @@ pub fn beginnings()
 /// room than is reckoned with, nor do the hits of as many keys with one more lenient answer, or with those of a strict line's keys.
 pub fn limits()
     ensures unsettled { WINDOW ≡ 64 }
-    ensures unread { max_unread Strict ≡ 262144 }
-    ensures lenient_unread { max_unread (Lenient 1048512) ≡ 1179584 }
-    ensures has_room { (d : Dialect) → most_kept d + 65536 ≤ max_unread d }
+    ensures unread { (need : ℕ) → max_unread Strict need ≡ 262144 }
+    ensures large_unread { max_unread (Lenient 1048512) 1081282 ≡ 1146818 }
+    ensures has_room { (d : Dialect) (need : ℕ) → need ≤ most_kept d → need + 65536 ≤ max_unread d need }
     ensures kept { most_kept Strict ≡ 163842 }
     ensures lenient_kept { most_kept (Lenient 1048512) ≡ 1081282 }
     ensures waiting { MAX_WAITING ≡ 1048576 }

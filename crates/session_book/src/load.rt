@@ -28,6 +28,9 @@ const ENOUGH_FOR_ANY: usize = 33_554_432;
 /// The bytes of waiting output above which each `get` for more than one key waits, however little it is likely to take.
 const MOST_OUTPUT: usize = 201_326_592;
 
+/// The bytes of large messages for which there is room, over all sessions. A session whose message would exceed them isn't read on.
+pub const INPUT_BUDGET: usize = 67_108_864;
+
 /// What a book counts for `stats`. After the greatest number a count goes on from 0.
 #[derive(Clone, Copy, Default)]
 struct BookCounts {
@@ -73,6 +76,8 @@ pub(crate) struct Load {
     key_bytes: KeyBytes,
     /// The bytes of output that weren't given yet.
     pub(crate) output: usize,
+    /// The bytes of large messages for which room is reserved.
+    reserved: usize,
     counts: BookCounts,
 }
 
@@ -84,6 +89,7 @@ impl Load {
             coming_of: [0; WINDOW as usize],
             key_bytes: KeyBytes::default(),
             output: 0,
+            reserved: 0,
             counts: BookCounts::default(),
         }
     }
@@ -131,13 +137,19 @@ impl Load {
         self.counts.unread = self.counts.unread.wrapping_add(n as u64);
     }
 
-    /// How many bytes of open sessions no message was read from yet, with those that were dropped as they came.
-    pub(crate) fn unread(&self) -> u64 {
-        self.counts.unread
+    /// Reserves room for a message of so many bytes. False if there is none.
+    pub(crate) fn reserve(&mut self, n: usize) -> bool {
+        let all = self.reserved.saturating_add(n);
+        if all > INPUT_BUDGET {
+            return false;
+        }
+        self.reserved = all;
+        true
     }
 
-    /// A message of this length was read.
-    pub(crate) fn read(&mut self, message: &Message, length: usize) {
+    /// A message of this length was read, for which so much room was reserved.
+    pub(crate) fn read(&mut self, message: &Message, length: usize, reserved: usize) {
+        self.reserved = self.reserved.saturating_sub(reserved);
         let counts = &mut self.counts;
         counts.unread = counts.unread.wrapping_sub(length as u64);
         match message {
@@ -189,9 +201,10 @@ impl Load {
         self.counts.written = self.counts.written.wrapping_add(n as u64);
     }
 
-    /// So many bytes of input and of output count no more: their session is closed.
-    pub(crate) fn forget(&mut self, unread: usize, output: usize) {
+    /// So many bytes of input and of output count no more, nor does the room that was reserved: their session is closed.
+    pub(crate) fn forget(&mut self, unread: usize, output: usize, reserved: usize) {
         self.output = self.output.saturating_sub(output);
+        self.reserved = self.reserved.saturating_sub(reserved);
         self.counts.unread = self.counts.unread.wrapping_sub(unread as u64);
     }
 

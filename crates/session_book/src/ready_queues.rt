@@ -19,10 +19,14 @@ pub enum Task {
     Give,
     /// They have output, of which their client accepted nothing when it was last offered some.
     RetryWrite,
+    /// They are to be paused: there is no room for the large message that they send.
+    Pause,
+    /// They are paused until there is room for it.
+    ReadOn,
 }
 
 /// How many tasks there are.
-const TASKS: usize = 6;
+const TASKS: usize = 8;
 
 /// A queue of sessions by their numbers, with the places where they stood in the table. A session that joins gets a ticket:
 /// the number of sessions that have joined so far. It is in the queue as long as its ticket is greater than the number that
@@ -56,12 +60,13 @@ impl Ticket {
 }
 
 /// The tickets of a session. A session with input is in one of three queues, so one ticket does for all. So it is with output:
-/// the second queue is for clients that accepted nothing, and is served slowly.
+/// the second queue is for clients that accepted nothing, and is served slowly; and with those that are paused.
 #[derive(Clone, Copy)]
 pub(crate) struct Tickets {
     pub(crate) feed: Ticket,
     pub(crate) ask: Ticket,
     pub(crate) give: Ticket,
+    pub(crate) read: Ticket,
 }
 
 impl Tickets {
@@ -70,6 +75,7 @@ impl Tickets {
             feed: Ticket::none(Task::Feed),
             ask: Ticket::none(Task::Ask),
             give: Ticket::none(Task::Give),
+            read: Ticket::none(Task::Pause),
         }
     }
 }
@@ -91,6 +97,8 @@ impl ReadyQueues {
     pub(crate) fn new(alloc: Global) -> ReadyQueues {
         ReadyQueues {
             queues: [
+                ReadyQueue::new(alloc),
+                ReadyQueue::new(alloc),
                 ReadyQueue::new(alloc),
                 ReadyQueue::new(alloc),
                 ReadyQueue::new(alloc),
@@ -143,6 +151,13 @@ impl ReadyQueues {
         *ticket = Ticket { task, number };
     }
 
+    /// The session, which was resumed, is to be paused again: it still waits for room for its large message.
+    pub(crate) fn pause_again(&mut self, session: u64) {
+        let _ = self.queues[Task::Pause as usize]
+            .sessions
+            .push_back((session, self.place));
+    }
+
     /// Takes out the next session that is to be taken up for the task.
     pub(crate) fn take(&mut self, task: Task) -> Option<u64> {
         let queue = &mut self.queues[task as usize];
@@ -182,6 +197,11 @@ impl ReadyQueues {
         }
     }
 
+    /// Whether no session is paused, or to be paused, until there is room for its large message.
+    pub(crate) fn none_waits_to_read(&self) -> bool {
+        self.count(Task::Pause) == 0 && self.count(Task::ReadOn) == 0
+    }
+
     /// How many sessions are to be taken up for the task.
     pub(crate) fn count(&self, task: Task) -> usize {
         self.queues[task as usize].sessions.len()
@@ -196,7 +216,8 @@ impl ReadyQueues {
     pub(crate) fn only_wait(&self) -> bool {
         let waiting = self
             .count(Task::AskForRoom)
-            .saturating_add(self.count(Task::RetryWrite));
+            .saturating_add(self.count(Task::RetryWrite))
+            .saturating_add(self.count(Task::ReadOn));
         let all = self.queues.iter().fold(
             0usize,
             |sum, queue| sum.saturating_add(queue.sessions.len()),

@@ -8,6 +8,7 @@ ghost use Rattle.std.specs.Bool.{OnTrue, OnFalse};
 ghost use Rattle.proto.specs.Answers.{said};
 ghost use Rattle.session_book.specs.Session.{begins_asked, messages_left, ended_by};
 ghost use Rattle.session_book.specs.declared.load.TheConstants.{SMALL_ANSWER};
+ghost use Rattle.session_book.specs.declared.input.TheConstants.{MAX_SMALL_MESSAGE};
 ghost use Rattle.proto.specs.Reading.{asks};
 
 use crate::buffer::{Buffer, Use};
@@ -22,6 +23,7 @@ use proto::{Dialect, Message, NoMemory, PendingAnswer, Reply, Request};
 use std::alloc::Global;
 use std::collections::VecDeque;
 use std::marker::Model;
+use std::mem;
 
 /// Bytes of waiting output above which a session isn't read.
 pub const MAX_WAITING: usize = 1_048_576;
@@ -30,8 +32,7 @@ pub const MAX_WAITING: usize = 1_048_576;
 const WORTH_GIVING: usize = 16_384;
 
 /// A held piece is fed once this much of the input is free, so that the port reads at least as much before the next pause.
-/// The bytes that may still be unread are more than the longest message that is kept, so a session that waits for the rest of a message
-/// always has this room.
+/// A session that waits for the rest of a message has this room.
 const WORTH_FEEDING: usize = 65_536;
 
 /// What is to be done with a session's output now.
@@ -62,6 +63,10 @@ pub struct Session {
     waiting: Option<Waiting>,
     /// The second at which its client took nothing, if it took nothing since.
     refused_at: Option<u64>,
+    /// The bytes of the large message that it sends, for which room is reserved.
+    reserved: usize,
+    /// The second at which input came last.
+    received_at: u64,
 }
 
 impl Model for Session {
@@ -88,7 +93,8 @@ impl Session {
     ghost use Rattle.session_book.specs.Session.{new_session, IsInputFull, once_fed, TakesPiece, FeedsHeld};
     ghost use Rattle.session_book.specs.Session.{TriesNext, ReadsAsk};
     ghost use Rattle.session_book.specs.Session.{with_reply, gave, finished_by, once_input_ended, HasReadAll, IsReady};
-    ghost use Rattle.session_book.specs.Session.{IsEmptied, Stops, kept_of};
+    ghost use Rattle.session_book.specs.Session.{IsEmptied, Stops};
+    ghost use Rattle.session_book.specs.Book.{MayStall};
 
     pub fn new(alloc: Global, dialect: Dialect) -> Self
         ensures { result ≡ new_session dialect }
@@ -105,6 +111,8 @@ impl Session {
             key_bytes: KeyBytes::default(),
             waiting: None,
             refused_at: None,
+            reserved: 0,
+            received_at: 0,
         }
     }
 
@@ -113,6 +121,7 @@ impl Session {
         ensures { TakesPiece self.old piece result self.new }
     {
         upkeep.load.received(piece.len());
+        self.received_at = upkeep.seconds;
         if self.held.is_some() {
             return Received::Refused;
         }
@@ -136,6 +145,8 @@ impl Session {
         let fed = self.feed(session, &piece, upkeep);
         if !matches!(fed, Ok(true)) {
             self.held = Some(piece);
+        } else if upkeep.ready.has(self.tickets.read) {
+            upkeep.ready.pause_again(session);
         }
         fed
     }
@@ -190,14 +201,16 @@ impl Session {
                 put_behind(&mut self.queue, &mut self.output, &message, upkeep)?;
                 upkeep.fault = FaultLine::copied(self.alloc, &message, self.input.kept());
                 self.input.take(length, &mut upkeep.spares);
-                upkeep.load.read(&message, length);
+                let reserved = mem::take(&mut self.reserved);
+                upkeep.load.read(&message, length, reserved);
                 self.ended = cause_of(&message);
                 Ok(Some(message))
             }
             Found::Taken(request, noreply, length) => {
                 let message = Message::Ask(request, noreply);
                 self.queue.push_back_reserved(PendingAnswer::of(&message));
-                upkeep.load.read(&message, length);
+                let reserved = mem::take(&mut self.reserved);
+                upkeep.load.read(&message, length, reserved);
                 Ok(Some(message))
             }
         }
@@ -227,13 +240,14 @@ impl Session {
         Ok(None)
     }
 
-    /// After a read, queues the session for what it may need: feeding its held piece, sending output, ending, or asking once its
-    /// `get` waits no more.
+    /// After a read, queues the session for what it may need: a pause, feeding its held piece, sending output, ending, or asking once
+    /// its `get` waits no more.
     pub fn join_queues(&mut self, session: u64, upkeep: &mut Upkeep)
         ensures { self.new ≡ self.old }
     {
+        self.reserve_room(session, upkeep);
         let ready = &mut upkeep.ready;
-        if self.held.is_some() && self.has_room() {
+        if self.held.is_some() && self.has_room() && !ready.has(self.tickets.read) {
             ready.add(Task::Feed, session, &mut self.tickets.feed);
         }
         if self.output.len() > 0 || self.ended.is_some() || self.input_ended {
@@ -244,6 +258,52 @@ impl Session {
         }
         upkeep.reads_on = self.is_ready();
         upkeep.asked = session;
+    }
+
+    /// Reserves room for a large message before it comes. If there is none, or others wait for some, the session is to be paused.
+    fn reserve_room(&mut self, session: u64, upkeep: &mut Upkeep)
+        ensures { self.new ≡ self.old }
+    {
+        let needed = self.input.large_need();
+        if needed == 0 || self.reserved > 0 || upkeep.ready.has(self.tickets.read) {
+            return;
+        }
+        if upkeep.ready.none_waits_to_read() && upkeep.load.reserve(needed) {
+            self.reserved = needed;
+        } else {
+            upkeep
+                .ready
+                .add(Task::Pause, session, &mut self.tickets.read);
+        }
+    }
+
+    /// It is paused, until there is room for its large message.
+    pub fn wait_to_read(&mut self, session: u64, ready: &mut ReadyQueues)
+        ensures { self.new ≡ self.old }
+    {
+        ready.add(Task::ReadOn, session, &mut self.tickets.read);
+    }
+
+    /// Reserves room for the large message that it waits to read, and takes it out of the queue; that too where the port has ended.
+    /// True if it is to be resumed: one whose piece is held is fed that before.
+    pub fn read_on(&mut self, session: u64, has_ended: bool, upkeep: &mut Upkeep) -> bool
+        ensures same { self.new ≡ self.old }
+        ensures none_held { OnTrue result (self.old.held ≡ []) }
+    {
+        let needed = self.input.large_need();
+        if upkeep.load.reserve(needed) {
+            self.reserved = needed;
+        } else if !has_ended {
+            return false;
+        }
+        upkeep.ready.take(Task::ReadOn);
+        if self.held.is_some() {
+            upkeep
+                .ready
+                .add(Task::Feed, session, &mut self.tickets.feed);
+            return false;
+        }
+        true
     }
 
     /// Whether the parser is to be called.
@@ -363,7 +423,7 @@ impl Session {
 
     /// What is left of its input and its output counts no more: the session is closed.
     pub fn forget(&self, load: &mut Load) {
-        load.forget(self.input.len(), self.output.len());
+        load.forget(self.input.len(), self.output.len(), self.reserved);
     }
 
     /// No more input comes.
@@ -389,14 +449,34 @@ impl Session {
         self.key_bytes
     }
 
+    /// Whether its client has stopped for some seconds while it holds memory that others wait for: room for output, or for input.
+    pub fn is_stalled(&self, for_output: bool, for_input: bool, upkeep: &Upkeep) -> bool
+        ensures { OnTrue result (MayStall self.now) }
+    {
+        let holds_input = for_input && self.reserved > 0;
+        if (for_output || holds_input) && self.is_unread(upkeep) {
+            return true;
+        }
+        holds_input && self.is_unsent(upkeep)
+    }
+
     /// Whether more output waits than a small answer has, of which its client took nothing for some seconds.
-    pub fn is_unread(&self, upkeep: &Upkeep) -> bool
+    fn is_unread(&self, upkeep: &Upkeep) -> bool
         ensures { OnTrue result (SMALL_ANSWER < length self.now.out) }
     {
         self.output.len() > SMALL_ANSWER
             && self
                 .refused_at
-                .is_some_and(|second| upkeep.is_unread_since(second))
+                .is_some_and(|second| upkeep.has_stopped_since(second))
+    }
+
+    /// Whether it began a large message, of which its client sent nothing for some seconds.
+    fn is_unsent(&self, upkeep: &Upkeep) -> bool
+        ensures { OnTrue result (MAX_SMALL_MESSAGE < self.now.need) }
+    {
+        self.input.large_need() > 0
+            && !self.input.has_enough()
+            && upkeep.has_stopped_since(self.received_at)
     }
 
     pub fn held(&self) -> &[u8]
@@ -406,14 +486,6 @@ impl Session {
             Some(piece) => piece,
             None => &[],
         }
-    }
-
-    /// How many bytes of input are kept.
-    #[tactic(auto, unfolding(crate::specs::Session::kept_of))]
-    pub fn kept(&self) -> usize
-        ensures { result ≡ kept_of self.now }
-    {
-        self.input.kept().len()
     }
 
     pub fn out(&self) -> &[u8]

@@ -10,8 +10,8 @@ use proto::{Answered, Reply, Request, SpareBuffer};
 use std::alloc::Global;
 use std::mem;
 
-/// The seconds, as they are counted, after which a client that took no output has left it unread.
-const UNREAD_SECONDS: u64 = 10;
+/// The seconds, as they are counted, after which a client that took and sent nothing has stopped.
+const STOPPED_SECONDS: u64 = 10;
 
 /// What a `get` waits for that was read and isn't asked yet.
 #[derive(Clone, Copy)]
@@ -80,9 +80,9 @@ impl Upkeep {
         })
     }
 
-    /// Whether a client that took nothing since this second has left its output unread.
-    pub(crate) fn is_unread_since(&self, second: u64) -> bool {
-        self.seconds.saturating_sub(second) >= UNREAD_SECONDS
+    /// Whether a client that did nothing since this second has stopped.
+    pub(crate) fn has_stopped_since(&self, second: u64) -> bool {
+        self.seconds.saturating_sub(second) >= STOPPED_SECONDS
     }
 
     /// Counts the keys of a `get` that is asked with this number, and lends it a spare buffer for its hits. Keys took so much in

@@ -83,7 +83,7 @@ fn check_sight(rt: &impl Abort, player: &mut Player, sight: &Sight, place: Place
             check_same(rt, waits, true, place);
         }
         WaitsForRoom(waits) => check_same(rt, book.waits_for_room(), *waits, place),
-        Unread(session) => check_same(rt, book.find_unread(), *session, place),
+        Unread(session) => check_same(rt, book.find_stalled(), *session, place),
         IsCrowded(is_crowded) => check_same(rt, book.is_crowded(), *is_crowded, place),
         HasLittleOutput(has) => check_same(rt, book.has_little_output(), *has, place),
         Looks(count) => check_same(rt, book.looks(), *count, place),

@@ -38,7 +38,7 @@ module _ (f : SessionFacts) (messages : List Message) (rest : List ℕ) (reads :
   known_asked true (Some causes.Fatal) k = first_asked k.messages k.rest k.read k.asked
   known_asked true (Some causes.Gone) k = first_asked k.messages k.rest k.read k.asked
   known_asked true (Some causes.NoMemory) k = first_asked k.messages k.rest k.read k.asked
-  known_asked true (Some causes.Unread) k = first_asked k.messages k.rest k.read k.asked
+  known_asked true (Some causes.Stalled) k = first_asked k.messages k.rest k.read k.asked
 
   pub asked_only : AreFactsConsistent f → StartsWith (asks messages) f.asked
   asked_only h = known_asked f.port.opened f.cause h.known

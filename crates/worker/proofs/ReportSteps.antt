@@ -134,7 +134,7 @@ is_fatal (Fatal kind) e = (kind, refl)
 record IsFinal (v : RunView) (s : ℕ) (cause : EndCause) (messages : List Message) : Type 0 where
   first : StartsWith (asks messages) (asked_by v.numbered s)
   beginning : StartsWith (said messages (had_by v.back s)) (given s v.events)
-  complete : cause ≢ causes.Gone → cause ≢ causes.NoMemory → cause ≢ causes.Unread → (asked_by v.numbered s ≡ asks messages)
+  complete : cause ≢ causes.Gone → cause ≢ causes.NoMemory → cause ≢ causes.Stalled → (asked_by v.numbered s ≡ asks messages)
       × (given s v.events ≡ said messages (had_by v.back s))
   caused : IsCauseOf v.dialect v.events s messages cause
 
@@ -155,7 +155,7 @@ final_whole v s cause messages read same asked_is given_is caused =
 -- where only the first were
 final_begun : (v : RunView) (s : ℕ) (cause : EndCause) (messages read more : List Message) → messages ≡ read ++ more
     → asked_by v.numbered s ≡ asks read → StartsWith (said read (had_by v.back s)) (given s v.events)
-    → (cause ≡ causes.Gone) ⊎ (cause ≡ causes.NoMemory) ⊎ (cause ≡ causes.Unread)
+    → (cause ≡ causes.Gone) ⊎ (cause ≡ causes.NoMemory) ⊎ (cause ≡ causes.Stalled)
     → IsCauseOf v.dialect v.events s messages cause → IsFinal v s cause messages
 final_begun v s cause messages read more split asked_is said_is partial caused =
     let on : StartsWith (said messages (had_by v.back s)) (said read (had_by v.back s)) = subst
@@ -202,9 +202,9 @@ final_closed v s causes.Gone messages rest h reads = let m =
 final_closed v s causes.NoMemory messages rest h reads = let m =
     first_of_reading v.dialect (fed s v.events) h.rest rest h.messages messages h.read reads in
     final_begun v s causes.NoMemory messages h.messages m.0 m.1 h.asked h.said (inr (inl refl)) h.caused
-final_closed v s causes.Unread messages rest h reads = let m =
+final_closed v s causes.Stalled messages rest h reads = let m =
     first_of_reading v.dialect (fed s v.events) h.rest rest h.messages messages h.read reads in
-    final_begun v s causes.Unread messages h.messages m.0 m.1 h.asked h.said (inr (inr refl)) h.caused
+    final_begun v s causes.Stalled messages h.messages m.0 m.1 h.asked h.said (inr (inr refl)) h.caused
 
 -- a session that is still open has read all that spells a message
 ended_none : (s : SessionState) → s.queue ≡ [] → s.out ≡ [] → finished_by s ≡ None → s.ended ≡ None
@@ -286,8 +286,8 @@ final_placed v s causes.Gone messages rest h none emptied many reads =
     final_closed v s causes.Gone messages rest h reads
 final_placed v s causes.NoMemory messages rest h none emptied many reads =
     final_closed v s causes.NoMemory messages rest h reads
-final_placed v s causes.Unread messages rest h none emptied many reads =
-    final_closed v s causes.Unread messages rest h reads
+final_placed v s causes.Stalled messages rest h none emptied many reads =
+    final_closed v s causes.Stalled messages rest h reads
 
 -- a session at whose entry in the report a cause stands is running or closed, as that cause says
 placed_as : (f : SessionFacts) (c : EndCause) (o : Bool) (k : Option EndCause) → IsKnownAs o k f → k ≡ Some c

@@ -48,7 +48,7 @@ runs_as f s true (Some causes.Quit) h e = absurd (not_both f.state s h.state e)
 runs_as f s true (Some causes.Fatal) h e = absurd (not_both f.state s h.state e)
 runs_as f s true (Some causes.Gone) h e = absurd (not_both f.state s h.state e)
 runs_as f s true (Some causes.NoMemory) h e = absurd (not_both f.state s h.state e)
-runs_as f s true (Some causes.Unread) h e = absurd (not_both f.state s h.state e)
+runs_as f s true (Some causes.Stalled) h e = absurd (not_both f.state s h.state e)
 
 -- a session that is open in the book runs, where its facts are consistent
 pub runs : (f : SessionFacts) (s : SessionState) → AreFactsConsistent f → f.state ≡ Some s → Runs f
@@ -67,7 +67,7 @@ runs_from f true (Some causes.Quit) h o g s = absurd (true≢false (sym h.caused
 runs_from f true (Some causes.Fatal) h o g s = absurd (true≢false (sym h.caused.0 ∙ s))
 runs_from f true (Some causes.Gone) h o g s = absurd (true≢false (sym h.caused ∙ g))
 runs_from f true (Some causes.NoMemory) h o g s = absurd (true≢false (sym h.caused ∙ s))
-runs_from f true (Some causes.Unread) h o g s = absurd (true≢false (sym h.caused.0 ∙ s))
+runs_from f true (Some causes.Stalled) h o g s = absurd (true≢false (sym h.caused.0 ∙ s))
 
 -- a session that the port's list has opened, and neither gone nor shut, runs, where its facts are consistent
 pub runs_at_port : (f : SessionFacts) → AreFactsConsistent f → f.port.opened ≡ true → f.port.gone ≡ false
@@ -123,7 +123,7 @@ placed_closed f causes.Quit h = h
 placed_closed f causes.Fatal h = h
 placed_closed f causes.Gone h = h
 placed_closed f causes.NoMemory h = h
-placed_closed f causes.Unread h = h
+placed_closed f causes.Stalled h = h
 
 -- the facts of a closed session are consistent where it was opened and has its cause in the report
 pub is_closed : (f : SessionFacts) (c : EndCause) → f.port.opened ≡ true → f.cause ≡ Some c → IsClosed f c
@@ -327,10 +327,10 @@ pub closed_no_memory : (f g : SessionFacts) (s : SessionState) (held : List ℕ)
     → IsClosed g causes.NoMemory
 closed_no_memory f g s held h k shut = closed_as f g s held causes.NoMemory h k shut (inr shut)
 
--- and a lenient one with the cause Unread
-pub closed_unread : (f g : SessionFacts) (s : SessionState) (held : List ℕ) → IsSessionServed held f s → Stays f g
-    → g.port.shut ≡ true → IsLenient g.dialect → IsClosed g causes.Unread
-closed_unread f g s held h k shut lenient = closed_as f g s held causes.Unread h k (shut, lenient) (inr shut)
+-- and a lenient one with the cause Stalled
+pub closed_stalled : (f g : SessionFacts) (s : SessionState) (held : List ℕ) → IsSessionServed held f s → Stays f g
+    → g.port.shut ≡ true → IsLenient g.dialect → IsClosed g causes.Stalled
+closed_stalled f g s held h k shut lenient = closed_as f g s held causes.Stalled h k (shut, lenient) (inr shut)
 
 -- the same where one more reply came back, which found no memory
 pub closed_starved : (f g : SessionFacts) (s : SessionState) (held : List ℕ) (r : Reply) → IsSessionServed held f s
@@ -399,9 +399,9 @@ caused_by g ms rest causes.Gone (inr (inr e)) shut w = cc
 caused_by g ms rest causes.NoMemory (inl e) shut w = cc
 caused_by g ms rest causes.NoMemory (inr (inl e)) shut w = cc
 caused_by g ms rest causes.NoMemory (inr (inr e)) shut w = cc
-caused_by g ms rest causes.Unread (inl e) shut w = cc
-caused_by g ms rest causes.Unread (inr (inl e)) shut w = cc
-caused_by g ms rest causes.Unread (inr (inr e)) shut w = cc
+caused_by g ms rest causes.Stalled (inl e) shut w = cc
+caused_by g ms rest causes.Stalled (inr (inl e)) shut w = cc
+caused_by g ms rest causes.Stalled (inr (inr e)) shut w = cc
 
 -- with its input, of which none is held or left to be read, ends a session that no message has ended
 pub record RunsOut (s : SessionState) (c : EndCause) : Type 0 where
@@ -462,7 +462,7 @@ caused_more f r ms rest causes.Fatal h = (
 )
 caused_more f r ms rest causes.Gone h = h
 caused_more f r ms rest causes.NoMemory h = h
-caused_more f r ms rest causes.Unread h = h
+caused_more f r ms rest causes.Stalled h = h
 
 -- a closed session is closed still when one more reply came back for it
 pub closed_dropped : (f : SessionFacts) (r : Reply) (c : EndCause) → IsClosed f c
@@ -491,7 +491,7 @@ dropped_as f r true (Some causes.Quit) none some h = closed_dropped f r causes.Q
 dropped_as f r true (Some causes.Fatal) none some h = closed_dropped f r causes.Fatal h
 dropped_as f r true (Some causes.Gone) none some h = closed_dropped f r causes.Gone h
 dropped_as f r true (Some causes.NoMemory) none some h = closed_dropped f r causes.NoMemory h
-dropped_as f r true (Some causes.Unread) none some h = closed_dropped f r causes.Unread h
+dropped_as f r true (Some causes.Stalled) none some h = closed_dropped f r causes.Stalled h
 
 -- the facts of a session that isn't open and has asked something stay consistent with one more reply
 pub dropped : (f : SessionFacts) (r : Reply) → f.state ≡ None → (f.asked ≡ [] → ⊥) → AreFactsConsistent f

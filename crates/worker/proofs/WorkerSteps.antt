@@ -8,7 +8,7 @@ use Rattle.exchange.specs.Ends.{WorkerView}
 use Rattle.session_book.specs.declared.causes.EndCause.{EndCause}
 use Rattle.session_book.specs.declared.causes.EndCause.TheVariants as causes
 use Rattle.session_book.specs.Session.{SessionState, once_fed, once_input_ended, holding}
-use Rattle.session_book.specs.Book.{BookState, session_of, IsUnread}
+use Rattle.session_book.specs.Book.{BookState, session_of, IsStalled}
 use Rattle.proto.specs.Lines.{IsLenient}
 use Rattle.worker_port.specs.declared.events.PortRecord.{PortRecord}
 use Rattle.worker_port.specs.declared.events.PortRecord.TheVariants as was
@@ -24,7 +24,7 @@ use Rattle.exchange.proofs.Lists.{starts_trans}
 use Rattle.worker.specs.Workers.{Continues, Closes, Shuts, LeavesWorker, IsTraceBy}
 use Rattle.worker.proofs.EndCauseLemmas.{rises_with, length-with}
 use Rattle.worker_port.proofs.Facts.{about, elsewhere, fed_here, input_ended_here}
-use Rattle.worker.proofs.SessionSteps.{Runs, runs, runs_at_port, runs_on, Ends, closed_gone, closed_no_memory, closed_unread, closed_finished, served_came, served_fed}
+use Rattle.worker.proofs.SessionSteps.{Runs, runs, runs_at_port, runs_on, Ends, closed_gone, closed_no_memory, closed_stalled, closed_finished, served_came, served_fed}
 use Rattle.worker.proofs.SessionSteps.{served_holding, served_input_ended}
 use Rattle.worker.proofs.TraceLaws.{told_before, tells_as, paused_but, paused_elsewhere}
 use Rattle.worker.proofs.PieceLaws.{pieces_at}
@@ -146,13 +146,13 @@ told_no_memory v v' unopened ended t h k r =
     (facts v t).piece r.running.served st (ap (λ (p : PortFacts). p.shut) here.port_is))
 
 -- shut as its client took no output
-pub told_unread : (v v' : RunView) (unopened : ℕ) (ended : Bool) (t : ℕ) → IsTraceKnown v unopened ended
-    → ClosesIn v v' t causes.Unread (was.Shut t) → IsLenient v'.dialect → Runs (facts v t) → IsTraceKnown v' unopened ended
-told_unread v v' unopened ended t h k lenient r =
-    let here = shuts_here v v' t causes.Unread causes.Drained k r.cause in
+pub told_stalled : (v v' : RunView) (unopened : ℕ) (ended : Bool) (t : ℕ) → IsTraceKnown v unopened ended
+    → ClosesIn v v' t causes.Stalled (was.Shut t) → IsLenient v'.dialect → Runs (facts v t) → IsTraceKnown v' unopened ended
+told_stalled v v' unopened ended t h k lenient r =
+    let here = shuts_here v v' t causes.Stalled causes.Drained k r.cause in
     let port = record (port_facts v.events t) { shut = true } in
-    let st = stays (facts v t) (facts v' t) port causes.Unread here refl refl in
-    told_shut v v' unopened ended t causes.Unread h k r (closed_unread (facts v t) (facts v' t) r.running.s
+    let st = stays (facts v t) (facts v' t) port causes.Stalled here refl refl in
+    told_shut v v' unopened ended t causes.Stalled h k r (closed_stalled (facts v t) (facts v' t) r.running.s
     (facts v t).piece r.running.served st (ap (λ (p : PortFacts). p.shut) here.port_is) lenient)
 
 -- shut as it has finished
@@ -346,10 +346,10 @@ no_memory_goes_on told old new t s k h e =
     (runs (facts (run_view trace old) t) s (was_told.each t) e))
 
 -- so does one that has shut a lenient session whose client took no output
-pub unread_goes_on : {P : Type 0} (told : P → Option PortTrace) (old new : WorkerState P) (t : ℕ)
-    → Shuts told old new t causes.Unread → IsWorkerServing told old → IsUnread old.book t → WorkerGoesOn told old new
-unread_goes_on told old new t k h u = let lenient = u.lenient in
-    shut_goes_on told old new t causes.Unread k h (λ trace is was_told closes. told_unread (run_view trace old)
+pub stalled_goes_on : {P : Type 0} (told : P → Option PortTrace) (old new : WorkerState P) (t : ℕ)
+    → Shuts told old new t causes.Stalled → IsWorkerServing told old → IsStalled old.book t → WorkerGoesOn told old new
+stalled_goes_on told old new t k h u = let lenient = u.lenient in
+    shut_goes_on told old new t causes.Stalled k h (λ trace is was_told closes. told_stalled (run_view trace old)
     (run_view (then_told (was.Shut t ∷ []) trace) new) old.unopened old.ended t was_told closes
     (lenient.0, (h.whose trace is).1 ∙ lenient.1) (runs (facts (run_view trace old) t) u.s (was_told.each t) u.there))
 

@@ -23,7 +23,7 @@ use Rattle.worker_port.specs.Giving.{BeginsAnswers}
 use Rattle.worker.specs.Sessions.{cause_of}
 
 -- What the list and the messages say of a session with this cause. Gone says only that the port told Gone, and NoMemory only that
--- the session was shut. Unread says that too, and that the session was lenient: no strict one ends so.
+-- the session was shut. Stalled says that too, and that the session was lenient: no strict one ends so.
 abbrev pub IsCauseOf : Dialect → List PortRecord → ℕ → List Message → EndCause → Type 0
 IsCauseOf d events s messages causes.Drained =
     (is_in (was.EndOfInput s) events ≡ false) × (is_in (was.Gone s) events ≡ false) × (is_in (was.Shut s) events ≡ false)
@@ -32,17 +32,17 @@ IsCauseOf d events s messages causes.EndOfInput =
     (is_in (was.EndOfInput s) events ≡ true) × (is_in (was.Shut s) events ≡ true) × (list_any ends_session messages ≡ false)
 IsCauseOf d events s messages causes.Gone = is_in (was.Gone s) events ≡ true
 IsCauseOf d events s messages causes.NoMemory = is_in (was.Shut s) events ≡ true
-IsCauseOf d events s messages causes.Unread = (is_in (was.Shut s) events ≡ true) × IsLenient d
+IsCauseOf d events s messages causes.Stalled = (is_in (was.Shut s) events ≡ true) × IsLenient d
 IsCauseOf d events s messages causes.Quit = (is_in (was.Shut s) events ≡ true) × (last_or None messages ≡ Some Quit)
 IsCauseOf d events s messages causes.Fatal =
     (is_in (was.Shut s) events ≡ true) × (kind : FatalKind) × (last_or None messages ≡ Some (Fatal kind))
 
 -- Of a session whose bytes spell these messages in this dialect: the port gave it a beginning of their answers. If its cause is
--- none of Gone, NoMemory and Unread, the port gave it all of them, and the history has all its requests.
+-- none of Gone, NoMemory and Stalled, the port gave it all of them, and the history has all its requests.
 pub record IsSessionAnswered (d : Dialect) (events : List PortRecord) (history : List Answered) (worker s : ℕ)
     (cause : EndCause) (messages : List Message) : Type 0 where
   pub answers : BeginsAnswers history worker s (given s events) messages
-  pub complete : cause ≢ causes.Gone → cause ≢ causes.NoMemory → cause ≢ causes.Unread
+  pub complete : cause ≢ causes.Gone → cause ≢ causes.NoMemory → cause ≢ causes.Stalled
       → (map (λ e. e.request) (session_share history worker s) ≡ asks messages)
       × (given s events ≡ said messages (map (λ e. e.reply) (session_share history worker s)))
   pub caused : IsCauseOf d events s messages cause

@@ -110,7 +110,7 @@ IsCaused f messages rest causes.Quit = (f.port.shut ≡ true) × IsWhole f messa
 IsCaused f messages rest causes.Fatal = (f.port.shut ≡ true) × IsWhole f messages (Some causes.Fatal)
 IsCaused f messages rest causes.Gone = f.port.gone ≡ true
 IsCaused f messages rest causes.NoMemory = f.port.shut ≡ true
-IsCaused f messages rest causes.Unread = (f.port.shut ≡ true) × IsLenient f.dialect
+IsCaused f messages rest causes.Stalled = (f.port.shut ≡ true) × IsLenient f.dialect
 
 -- the session is closed: some first messages were read and asked, and a beginning of their answers was given
 pub record IsClosed (f : SessionFacts) (cause : EndCause) : Type 0 where
@@ -132,7 +132,7 @@ IsReportedAs f (Some causes.Quit) = IsClosed f causes.Quit
 IsReportedAs f (Some causes.Fatal) = IsClosed f causes.Fatal
 IsReportedAs f (Some causes.Gone) = IsClosed f causes.Gone
 IsReportedAs f (Some causes.NoMemory) = IsClosed f causes.NoMemory
-IsReportedAs f (Some causes.Unread) = IsClosed f causes.Unread
+IsReportedAs f (Some causes.Stalled) = IsClosed f causes.Stalled
 
 abbrev pub IsKnownAs : Bool → Option EndCause → SessionFacts → Type 0
 IsKnownAs false cause f = IsUntouched f × (cause ≡ None)

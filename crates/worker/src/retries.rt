@@ -39,7 +39,7 @@ impl Retries {
     }
 }
 
-/// Seconds, as they pass while sessions wait for room.
+/// Seconds, as they pass while sessions wait for memory.
 #[derive(Clone, Copy, Default)]
 pub(crate) struct Seconds {
     /// When the second began that runs; none if no session waits, or the clock couldn't be read.
@@ -47,7 +47,7 @@ pub(crate) struct Seconds {
 }
 
 impl Seconds {
-    /// Whether another second has passed in which a session waited for room. The clock is read only while one does.
+    /// Whether another second has passed in which a session waited for memory. The clock is read only while one does.
     pub(crate) fn has_passed<R: Clock>(&mut self, rt: &R, is_waiting: bool) -> bool {
         if !is_waiting {
             self.since = None;

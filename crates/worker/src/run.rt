@@ -181,17 +181,17 @@ fn retry_output<P: Port>(worker: &mut Worker<P>, retries: &mut Retries) -> bool
     give_output(worker, Task::RetryWrite, most)
 }
 
-/// Counts a session that is closed as its client took no output, for `stats`.
-fn count_unread(worker: usize, storage: &StorageSignals) {
+/// Counts a session that is closed as its client has stopped, for `stats`.
+fn count_stalled(worker: usize, storage: &StorageSignals) {
     if let Some(gauges) = storage.gauges(worker) {
         let closed = gauges.get(Gauge::ClosedUnread).wrapping_add(1);
         gauges.set(&[(Gauge::ClosedUnread, closed)]);
     }
 }
 
-/// Once another second has passed in which a session waited for room, shuts sessions whose clients took no output for ten such
-/// seconds, until there is room. True if something was done.
-fn shut_unread<P: Port, R: Clock>(
+/// Once another second has passed in which a session waited for memory, shuts sessions that hold some and whose clients have stopped
+/// for ten such seconds, until none waits. True if something was done.
+fn shut_stalled<P: Port, R: Clock>(
     rt: &R,
     worker: &mut Worker<P>,
     seconds: &mut Seconds,
@@ -199,37 +199,40 @@ fn shut_unread<P: Port, R: Clock>(
 ) -> bool
     ensures { Continues P.told P.leads_to worker.old worker.new }
 {
-    if !seconds.has_passed(rt, worker.state.book.waits_for_room()) {
+    if !seconds.has_passed(rt, worker.state.book.waits_for_memory()) {
         return false;
     }
     worker.state.book.count_second();
     let mut moved = false;
     for _ in 0..WINDOW {
-        if !worker.state.book.waits_for_room() {
-            break;
-        }
-        let Some(session) = worker.state.book.find_unread() else {
+        let Some(session) = worker.state.book.find_stalled() else {
             break;
         };
-        count_unread(worker.state.batch.worker(), storage);
-        worker.state.shut(session, EndCause::Unread);
+        count_stalled(worker.state.batch.worker(), storage);
+        worker.state.shut(session, EndCause::Stalled);
         moved = true;
     }
     moved
 }
 
-/// Shuts the sessions that keep the most input, as long as more is kept over all sessions than there is room for. True if something
-/// was done.
-fn limit_input<P: Port>(worker: &mut Worker<P>) -> bool
+/// Pauses the sessions for whose large messages there is no room. True if something was done.
+fn pause_sessions<P: Port>(worker: &mut Worker<P>) -> bool
     ensures { Continues P.told P.leads_to worker.old worker.new }
 {
     let mut moved = false;
-    for _ in 0..WINDOW {
-        let Some(session) = worker.state.book.heaviest() else {
-            break;
-        };
-        worker.state.shut(session, EndCause::NoMemory);
-        moved = true;
+    for _ in 0..worker.state.book.ready(Task::Pause) {
+        moved |= worker.pause_next();
+    }
+    moved
+}
+
+/// Resumes the sessions for whose large messages there is room by now. True if something was done.
+fn resume_sessions<P: Port>(worker: &mut Worker<P>) -> bool
+    ensures { Continues P.told P.leads_to worker.old worker.new }
+{
+    let mut moved = false;
+    for _ in 0..worker.state.book.ready(Task::ReadOn) {
+        moved |= worker.resume_next();
     }
     moved
 }
@@ -254,8 +257,9 @@ fn take_turn<P: Port, G: Gate, E: Executor, R: Clock>(
     let settled = settle_answers(worker, gate);
     let given = give_output(worker, Task::Give, usize::MAX);
     let given_again = retry_output(worker, &mut pauses.retries);
-    let shut = shut_unread(rt, worker, &mut pauses.seconds, storage) | limit_input(worker);
-    held || came > 0 || fed || asked || settled || given || given_again || shut
+    let shut = shut_stalled(rt, worker, &mut pauses.seconds, storage);
+    let turned = pause_sessions(worker) | resume_sessions(worker);
+    held || came > 0 || fed || asked || settled || given || given_again || shut || turned
 }
 
 /// Whether all is done: the port has ended, nothing is held or outstanding, and no open session has input or output left. One

@@ -78,11 +78,11 @@ impl<P: Port> WorkerState<P> {
         self.close(session, cause);
     }
 
-    /// Tells the port of a session that is closed for want of memory.
+    /// Tells the port of a session that is closed for memory.
     fn explain(&self, session: u64, cause: EndCause) {
         match cause {
             EndCause::NoMemory => self.port.explain(session, CloseReason::Memory, b""),
-            EndCause::Unread => self.port.explain(session, CloseReason::Unread, b""),
+            EndCause::Stalled => self.port.explain(session, CloseReason::Stalled, b""),
             EndCause::Drained
             | EndCause::EndOfInput
             | EndCause::Quit
@@ -267,6 +267,29 @@ impl<P: Port> Worker<P> {
                 true
             }
         }
+    }
+
+    /// Pauses the next session for whose large message there is no room. True if there was one.
+    pub(crate) fn pause_next(&mut self) -> bool
+        ensures { Continues P.told P.leads_to self.old self.new }
+    {
+        let Some(session) = self.state.book.next_to_pause() else {
+            return false;
+        };
+        self.state.port.pause(session);
+        true
+    }
+
+    /// Resumes the next session for whose large message there is room by now. True if there was one.
+    pub(crate) fn resume_next(&mut self) -> bool
+        ensures { Continues P.told P.leads_to self.old self.new }
+    {
+        let has_ended = self.state.ended;
+        let Some(session) = self.state.book.next_to_resume(has_ended) else {
+            return false;
+        };
+        self.state.port.resume(session);
+        true
     }
 
     /// Reads up to the session's next request, which is held until it is put.

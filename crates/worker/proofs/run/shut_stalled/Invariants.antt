@@ -1,5 +1,5 @@
 use Rattle.worker.specs.Workers.{Continues, IsWorkerServing}
-use Rattle.worker.proofs.run.shut_unread.Given as goal
+use Rattle.worker.proofs.run.shut_stalled.Given as goal
 
 abbrev pub invariant-loop : goal.invariant-loop
 invariant-loop g l = Continues g.P.Port.told g.P.Port.leads_to l.fn.worker l.worker-inside.state

@@ -6,7 +6,7 @@ use Rattle.std.specs.Cmp.{nat_eq_equiv}
 use Rattle.std.specs.Map.{lookup}
 use Rattle.std.specs.Map.Iter.{deref_pair}
 use Rattle.session_book.specs.Book.{BookState}
-use Rattle.session_book.proofs.book.Book.find_unread.Goals as goal
+use Rattle.session_book.proofs.book.Book.find_stalled.Goals as goal
 
 pub returns-then-is_unread : goal.returns-then-is_unread
 returns-then-is_unread c =

@@ -1,9 +1,9 @@
-use Rattle.worker.proofs.WorkerSteps.{continues, continues_trans, unread_goes_on, open_at}
+use Rattle.worker.proofs.WorkerSteps.{continues, continues_trans, stalled_goes_on, open_at}
 use Rattle.worker.proofs.AskSteps.{goes_on_same}
 use Rattle.std.proofs.Common.{refl, sym, subst}
 use Rattle.session_book.specs.Book.{BookState}
 use Rattle.worker.specs.Workers.{Continues, IsWorkerServing}
-use Rattle.worker.proofs.run.shut_unread.Goals as goal
+use Rattle.worker.proofs.run.shut_stalled.Goals as goal
 
 pub loop-init : goal.loop-init
 loop-init g c = let w = c.worker.inside.state in
@@ -19,7 +19,7 @@ shut-requires g c = let u = c.in-Some.ensures in
 
 pub loop-preserved : goal.loop-preserved
 loop-preserved g c =
-    let k = unread_goes_on g.P.Port.told c.loop.worker-inside.state c.shut.new.self c.in-Some.session
+    let k = stalled_goes_on g.P.Port.told c.loop.worker-inside.state c.shut.new.self c.in-Some.session
     c.shut.ensures.shuts c.loop.invariant.1 c.in-Some.ensures in (
       continues_trans g.met.P.Port.leads_transitive c.loop.invariant.0 (continues refl c.shut.ensures.leads k),
       k.serving,

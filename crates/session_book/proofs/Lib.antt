@@ -8,4 +8,3 @@ pub mod Steps
 pub mod Books
 pub mod Asking
 pub mod Emptied
-pub mod Heaviest

@@ -351,7 +351,7 @@ impl Book {
     /// Takes out the next session that is to be paused. It waits for room for its large message.
     pub fn next_to_pause(&mut self) -> Option<u64>
         ensures same { self.new ≡ self.old }
-        ensures open { IfSome result (λ n. IsSome (session_of self.now n)) }
+        ensures open { IfSome result (λ n. IsSome (session_of self.old n)) }
     {
         let session = self.upkeep.ready.take(Task::Pause)?;
         let place = find(&self.sessions, session, &mut self.upkeep.ready.place)?;
@@ -364,7 +364,7 @@ impl Book {
     /// has ended. It is to be resumed, unless a piece of it is held, which is fed before.
     pub fn next_to_resume(&mut self, has_ended: bool) -> Option<u64>
         ensures same { self.new ≡ self.old }
-        ensures open { IfSome result (MayRead self.now) }
+        ensures open { IfSome result (MayRead self.old) }
     {
         let (session, _) = self.upkeep.ready.first(Task::ReadOn)?;
         let Some(place) = find(&self.sessions, session, &mut self.upkeep.ready.place) else {

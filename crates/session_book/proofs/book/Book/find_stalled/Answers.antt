@@ -8,8 +8,8 @@ use Rattle.std.specs.Map.Iter.{deref_pair}
 use Rattle.session_book.specs.Book.{BookState}
 use Rattle.session_book.proofs.book.Book.find_stalled.Goals as goal
 
-pub returns-then-is_unread : goal.returns-then-is_unread
-returns-then-is_unread c =
+pub returns-then-is_stalled : goal.returns-then-is_stalled
+returns-then-is_stalled c =
     let start = c.into_iter-session-iterator.ensures.into_iter_gives ∙ c.iter-session-items.ensures.rest in
     let turn = hash_map_turn deref_pair _ _ _ _ _ _ c.loop-session.yielded_by c.in-Some.is c.next.ensures.steps
     nat_eq_equiv c.self.inside.sessions start c.iter-session-items.ensures.unique in
@@ -17,5 +17,5 @@ returns-then-is_unread c =
       lenient = search rules;
       s = c.in-Some.open.now;
       there = sym (ap (λ (b : BookState). lookup (nat_eq c.in-Some.session.now) b.sessions) c.self.view_is) ∙ turn.1;
-      output = OnTrue_at c.if-is_unread.true c.is_unread.ensures;
+      much = OnTrue_at c.if-is_stalled.true c.is_stalled.ensures;
     }

@@ -372,8 +372,10 @@ impl Book {
             return None;
         };
         let (_, open) = self.sessions.pair_mut(place);
-        open.read_on(session, has_ended, &mut self.upkeep)
-            .then_some(session)
+        if !open.read_on(session, has_ended, &mut self.upkeep) {
+            return None;
+        }
+        Some(session)
     }
 
     /// Whether the session that was asked last can be read further.

@@ -1,5 +1,5 @@
 use mir.Val.{SFits}
-use Rattle.std.proofs.Common.{rules, w64, ◌≡◌, ◌≤◌, ◌+◌, ◌-◌, ℤ, ℕ, List, length, take, drop, refl, sym, ap, subst, ◌∙◌, arith}
+use Rattle.std.proofs.Common.{rules, w64, ◌≡◌, ◌≤◌, ◌+◌, ◌-◌, ℤ, ℕ, List, length, take, drop, sym, ap, subst, ◌∙◌, arith}
 use Rattle.std.proofs.lemmas.Int.{to_z-of_z}
 use Rattle.proto.specs.declared.message.Put.{Put}
 use Rattle.proto.specs.Grammar.{Spells}

@@ -25,7 +25,7 @@ use Rattle.worker_port.proofs.Facts.{elsewhere, accepted_here}
 use Rattle.worker.proofs.SessionSteps.{runs, served_fed, served_holding, served_gave}
 use Rattle.worker.proofs.RunViews.{AreSessionsCounted, facts_equal, change_at, at_other, at_same}
 use Rattle.worker_port.proofs.Lists.{AcceptsOnlyOpen, ended_same, count_same, accepts_more}
-use Rattle.worker.proofs.TraceLaws.{paused_but}
+use Rattle.worker.proofs.TraceLaws.{paused_but, paused_too, none_at}
 use Rattle.worker.proofs.PieceLaws.{pieces_at}
 use Rattle.worker.proofs.WorkerSteps.{WorkerGoesOn, TraceFacts, steps_on, closes_in, own_closed, own_within}
 use Rattle.worker.proofs.WorkerSteps.{told_gone, told_open, fact_at, running_on}
@@ -266,5 +266,48 @@ refed_goes_on told old new t rest port h k =
           (λ i. numbered_by (rest.end i) (rest.request i))
           (ap (λ (w : WorkerView). w.back) rest.end) rest.sessions only pieces,
       paused_but trace (with_pause t false trace) t (piece_of old.book) (piece_of new.book) pieces
+          (λ q ne. at_other t q false (trace.paused q) ne) was_so.1,
+    ))
+
+-- ---- a session is paused or resumed
+
+-- so much stays known where only the port's pauses change
+turned_known : {P : Type 0} (old new : WorkerState P) (t : ℕ) (pauses : Bool) (trace : PortTrace) → LeavesWorker old new
+    → new.book ≡ old.book → IsTraceKnown (run_view trace old) old.unopened old.ended
+    → IsTraceKnown (run_view (with_pause t pauses trace) new) old.unopened old.ended
+turned_known old new t pauses trace rest same h =
+    let v = run_view trace old in let v' = run_view (with_pause t pauses trace) new in
+    let p : v'.numbered ≡ v.numbered = λ i. numbered_by (rest.end i) (rest.request i) in
+    let b : v'.back ≡ v.back = ap (λ (w : WorkerView). w.back) rest.end in
+    told_within v v' old.unopened old.ended h refl rest.sessions
+    (λ s. subst AreFactsConsistent (sym (facts_equal (facts v' s) (facts v s) refl refl
+    (λ i. (facts (record v { numbered = p i }) s).asked) (λ i. (facts (record v { back = b i }) s).had)
+    (λ i. (facts (record v { sessions = rest.sessions i }) s).cause) (ap (λ k. session_of k s) same)
+    (ap (λ k. piece_of k s) same))) (h.each s))
+
+-- an open session is paused
+pub paused_goes_on : {P : Type 0} (told : P → Option PortTrace) (old new : WorkerState P) (t : ℕ) → LeavesWorker old new
+    → new.book ≡ old.book → told new.port ≡ option_map (with_pause t true) (told old.port) → IsWorkerServing told old
+    → WorkerGoesOn told old new
+paused_goes_on told old new t rest same port h =
+    within_goes_on told old new (with_pause t true) rest (λ s q. q) port (ap (λ (b : BookState). b.numbered) same)
+    (ap (λ (b : BookState). b.unsettled) same) (ap (λ (b : BookState). b.dialect) same) h
+    (λ trace was_so. (
+      turned_known old new t true trace rest same was_so.0,
+      paused_too trace (with_pause t true trace) t (piece_of old.book) (piece_of new.book) (λ s. ap (λ k. piece_of k s) same)
+          (at_same t true (trace.paused t)) (λ q ne. at_other t q true (trace.paused q) ne) was_so.1,
+    ))
+
+-- a session is resumed of which no bytes are held
+pub resumed_goes_on : {P : Type 0} (told : P → Option PortTrace) (old new : WorkerState P) (t : ℕ) → LeavesWorker old new
+    → new.book ≡ old.book → told new.port ≡ option_map (with_pause t false) (told old.port) → piece_of old.book t ≡ []
+    → IsWorkerServing told old → WorkerGoesOn told old new
+resumed_goes_on told old new t rest same port none h =
+    within_goes_on told old new (with_pause t false) rest (λ s q. q) port (ap (λ (b : BookState). b.numbered) same)
+    (ap (λ (b : BookState). b.unsettled) same) (ap (λ (b : BookState). b.dialect) same) h
+    (λ trace was_so. (
+      turned_known old new t false trace rest same was_so.0,
+      paused_but trace (with_pause t false trace) t (piece_of old.book) (piece_of new.book)
+          (λ s. ap (λ k. piece_of k s) same ∙ none_at t (piece_of old.book) none s)
           (λ q ne. at_other t q false (trace.paused q) ne) was_so.1,
     ))

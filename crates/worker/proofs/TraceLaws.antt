@@ -70,6 +70,22 @@ paused_but trace after t old new held same h =
     (λ (e : t ≡ s). absurd (some (held s ∙ ap (λ b. cond b [] (old s)) (eq-eqb s t (sym e)))))
     (λ (ne : t ≢ s). same s ne ∙ h s (λ e. some (held s ∙ at_other t s [] (old s) ne ∙ e)))
 
+-- one more session is paused
+pub paused_too : (trace after : PortTrace) (t : ℕ) (old new : ℕ → List ℕ) → ((s : ℕ) → new s ≡ old s)
+    → after.paused t ≡ true → ((s : ℕ) → t ≢ s → after.paused s ≡ trace.paused s) → ArePaused trace old
+    → ArePaused after new
+paused_too trace after t old new held here same h =
+    λ s some.
+    either_way t s (λ (e : t ≡ s). ap after.paused (sym e) ∙ here)
+    (λ (ne : t ≢ s). same s ne ∙ h s (λ e. some (held s ∙ e)))
+
+-- what is held of none at one session stays so if that is taken away
+pub none_at : (t : ℕ) (old : ℕ → List ℕ) → old t ≡ [] → (s : ℕ) → old s ≡ cond (s == t) [] (old s)
+none_at t old none s =
+    either_way t s
+    (λ (e : t ≡ s). ap old (sym e) ∙ none ∙ sym (ap (λ b. cond b [] (old s)) (eq-eqb s t (sym e))))
+    (λ (ne : t ≢ s). sym (at_other t s [] (old s) ne))
+
 -- bytes are held of one more session, which is paused
 pub paused_more : (trace after : PortTrace) (t : ℕ) (b : List ℕ) (old new : ℕ → List ℕ)
     → ((s : ℕ) → new s ≡ cond (s == t) b (old s))

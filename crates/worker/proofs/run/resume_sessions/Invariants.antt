@@ -1,0 +1,5 @@
+use Rattle.worker.specs.Workers.{Continues}
+use Rattle.worker.proofs.run.resume_sessions.Given as goal
+
+abbrev pub invariant-loop : goal.invariant-loop
+invariant-loop g l = Continues g.P.Port.told g.P.Port.leads_to l.fn.worker l.worker

@@ -87,7 +87,7 @@ def test_connections_closed_for_memory_are_told(serve):
         while told(stream)["closed_unread"] == "0" and time.monotonic() < until:
             time.sleep(0.1)
         lines = lines_of(server)
-    assert lines and all(re.fullmatch(r"closed 127\.0\.0\.1:[0-9]+: output unread(; .*)?", it) for it in lines)
+    assert lines and all(re.fullmatch(r"closed 127\.0\.0\.1:[0-9]+: stalled(; .*)?", it) for it in lines)
 
 
 def test_what_clients_do_themselves_is_not_told(serve):

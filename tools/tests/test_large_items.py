@@ -18,8 +18,10 @@ SIZES = "--lenient", "--segment-size", "1048576", "--segments", "16", "--max-ite
 # The longest value at a key of one byte: the item has 24 bytes more than both, rounded up to a multiple of 8.
 LONGEST = 1_048_512 - 24 - 1
 LENGTHS = 131_073, 524_288, 1_000_000, LONGEST
-# The bytes of unread input that a worker keeps.
-MOST_KEPT = 256 * 1024 * 1024
+# The bytes of large requests for which a worker reserves room, and how many of `BEGUN` have some.
+ROOM = 64 * 1024 * 1024
+BEGUN = b"set a 0 0 1000000\r\n"
+HAVE_ROOM = ROOM // (len(BEGUN) + 1_000_002)
 
 
 def value_of(length):
@@ -96,12 +98,15 @@ def test_strictly_a_block_has_131072_bytes(program):
 
 
 def stopped(server, count, length):
-    """So many connections, each of which has sent the first bytes of a value of 1,000,000."""
+    """So many connections, each of which sends the first bytes of a value of 1,000,000, as far as the server takes them."""
     streams = contextlib.ExitStack()
     for _ in range(count):
         stream = streams.enter_context(server.connect())
-        with contextlib.suppress(OSError):
-            stream.sendall(b"set a 0 0 1000000\r\n" + b"z" * length)
+        stream.setblocking(False)
+        with contextlib.suppress(BlockingIOError):
+            sent, left = 0, BEGUN + b"z" * length
+            while sent < len(left):
+                sent += stream.send(left[sent:])
     return streams
 
 
@@ -117,25 +122,53 @@ def kept(stream):
 
 
 def test_three_hundred_connections_stop_within_their_values(serve):
+    """Those that came first have room. The others are read no further than their first pieces, and all stay open."""
     server = serve(*SIZES, "--workers", "1")
     with server.connect() as stream, stopped(server, 300, 524_288) as _:
-        assert kept(stream) > 300 * 524_288
-        ask(stream, put(b"set", b"b", value_of(LONGEST)) + b"get b\r\n", STORED + hit(b"b", value_of(LONGEST), 7))
+        assert HAVE_ROOM * 524_288 < kept(stream) < HAVE_ROOM * 524_288 + 300 * 65_536
+        value = value_of(131_072)
+        ask(stream, put(b"set", b"b", value) + b"get b\r\n", STORED + hit(b"b", value, 7))
         assert told(stream)["curr_connections"] == "301"
-        assert server.kilobytes("VmRSS") < 256 * 1024
+        assert server.kilobytes("VmRSS") < 128 * 1024
     with server.connect() as stream:
-        # (nothing is left of them)
+        # (nothing is left of them, and there is room)
         wait_for(stream, curr_connections=1, input_bytes=0)
-        ask(stream, b"get a\r\n", END)
+        ask(stream, put(b"set", b"b", value_of(LONGEST)) + b"get b\r\n", STORED + hit(b"b", value_of(LONGEST), 7))
 
 
-def test_a_worker_keeps_so_much_input_and_no_more(serve):
-    """600 connections send 300 MiB: those are closed that keep the most, and the others go on."""
+def test_who_stops_while_others_wait_is_closed(serve):
+    """A client waits with a large value behind clients that have stopped within theirs: these are closed after ten seconds."""
     server = serve(*SIZES, "--workers", "1")
-    with server.connect() as stream, stopped(server, 600, 524_288) as _:
-        assert MOST_KEPT - 3 * 1_048_576 < kept(stream) <= MOST_KEPT
-        ask(stream, put(b"set", b"b", b"x") + b"get b\r\n", STORED + hit(b"b", b"x", 7))
-        assert 450 < int(told(stream)["curr_connections"]) < 601
+    with stopped(server, HAVE_ROOM + 1, 524_288) as _, server.connect() as stream, server.connect() as other:
+        assert kept(other) < HAVE_ROOM * 524_288 + 65_536
+        before = time.monotonic()
+        ask(stream, put(b"set", b"b", value_of(LONGEST)) + b"get b\r\n", STORED + hit(b"b", value_of(LONGEST), 7))
+        assert 8 < time.monotonic() - before < 15
+        assert int(told(other)["closed_unread"]) >= 2
+    server.process.terminate()
+    assert ": stalled\n" in server.errors()
+
+
+def test_who_sends_slowly_is_waited_for(serve):
+    """80 clients send their values within twelve seconds each. More than have room do so at once, and all are stored."""
+    server = serve(*SIZES, "--workers", "1")
+    value = value_of(1_000_000)
+    with contextlib.ExitStack() as streams:
+        begun = [streams.enter_context(server.connect()) for _ in range(HAVE_ROOM + 14)]
+        left = {stream: put(b"set", b"a", value) for stream in begun}
+        for stream in begun:
+            stream.setblocking(False)
+        while left:
+            for stream in list(left):
+                with contextlib.suppress(BlockingIOError):
+                    left[stream] = left[stream][stream.send(left[stream][:20_000]) :]
+                if not left[stream]:
+                    del left[stream]
+            time.sleep(0.24)
+        for stream in begun:
+            stream.setblocking(True)
+            ask(stream, b"get a\r\n", STORED + hit(b"a", value, 7))
+        assert told(begun[0])["closed_unread"] == "0"
 
 
 def test_values_that_have_only_begun_take_little_room(serve):

@@ -1,4 +1,4 @@
-//! How much memory a server may take at most, and how much it may.
+//! About how much memory a server takes at most, and how much it may.
 
 use command_line::ServeOptions;
 use proto::{Dialect, Geometry, MAX_BLOCK};
@@ -22,14 +22,14 @@ const KEYS: u64 = 255;
 /// The output of all connections of a worker, above which large replies wait.
 const OUTPUT: u64 = 64 * MIB;
 
-/// What a connection takes beside its output and the input that is kept: its state, and a piece.
-const CONNECTION: u64 = 512 + 16_384;
+/// What a connection takes beside its output: its state, the input that is kept, and a piece.
+const CONNECTION: u64 = 1024 + 262_144 + 16_384;
 
-/// The input that a connection keeps beside its longest data block.
-const BESIDE_BLOCK: u64 = 131_072;
+/// The large requests that the connections of a worker are sending.
+const LARGE_INPUT: u64 = 64 * MIB;
 
-/// The input that the connections of a worker keep where a data block may have more than 131,072 bytes.
-const INPUT: u64 = 256 * MIB;
+/// What stands beside a large value in the memory that it has.
+const BESIDE_VALUE: u64 = 131_072;
 
 /// The connections of a worker, unless it is told another number.
 const CONNECTIONS: u64 = 1024;
@@ -53,16 +53,18 @@ fn answers_of(dialect: Dialect) -> (u64, u64) {
 /// What a worker takes for the values of its requests on their way. One of up to 131,072 bytes
 /// stands in up to four times its memory.
 fn requests_of(dialect: Dialect) -> u64 {
-    let value = MAX_BLOCK + more_than_block(dialect) + BESIDE_BLOCK;
+    let value = MAX_BLOCK + more_than_block(dialect) + BESIDE_VALUE;
     REQUESTS * value.max(4 * MAX_BLOCK)
 }
 
 /// What the connections of a worker take beside their output.
 fn connections_of(dialect: Dialect, connections: u64) -> u64 {
-    let more = more_than_block(dialect);
-    let kept = connections.saturating_mul(BESIDE_BLOCK + MAX_BLOCK + more);
-    let kept = if more > 0 { kept.min(INPUT) } else { kept };
-    connections.saturating_mul(CONNECTION).saturating_add(kept)
+    let large = if more_than_block(dialect) > 0 {
+        LARGE_INPUT
+    } else {
+        0
+    };
+    connections.saturating_mul(CONNECTION).saturating_add(large)
 }
 
 /// The store: segments, room for merges, live marks, and an index for as many of the smallest items as there may be.
@@ -78,8 +80,8 @@ fn store_bytes(geometry: Geometry) -> u64 {
         .saturating_add(index)
 }
 
-/// The most bytes that the options let a server take, without the system's buffers of its connections. Output takes up to three
-/// times its bytes while clients read a part of it.
+/// About the most bytes that the options let a server take, without the system's buffers of its connections: how large a reply gets is
+/// only estimated. Output takes up to three times its bytes while clients read a part of it.
 pub(crate) fn most_bytes(options: &ServeOptions, geometry: Geometry) -> u64 {
     let (values, reply) = answers_of(options.dialect);
     let output = OUTPUT.saturating_add(reply).saturating_mul(3);

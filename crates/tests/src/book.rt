@@ -51,17 +51,17 @@ enum Sight {
     NextToAsk(Option<u64>),
     /// The session's next request waits.
     Waits(u64),
-    WaitsForRoom(bool),
-    /// Which session's client took no output for ten seconds.
-    Unread(Option<u64>),
+    WaitsForMemory(bool),
+    /// Which session's client has stopped for ten seconds.
+    Stalled(Option<u64>),
     IsCrowded(bool),
     HasLittleOutput(bool),
     Looks(u64),
 }
 
 use Sight::{
-    Finished, HasLittleOutput, IsCrowded, Looks, NextToAsk, Output, Ready, Unread, Waits,
-    WaitsForRoom,
+    Finished, HasLittleOutput, IsCrowded, Looks, NextToAsk, Output, Ready, Stalled, Waits,
+    WaitsForMemory,
 };
 use Step::{
     Accept, Ask, AskLater, AskNext, Close, EndInput, Feed, FeedLetters, Give, Known, Open, Receive,
@@ -82,8 +82,8 @@ fn check_sight(rt: &impl Abort, player: &mut Player, sight: &Sight, place: Place
             let waits = matches!(book.next_ask(*session), Err(Unasked::Waits));
             check_same(rt, waits, true, place);
         }
-        WaitsForRoom(waits) => check_same(rt, book.waits_for_room(), *waits, place),
-        Unread(session) => check_same(rt, book.find_stalled(), *session, place),
+        WaitsForMemory(waits) => check_same(rt, book.waits_for_memory(), *waits, place),
+        Stalled(session) => check_same(rt, book.find_stalled(), *session, place),
         IsCrowded(is_crowded) => check_same(rt, book.is_crowded(), *is_crowded, place),
         HasLittleOutput(has) => check_same(rt, book.has_little_output(), *has, place),
         Looks(count) => check_same(rt, book.looks(), *count, place),
@@ -550,7 +550,7 @@ const WAITS_UNTIL_GIVEN: [Step; 15] = [
     See(NextToAsk(Some(1))),
     See(NextToAsk(Some(2))),
     See(Waits(2)),
-    See(WaitsForRoom(true)),
+    See(WaitsForMemory(true)),
     Open(3),
     Feed(3, b"get b\r\n"),
     See(NextToAsk(Some(3))),
@@ -558,7 +558,7 @@ const WAITS_UNTIL_GIVEN: [Step; 15] = [
     See(NextToAsk(None)),
     See(Waits(2)),
     Give(1),
-    See(WaitsForRoom(false)),
+    See(WaitsForMemory(false)),
     See(NextToAsk(Some(1))),
     See(NextToAsk(Some(2))),
     AskNext(2),
@@ -585,14 +585,14 @@ const ON_ITS_WAY: [Step; 23] = [
     Feed(3, b"get b\r\n"),
     See(NextToAsk(Some(3))),
     See(Waits(3)),
-    See(WaitsForRoom(true)),
+    See(WaitsForMemory(true)),
     Settle(0, Settled::Kept),
-    See(WaitsForRoom(false)),
+    See(WaitsForMemory(false)),
     See(NextToAsk(Some(3))),
     AskNext(3),
 ];
 
-/// What waits until there is room, and whose client has left its output unread.
+/// What waits until there is room, and whose client has stopped.
 const ROOM_ROWS: [Row; 5] = [
     Row {
         name: "a get waits above 32 MiB of output, as its answer may be as large",
@@ -617,7 +617,7 @@ const ROOM_ROWS: [Row; 5] = [
                     See(NextToAsk(Some(1))),
                     See(NextToAsk(Some(2))),
                     AskNext(2),
-                    See(WaitsForRoom(false)),
+                    See(WaitsForMemory(false)),
                 ],
             ),
         ],
@@ -629,19 +629,22 @@ const ROOM_ROWS: [Row; 5] = [
         parts: &[(1, &ON_ITS_WAY)],
     },
     Row {
-        name: "a lenient client that takes nothing for ten seconds has left its output unread",
+        name: "a lenient client that takes nothing for ten seconds while others wait has stopped",
         dialect: Dialect::Lenient(131_072),
         found: None,
         parts: &[
             (1, &BEFORE_ROOM),
             (1, &[SettleHit(60_000_000), Accept(1, 1_000), Accept(1, 0)]),
-            (9, &[Second, See(Unread(None))]),
+            (10, &[Second, See(Stalled(None))]),
             (1, &[Accept(1, 1), Accept(1, 0)]),
-            (9, &[Second, See(Unread(None)), Accept(1, 0)]),
-            (1, &[Second, See(Unread(Some(1)))]),
-            (1, &[Accept(1, 59_982_615), Accept(1, 0)]),
+            (1, &[See(Waits(2)), See(WaitsForMemory(true))]),
+            (9, &[Second, See(Stalled(None))]),
+            (1, &[Accept(1, 1), Accept(1, 0)]),
+            (9, &[Second, See(Stalled(None)), Accept(1, 0)]),
+            (1, &[Second, See(Stalled(Some(1)))]),
+            (1, &[Accept(1, 59_982_614), Accept(1, 0)]),
             (10, &[Second]),
-            (1, &[See(Unread(None))]),
+            (1, &[See(Stalled(None))]),
         ],
     },
     Row {
@@ -651,8 +654,9 @@ const ROOM_ROWS: [Row; 5] = [
         parts: &[
             (1, &BEFORE_ROOM),
             (1, &[SettleHit(60_000_000), Accept(1, 0)]),
+            (1, &[See(Waits(2)), See(WaitsForMemory(true))]),
             (20, &[Second]),
-            (1, &[See(Unread(None))]),
+            (1, &[See(Stalled(None))]),
         ],
     },
 ];

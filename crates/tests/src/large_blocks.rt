@@ -1,4 +1,5 @@
-//! Leniently a data block that is too large for the cache is dropped as it comes, and its session goes on behind it.
+//! Leniently a data block that is too large for the cache is dropped as it comes, and its session goes on behind it. A large request
+//! is read once there is room for all of it.
 
 use crate::made::spell;
 use crate::player::{Given, Player};
@@ -136,5 +137,93 @@ fn a_large_block_is_dropped_as_it_comes(rt: HostRuntime) -> Result<(), Fail> {
         checked?;
         spelled?;
     }
+    Ok(())
+}
+
+/// The line of a request of 1,000,021 bytes: 67 of them have room.
+const LARGE: &[u8] = b"set a 0 0 1000000\r\n";
+
+const HAVE_ROOM: u64 = 67;
+
+/// Opens two sessions more than have room, each of which has sent the line of its request.
+fn begin_large(player: &mut Player) -> Result<(), Fail> {
+    for session in 1..=HAVE_ROOM + 2 {
+        player.book.open(session)?;
+        player.feed(session, LARGE)?;
+        let _ = player.ask(session)?;
+    }
+    Ok(())
+}
+
+/// Which sessions are to be paused or resumed, or have stopped, one after the other.
+fn turned(player: &mut Player) -> [Option<u64>; 7] {
+    let book = &mut player.book;
+    let paused = [
+        book.next_to_pause(),
+        book.next_to_pause(),
+        book.next_to_pause(),
+    ];
+    let waits = book.next_to_resume(false);
+    book.close(3);
+    let resumed = [book.next_to_resume(false), book.next_to_resume(false)];
+    [
+        paused[0],
+        paused[1],
+        paused[2],
+        waits,
+        resumed[0],
+        resumed[1],
+        book.next_to_resume(true),
+    ]
+}
+
+#[test]
+fn large_requests_wait_for_room(rt: HostRuntime) -> Result<(), Fail> {
+    let mut player = Player::new(rt.alloc(), Dialect::Lenient(1_048_512), None);
+    let begun = begin_large(&mut player);
+    let turned = turned(&mut player);
+    drop(player);
+    begun?;
+    let wanted = [
+        Some(HAVE_ROOM + 1),
+        Some(HAVE_ROOM + 2),
+        None,
+        None,
+        Some(HAVE_ROOM + 1),
+        None,
+        Some(HAVE_ROOM + 2),
+    ];
+    check_same(&rt, turned, wanted, "paused and resumed");
+    Ok(())
+}
+
+/// Ten seconds pass, in the last of which the first session sends on. Which have stopped is asked before, after, and when none waits.
+fn stopped(player: &mut Player) -> Result<[Option<u64>; 3], Fail> {
+    for _ in 0..2 {
+        player.book.next_to_pause();
+    }
+    for _ in 0..9 {
+        player.book.count_second();
+    }
+    let before = player.book.find_stalled();
+    player.feed(1, b"kkk")?;
+    player.book.count_second();
+    let after = player.book.find_stalled();
+    for _ in 0..2 {
+        player.book.next_to_resume(true);
+    }
+    Ok([before, after, player.book.find_stalled()])
+}
+
+#[test]
+fn who_sends_nothing_for_ten_seconds_while_others_wait_has_stopped(
+    rt: HostRuntime,
+) -> Result<(), Fail> {
+    let mut player = Player::new(rt.alloc(), Dialect::Lenient(1_048_512), None);
+    let begun = begin_large(&mut player);
+    let stopped = stopped(&mut player);
+    drop(player);
+    begun?;
+    check_same(&rt, stopped?, [None, Some(2), None], "stopped");
     Ok(())
 }

@@ -199,6 +199,7 @@ fn large_requests_wait_for_room(rt: HostRuntime) -> Result<(), Fail> {
 
 /// Ten seconds pass, in the last of which the first session sends on. Which have stopped is asked before, after, and when none waits.
 fn stopped(player: &mut Player) -> Result<[Option<u64>; 3], Fail> {
+    begin_large(player)?;
     for _ in 0..2 {
         player.book.next_to_pause();
     }
@@ -220,10 +221,8 @@ fn who_sends_nothing_for_ten_seconds_while_others_wait_has_stopped(
     rt: HostRuntime,
 ) -> Result<(), Fail> {
     let mut player = Player::new(rt.alloc(), Dialect::Lenient(1_048_512), None);
-    let begun = begin_large(&mut player);
     let stopped = stopped(&mut player);
     drop(player);
-    begun?;
     check_same(&rt, stopped?, [None, Some(2), None], "stopped");
     Ok(())
 }

@@ -564,6 +564,14 @@ const WAITS_UNTIL_GIVEN: [Step; 15] = [
     AskNext(2),
 ];
 
+/// Session 2 waits.
+const LATER_WAITS: [Step; 4] = [
+    See(NextToAsk(Some(1))),
+    See(NextToAsk(Some(2))),
+    See(Waits(2)),
+    See(WaitsForMemory(true)),
+];
+
 /// The 100,025 bytes that are likely to be the answer of session 3 don't fit beside the output of session 1 and what is likely to be
 /// that of session 2.
 const ON_ITS_WAY: [Step; 23] = [
@@ -637,7 +645,7 @@ const ROOM_ROWS: [Row; 5] = [
             (1, &[SettleHit(60_000_000), Accept(1, 1_000), Accept(1, 0)]),
             (10, &[Second, See(Stalled(None))]),
             (1, &[Accept(1, 1), Accept(1, 0)]),
-            (1, &[See(Waits(2)), See(WaitsForMemory(true))]),
+            (1, &LATER_WAITS),
             (9, &[Second, See(Stalled(None))]),
             (1, &[Accept(1, 1), Accept(1, 0)]),
             (9, &[Second, See(Stalled(None)), Accept(1, 0)]),
@@ -654,7 +662,7 @@ const ROOM_ROWS: [Row; 5] = [
         parts: &[
             (1, &BEFORE_ROOM),
             (1, &[SettleHit(60_000_000), Accept(1, 0)]),
-            (1, &[See(Waits(2)), See(WaitsForMemory(true))]),
+            (1, &LATER_WAITS),
             (20, &[Second]),
             (1, &[See(Stalled(None))]),
         ],

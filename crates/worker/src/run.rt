@@ -237,6 +237,21 @@ fn resume_sessions<P: Port>(worker: &mut Worker<P>) -> bool
     moved
 }
 
+/// Has sessions wait for memory, or go on, and shuts those that hold it and have stopped. True if something was done.
+fn share_memory<P: Port, R: Clock>(
+    rt: &R,
+    worker: &mut Worker<P>,
+    seconds: &mut Seconds,
+    storage: &StorageSignals,
+) -> bool
+    ensures { Continues P.told P.leads_to worker.old worker.new }
+{
+    let shut = shut_stalled(rt, worker, seconds, storage);
+    let paused = pause_sessions(worker);
+    let resumed = resume_sessions(worker);
+    shut | paused | resumed
+}
+
 /// One turn. True if something was done. It puts the held request, then what has come and what fits by now. Storage knows of
 /// all of it before the answers are looked for, so nothing is kept back while the worker waits.
 fn take_turn<P: Port, G: Gate, E: Executor, R: Clock>(
@@ -257,9 +272,8 @@ fn take_turn<P: Port, G: Gate, E: Executor, R: Clock>(
     let settled = settle_answers(worker, gate);
     let given = give_output(worker, Task::Give, usize::MAX);
     let given_again = retry_output(worker, &mut pauses.retries);
-    let shut = shut_stalled(rt, worker, &mut pauses.seconds, storage);
-    let turned = pause_sessions(worker) | resume_sessions(worker);
-    held || came > 0 || fed || asked || settled || given || given_again || shut || turned
+    let shared = share_memory(rt, worker, &mut pauses.seconds, storage);
+    held || came > 0 || fed || asked || settled || given || given_again || shared
 }
 
 /// Whether all is done: the port has ended, nothing is held or outstanding, and no open session has input or output left. One

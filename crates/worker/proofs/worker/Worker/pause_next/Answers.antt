@@ -17,8 +17,8 @@ turned g c = let w = c.self.inside.state in
     (record { end = refl; request = refl; sessions = refl; unopened = refl; strangers = refl; ended = refl })
     c.next_to_pause.ensures.same c.pause.ensures.told c.self.invariant
 
-pub invariant_of-self : goal.invariant_of-self
-invariant_of-self g c = (turned g (goal.at.invariant_of-self g c).After-pause).serving
+pub invariant_of-self-2 : goal.invariant_of-self-2
+invariant_of-self-2 g c = (turned g (goal.at.invariant_of-self-2 g c).After-pause).serving
 
 pub returns : goal.returns
 returns g c = continues c.self.view_is c.pause.ensures.leads (turned g (goal.at.returns g c).After-pause)

@@ -18,8 +18,8 @@ turned g c = let w = c.self.inside.state in
     c.next_to_resume.ensures.same c.resume.ensures.told
     (ap held_of c.in-Some.ensures.open.there ∙ c.in-Some.ensures.open.none_held) c.self.invariant
 
-pub invariant_of-self : goal.invariant_of-self
-invariant_of-self g c = (turned g (goal.at.invariant_of-self g c).After-resume).serving
+pub invariant_of-self-2 : goal.invariant_of-self-2
+invariant_of-self-2 g c = (turned g (goal.at.invariant_of-self-2 g c).After-resume).serving
 
 pub returns : goal.returns
 returns g c = continues c.self.view_is c.resume.ensures.leads (turned g (goal.at.returns g c).After-resume)

@@ -143,7 +143,7 @@ def test_who_stops_while_others_wait_is_closed(serve):
         assert kept(other) < HAVE_ROOM * 524_288 + 65_536
         before = time.monotonic()
         ask(stream, put(b"set", b"b", value_of(LONGEST)) + b"get b\r\n", STORED + hit(b"b", value_of(LONGEST), 7))
-        assert 8 < time.monotonic() - before < 15
+        assert 8 < time.monotonic() - before < 20
         assert int(told(other)["closed_unread"]) >= 2
     server.process.terminate()
     assert ": stalled\n" in server.errors()

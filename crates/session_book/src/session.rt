@@ -65,7 +65,7 @@ pub struct Session {
     refused_at: Option<u64>,
     /// The bytes of the large message that it sends, for which room is reserved.
     reserved: usize,
-    /// The second at which input came last.
+    /// The second at which input came last, or from which on it may come.
     received_at: u64,
 }
 
@@ -297,6 +297,7 @@ impl Session {
             return false;
         }
         upkeep.ready.take(Task::ReadOn);
+        self.received_at = upkeep.seconds;
         if self.held.is_some() {
             upkeep
                 .ready

@@ -145,9 +145,9 @@ const LARGE: &[u8] = b"set a 0 0 1000000\r\n";
 
 const HAVE_ROOM: u64 = 67;
 
-/// Opens two sessions more than have room, each of which has sent the line of its request.
-fn begin_large(player: &mut Player) -> Result<(), Fail> {
-    for session in 1..=HAVE_ROOM + 2 {
+/// Opens so many sessions, each of which has sent the line of its request.
+fn begin_large(player: &mut Player, count: u64) -> Result<(), Fail> {
+    for session in 1..=count {
         player.book.open(session)?;
         player.feed(session, LARGE)?;
         let _ = player.ask(session)?;
@@ -180,7 +180,7 @@ fn turned(player: &mut Player) -> [Option<u64>; 7] {
 #[test]
 fn large_requests_wait_for_room(rt: HostRuntime) -> Result<(), Fail> {
     let mut player = Player::new(rt.alloc(), Dialect::Lenient(1_048_512), None);
-    let begun = begin_large(&mut player);
+    let begun = begin_large(&mut player, HAVE_ROOM + 2);
     let turned = turned(&mut player);
     drop(player);
     begun?;
@@ -199,7 +199,7 @@ fn large_requests_wait_for_room(rt: HostRuntime) -> Result<(), Fail> {
 
 /// Ten seconds pass, in the last of which the first session sends on. Which have stopped is asked before, after, and when none waits.
 fn stopped(player: &mut Player) -> Result<[Option<u64>; 3], Fail> {
-    begin_large(player)?;
+    begin_large(player, HAVE_ROOM + 2)?;
     for _ in 0..2 {
         player.book.next_to_pause();
     }
@@ -224,5 +224,35 @@ fn who_sends_nothing_for_ten_seconds_while_others_wait_has_stopped(
     let stopped = stopped(&mut player);
     drop(player);
     check_same(&rt, stopped?, [None, Some(2), None], "stopped");
+    Ok(())
+}
+
+/// Twice as many sessions as have room have begun. After ten seconds those that had room are closed, and the others resumed but for one.
+/// Which have stopped is asked then, and ten seconds later.
+fn stopped_late(player: &mut Player) -> Result<[Option<u64>; 2], Fail> {
+    begin_large(player, 2 * HAVE_ROOM + 1)?;
+    for _ in 0..=HAVE_ROOM {
+        player.book.next_to_pause();
+    }
+    for _ in 0..10 {
+        player.book.count_second();
+    }
+    for session in 1..=HAVE_ROOM {
+        player.book.close(session);
+        player.book.next_to_resume(false);
+    }
+    let before = player.book.find_stalled();
+    for _ in 0..10 {
+        player.book.count_second();
+    }
+    Ok([before, player.book.find_stalled()])
+}
+
+#[test]
+fn who_was_paused_has_not_stopped(rt: HostRuntime) -> Result<(), Fail> {
+    let mut player = Player::new(rt.alloc(), Dialect::Lenient(1_048_512), None);
+    let stopped = stopped_late(&mut player);
+    drop(player);
+    check_same(&rt, stopped?, [None, Some(HAVE_ROOM + 1)], "stopped");
     Ok(())
 }

@@ -18,7 +18,6 @@ use Rattle.worker_port.specs.Giving.{IsTraceOf}
 use Rattle.worker.specs.declared.run.WorkerReport.{WorkerReport}
 use Rattle.worker.specs.Reports.{IsReported, HasSaidBye}
 use Rattle.group.specs.declared.start.Finished.{Finished}
-use Rattle.group.specs.declared.start.NotRun.{NotRun}
 use Rattle.group.specs.declared.report.GroupWorker.{GroupWorker}
 use Rattle.group.specs.Headline.{IsHistoryOf}
 
@@ -48,16 +47,11 @@ pub record KeepsStorage {C : Type 0} (told : C → Option (List ℕ)) (leads_to 
   pub bounded : keeps → MayAlwaysForgetNothing end.terms.geometry report.storage_end.history
   pub dated : exact ≡ true → MayStoreAsAsked end.terms.geometry report.storage_end.history
 
--- what a thread leaves that waited for the start `id`: it ran exactly if it was told to begin, and what it left is kept
+-- what a thread leaves that waited for the start `id`: it ran if it was told to begin, and what it left is kept
 pub record IsFinished {T : Type 0} (id : ℕ) (keeps : T → Type 0) (finished : Finished T) : Type 0 where
   pub of_start : finished.told.of ≡ id
   pub did_run : finished.told.value ≡ true → IsSome finished.ran
-  pub did_not : finished.told.value ≡ false → finished.ran ≡ None
   pub kept : IfSome finished.ran keeps
-
--- the group didn't run: the start `id` said to its threads not to begin
-abbrev pub AreCalledOff : ℕ → NotRun → Type 0
-AreCalledOff id refused = (refused.start.value.id ≡ id) × (refused.begins.value ≡ false)
 
 -- the ports of workers 0, 1 and so on, of this exchange, by these terms and in this dialect, at which nothing has happened yet
 abbrev pub ArePortsOf : {P : Type 0} → (P → Option PortTrace) → ExchangeId → Terms → Dialect → List P → Type 0

@@ -5,7 +5,7 @@ ghost use Rattle.group.specs.declared.fault.GroupFault.TheVariants.{NoMemory};
 use std::alloc::AllocError;
 use thiserror::Error;
 
-/// Why a group didn't run. None of its threads began then: no event was taken, and no request was executed.
+/// Why a group didn't run. No event was taken then, and no request was executed.
 #[derive(Clone, Copy, Debug, Error)]
 pub enum GroupFault {
     /// Out of memory, before a thread was started.

@@ -1,9 +1,9 @@
 //! A whole run of a group.
-ghost use Rattle.std.specs.Prelude.{◌≡◌, Some, IsSome, ◌≤◌, List, [], IfOk, IfErr, vec_len, vec_capacity, true, false};
+ghost use Rattle.std.specs.Prelude.{◌≡◌, Some, IsSome, ◌≤◌, List, [], IfOk, vec_len, vec_capacity, true, false};
 ghost use Rattle.proto.specs.declared.terms.Terms.{Terms};
 ghost use Rattle.proto.specs.Cache.{empty_cache};
 ghost use Rattle.exchange.specs.Ends.{AreMade, AreTogether, IsCount};
-ghost use Rattle.group.specs.Threads.{ArePortsOf, AreJoined, AreCalledOff, IsLeftByStorage, StartsEmpty, ends_of, workers_of};
+ghost use Rattle.group.specs.Threads.{ArePortsOf, AreJoined, IsLeftByStorage, StartsEmpty, ends_of, workers_of};
 ghost use Rattle.group.specs.Headline.{IsRun};
 ghost use Rattle.storage_thread.specs.Sides.{IsSameOrigin};
 
@@ -11,7 +11,7 @@ use crate::context::{GroupContext, Runtime};
 use crate::executing::{StorageExecutor, note_unheld};
 use crate::fault::GroupFault;
 use crate::report::{Config, GroupReport, GroupWorker};
-use crate::start::{NotRun, announce_start, call_off};
+use crate::start::announce_start;
 use crate::threads::{WorkerHandle, join_workers, start_storage, start_workers};
 use engine::{Clock, StorageEngine};
 use exchange::{Exchange, StorageEnd, StorageSignals, WorkerEnd, gather};
@@ -94,7 +94,6 @@ fn room_for<'s, P: Port>(alloc: Global, count: usize) -> Result<Room<'s, P>, All
 }
 
 /// Starts a thread for each port, has all threads begin, and joins those of the workers. The ends were made with this storage's end.
-/// If one can't be started, all are told not to begin.
 fn run_workers<'s, P: Port + Send + 's>(
     rt: &'s impl Runtime,
     scope: &'s Scope<'s, &()>,
@@ -104,38 +103,23 @@ fn run_workers<'s, P: Port + Send + 's>(
     ends: Vec<WorkerEnd>,
     end: Snapshot<StorageEnd>,
     room: Room<'s, P>,
-) -> Result<Vec<WorkerReport<P>>, NotRun>
+) -> Result<Vec<WorkerReport<P>>, GroupFault>
     requires ports { ArePortsOf P.told end.value.exchange end.value.terms context.now.config.dialect ports.items }
     requires made { AreMade (vec_len ports) end.value.terms ends.items end.value }
     requires handles { (room.handles.items ≡ []) × (vec_len ports ≤ vec_capacity room.handles) }
     requires reports { (room.reports.items ≡ []) × (vec_len ports ≤ vec_capacity room.reports) }
     ensures joined { IfOk result (λ reports. AreJoined P.told P.leads_to end.value.terms end.value ports.items
         reports.items) }
-    ensures off { IfErr result (AreCalledOff context.now.start.now.id) }
 {
     let Room { handles, reports } = room;
     let started = start_workers(rt, scope, context, executor, ports, ends, handles);
+    // The threads that were started are told not to begin if one wasn't.
     let told = announce_start(rt, context.start, started.is_ok());
-    match started {
-        Ok(handles) => Ok(join_workers(rt, &told, handles, reports)),
-        Err(fault) => Err(NotRun::of(context.start, &told, fault)),
+    let handles = started?;
+    if !*context.start.value(&told) {
+        return Err(GroupFault::NoThread);
     }
-}
-
-/// Makes all room that joining needs, and starts the storage thread.
-fn prepare<'s, P: Port, T: Serve + Send + 's>(
-    rt: &'s impl Runtime,
-    scope: &'s Scope<'s, &()>,
-    context: &'s GroupContext<'s, impl Sync>,
-    shared: &'s SharedStorage<T>,
-    count: usize,
-) -> Result<Room<'s, P>, GroupFault>
-    ensures handles { IfOk result (λ r. (r.handles.items ≡ []) × (count ≤ vec_capacity r.handles)) }
-    ensures reports { IfOk result (λ r. (r.reports.items ≡ []) × (count ≤ vec_capacity r.reports)) }
-{
-    let room = room_for(context.alloc, count)?;
-    start_storage(rt, scope, context, shared)?;
-    Ok(room)
+    Ok(join_workers(rt, &told, handles, reports))
 }
 
 /// Makes all room that joining needs, starts the storage thread, and runs the workers.
@@ -148,29 +132,15 @@ fn run_in<'s, P: Port + Send + 's, T: Serve + Send + 's>(
     ports: Vec<P>,
     ends: Vec<WorkerEnd>,
     end: Snapshot<StorageEnd>,
-) -> Result<Vec<WorkerReport<P>>, NotRun>
+) -> Result<Vec<WorkerReport<P>>, GroupFault>
     requires ports { ArePortsOf P.told end.value.exchange end.value.terms context.now.config.dialect ports.items }
     requires made { AreMade (vec_len ports) end.value.terms ends.items end.value }
     ensures joined { IfOk result (λ reports. AreJoined P.told P.leads_to end.value.terms end.value ports.items
         reports.items) }
-    ensures off { IfErr result (AreCalledOff context.now.start.now.id) }
 {
-    match prepare(rt, scope, context, shared, ports.len()) {
-        Ok(room) => run_workers(rt, scope, context, executor, ports, ends, end, room),
-        Err(fault) => Err(call_off(rt, context.start, fault)),
-    }
-}
-
-/// Lists with room for what the group says of each worker, and for the ends.
-fn lists_for<P: Port>(
-    alloc: Global,
-    count: usize,
-) -> Result<(Vec<GroupWorker<P>>, Vec<WorkerEnd>), AllocError>
-    ensures workers { IfOk result (λ lists. (lists.0.items ≡ []) × (count ≤ vec_capacity lists.0)) }
-    ensures ends { IfOk result (λ lists. (lists.1.items ≡ []) × (count ≤ vec_capacity lists.1)) }
-{
-    let workers = Vec::with_capacity(alloc, count)?;
-    Ok((workers, Vec::with_capacity(alloc, count)?))
+    let room = room_for(context.alloc, ports.len())?;
+    start_storage(rt, scope, context, shared)?;
+    run_workers(rt, scope, context, executor, ports, ends, end, room)
 }
 
 /// Runs a group whose storage side began with what stands in the lock of this id.
@@ -184,7 +154,6 @@ fn run_named<
 >(
     rt: &R,
     alloc: Global,
-    start: &OnceLock<bool>,
     ports: Vec<P>,
     ends: Vec<WorkerEnd>,
     end: Snapshot<StorageEnd>,
@@ -193,7 +162,7 @@ fn run_named<
     config: Config,
     gate: &G,
     signals: &StorageSignals,
-) -> Result<GroupReport<P, C>, NotRun>
+) -> Result<GroupReport<P, C>, GroupFault>
     requires id { origin.now.of ≡ J.id }
     requires origin { IsSameOrigin side.origin origin.now.value }
     requires end { end.value ≡ origin.now.value.end.value }
@@ -203,14 +172,13 @@ fn run_named<
     ensures run { IfOk result (λ report. IsRun P.told P.leads_to C.told C.leads_to
         (E.keeps origin.now.value.store.value []) (E.is_exact origin.now.value.store.value) E.may_refuse
         end.value.terms.geometry ports.items origin.now.value.clock.value report) }
-    ensures off { IfErr result (AreCalledOff start.now.id) }
 {
-    let Ok((workers, gathered)) = lists_for(alloc, ports.len()) else {
-        return Err(call_off(rt, start, GroupFault::NoMemory));
-    };
+    let workers = Vec::with_capacity(alloc, ports.len())?;
+    let gathered = Vec::with_capacity(alloc, ports.len())?;
+    let start = OnceLock::new();
     let group = GroupContext {
         alloc,
-        start,
+        start: &start,
         config,
         gate,
         signals,
@@ -236,22 +204,20 @@ fn run_threads<P: Port + Send, T: Serve + Send, X: Executor + Sync, G: Gate + Sy
     ports: Vec<P>,
     ends: Vec<WorkerEnd>,
     end: Snapshot<StorageEnd>,
-) -> Result<Vec<WorkerReport<P>>, NotRun>
+) -> Result<Vec<WorkerReport<P>>, GroupFault>
     requires ports { ArePortsOf P.told end.value.exchange end.value.terms context.now.config.dialect ports.items }
     requires made { AreMade (vec_len ports) end.value.terms ends.items end.value }
     ensures joined { IfOk result (λ reports. AreJoined P.told P.leads_to end.value.terms end.value ports.items
         reports.items) }
-    ensures off { IfErr result (AreCalledOff context.now.start.now.id) }
 {
     thread::scope(
         thread::scope_env(),
         rt,
-        move |scope| -> Result<Vec<WorkerReport<P>>, NotRun>
+        move |scope| -> Result<Vec<WorkerReport<P>>, GroupFault>
             requires ports { ArePortsOf P.told end.value.exchange end.value.terms context.now.config.dialect ports.items }
             requires made { AreMade (vec_len ports) end.value.terms ends.items end.value }
             ensures joined { IfOk result (λ reports. AreJoined P.told P.leads_to end.value.terms end.value ports.items
                 reports.items) }
-            ensures off { IfErr result (AreCalledOff context.now.start.now.id) }
         { run_in(rt, scope, context, executor, shared, ports, ends, end) },
     )
 }
@@ -264,8 +230,8 @@ fn run_threads<P: Port + Send, T: Serve + Send, X: Executor + Sync, G: Gate + Sy
 /// # Errors
 ///
 /// NoMemory if out of memory at the start, where all room for joining and gathering is made too; NoThread
-/// if a thread couldn't be started. After each fault the threads that were started were told not to begin, and have ended: no event
-/// was taken and no request executed; ports, store and clock are dropped.
+/// if a thread couldn't be started. After both of them the threads that were started have ended, no event was taken
+/// and no request executed; ports, store and clock are dropped.
 pub fn run_group<P: Port + Send, E: StorageEngine + Drop + Send, C: Clock + Send>(
     rt: &impl Runtime,
     alloc: Global,
@@ -275,7 +241,7 @@ pub fn run_group<P: Port + Send, E: StorageEngine + Drop + Send, C: Clock + Send
     store: E,
     clock: C,
     gate: &(impl Gate + Sync),
-) -> Result<GroupReport<P, C>, NotRun>
+) -> Result<GroupReport<P, C>, GroupFault>
     requires ports { ArePortsOf P.told exchange.id config.terms config.dialect ports.items }
     requires made { (exchange.workers ≡ vec_len ports) × (exchange.terms ≡ config.terms) }
     requires empty { (E.cache store ≡ empty_cache 0) × (E.moment store ≡ 0) }
@@ -285,23 +251,18 @@ pub fn run_group<P: Port + Send, E: StorageEngine + Drop + Send, C: Clock + Send
     requires unasked { IsSome (C.start clock) → C.told clock ≡ Some [] }
     ensures run { IfOk result (λ report. IsRun P.told P.leads_to C.told C.leads_to (E.keeps store []) (E.is_exact store)
         E.may_refuse (E.sizes store) ports.items clock report) }
-    ensures none_began { IfErr result (λ refused. refused.begins.value ≡ false) }
 {
-    let start = OnceLock::new();
-    let (hasher, count) = (store.key_hasher(), exchange.workers());
-    let Ok(signals) = StorageSignals::new(alloc, hasher, count, config.spin) else {
-        return Err(call_off(rt, &start, GroupFault::NoMemory));
-    };
+    let signals = StorageSignals::new(alloc, store.key_hasher(), exchange.workers(), config.spin)?;
     let (ends, storage_end) = exchange.into_ends();
     let end = Snapshot::of(&storage_end);
     let lock = OnceLock::new();
     // The lock is new, and no other thread knows it.
     let Ok(origin) = lock.try_set(Origin::of(&store, &clock, &storage_end)) else {
-        return Err(call_off(rt, &start, GroupFault::NotNew));
+        return Err(GroupFault::NotNew);
     };
     let side = StorageSide::new(rt, store, clock, storage_end);
     note_unheld(&signals, config.storage);
     run_named::<P, E, C, _, _, Brand>(
-        rt, alloc, &start, ports, ends, end, side, &origin, config, gate, &signals,
+        rt, alloc, ports, ends, end, side, &origin, config, gate, &signals,
     )
 }

@@ -8,7 +8,7 @@ use crate::counters::{Counters, SteadyClock};
 use crate::quiet_port::QuietPort;
 use crate::served::{Outcome, Session, outcome_of};
 use exchange::{Exchange, MakeFault};
-use group::{Config, GroupFault, GroupReport, NotRun, run_group};
+use group::{Config, GroupFault, GroupReport, run_group};
 use proto::{Dialect, Geometry, Storage, Terms};
 use segcache::Store;
 use std::alloc::Global;
@@ -63,7 +63,7 @@ fn ports(alloc: Global, counters: &Counters) -> Option<Vec<QuietPort<'_>>> {
 
 /// What a run came to. A fault is allowed before anything was taken or executed.
 fn judged(
-    ran: Result<GroupReport<QuietPort<'_>, SteadyClock<'_>>, NotRun>,
+    ran: Result<GroupReport<QuietPort<'_>, SteadyClock<'_>>, GroupFault>,
     counters: &Counters,
 ) -> Outcome {
     match ran {
@@ -73,10 +73,8 @@ fn judged(
             }
             _ => Outcome::Wrong,
         },
-        Err(refused) => match refused.fault {
-            GroupFault::NoMemory | GroupFault::NoThread if counters.are_zero() => Outcome::Allowed,
-            _ => Outcome::Wrong,
-        },
+        Err(GroupFault::NoMemory | GroupFault::NoThread) if counters.are_zero() => Outcome::Allowed,
+        Err(_) => Outcome::Wrong,
     }
 }
 

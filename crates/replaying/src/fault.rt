@@ -5,7 +5,7 @@ ghost use Rattle.replaying.specs.declared.fault.Fault.TheVariants.{BadSizes, NoM
 
 use command_line::BadSizes;
 use exchange::MakeFault;
-use group::{GroupFault, NotRun};
+use group::GroupFault;
 use proto::NoMemory;
 use script::ScriptFault;
 use std::alloc::AllocError;
@@ -58,11 +58,11 @@ impl From<AllocError> for Fault {
     }
 }
 
-impl From<NotRun> for Fault {
-    ghost from_gives = { λ error fault. fault ≡ Group error.fault };
+impl From<GroupFault> for Fault {
+    ghost from_gives = { λ error fault. fault ≡ Group error };
 
-    fn from(refused: NotRun) -> Fault {
-        Fault::Group(refused.fault)
+    fn from(fault: GroupFault) -> Fault {
+        Fault::Group(fault)
     }
 }
 

@@ -6,7 +6,7 @@ ghost use Rattle.serving.specs.Statuses.{fault_status};
 
 use command_line::BadSizes;
 use exchange::MakeFault;
-use group::{GroupFault, NotRun};
+use group::GroupFault;
 use net::NetFault;
 use proto::NoMemory;
 use std::alloc::AllocError;
@@ -76,11 +76,11 @@ impl From<AllocError> for Fault {
     }
 }
 
-impl From<NotRun> for Fault {
-    ghost from_gives = { λ error fault. fault ≡ Group error.fault };
+impl From<GroupFault> for Fault {
+    ghost from_gives = { λ error fault. fault ≡ Group error };
 
-    fn from(refused: NotRun) -> Fault {
-        Fault::Group(refused.fault)
+    fn from(fault: GroupFault) -> Fault {
+        Fault::Group(fault)
     }
 }
 

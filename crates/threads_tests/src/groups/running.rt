@@ -79,8 +79,7 @@ where
         storage,
     };
     let exchange = Exchange::new(alloc, ports.len(), config.terms).expect(rt, "an exchange");
-    let ran = run_group(rt, alloc, ports, exchange, config, store, clock, gate);
-    ran.map_err(|refused| refused.fault).expect(rt, "a run")
+    run_group(rt, alloc, ports, exchange, config, store, clock, gate).expect(rt, "a run")
 }
 
 /// Each worker's session 1 was given the whole output for its key, and was open until the port ended.

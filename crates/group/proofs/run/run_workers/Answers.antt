@@ -1,5 +1,4 @@
-use Rattle.std.proofs.Common.{refl, sym, ap, ◌∙◌}
-use Rattle.std.specs.Prelude.{is_ok}
+use Rattle.std.proofs.Common.{refl, sym, ◌∙◌}
 use Rattle.group.proofs.Runs.{fresh_ends, joined, ports_at}
 use Rattle.group.proofs.run.run_workers.Goals as goal
 
@@ -13,20 +12,18 @@ start_workers-started-requires-clause-ports g c κs within =
     c.args.ends.items c.args.end.value c.requires.made (sym c.args.ports.ok.0) c.requires.ports
 
 pub join_workers-requires-clause-began : goal.join_workers-requires-clause-began
-join_workers-requires-clause-began g c = (
-  λ k d low. c.announce_start-told.ensures.of ∙ sym (c.in-Ok.ensures.start k d low),
-  c.announce_start-told.ensures.said ∙ c.is_ok.ensures.value ∙ ap is_ok c.in-Ok.is,
-)
+join_workers-requires-clause-began g c =
+    let start = rw c.in_ok-handles.was at c.start_workers-started.ensures.start in (
+      λ k d low. c.announce_start-told.ensures ∙ sym (start k d low),
+      sym c.value.ensures ∙ c.if-not-value.false,
+    )
 
-pub of-requires : goal.of-requires
-of-requires g c = (
-  c.announce_start-told.ensures.of,
-  c.announce_start-told.ensures.said ∙ c.is_ok.ensures.value ∙ ap is_ok c.in-Err.is,
-)
-
-pub returns-in-Ok-clause-joined : goal.returns-in-Ok-clause-joined
-returns-in-Ok-clause-joined g c =
+pub returns : goal.returns
+returns g c =
     let end = c.args.end.value in
-    joined g.P.Port.told g.P.Port.leads_to (λ h. h.promise.port.value) (λ h. h.promise.end.value) _ end.terms _ end
-    end c.requires.made refl c.args.ports.items c.in-Ok.handles.items
-    c.join_workers.result.items c.in-Ok.ensures.ports c.in-Ok.ensures.ends c.join_workers.ensures
+    record {
+      joined = joined g.P.Port.told g.P.Port.leads_to (λ h. h.promise.port.value) (λ h. h.promise.end.value) _ end.terms _ end
+          end c.requires.made refl c.args.ports.items c.in_ok-handles.handles.items
+          c.join_workers.result.items (rw c.in_ok-handles.was at c.start_workers-started.ensures.ports)
+          (rw c.in_ok-handles.was at c.start_workers-started.ensures.ends) c.join_workers.ensures;
+    }

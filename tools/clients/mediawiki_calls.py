@@ -93,8 +93,10 @@ def main():
     calls.check("delete", lambda: (client.delete(key), client.delete(key), client.get(key)), (True, True, None))
     calls.check("touch", lambda: client.touch(other, 60), True)
     calls.check("after_touch", lambda: client.get(other), 0)
-    calls.check("large", lambda: client.store(b"set", other, b"z" * 200_000), False)
-    calls.check("after_large", lambda: (client.get(other), client.store(b"set", other, 8), client.get(other)), (0, True, 8))
+    page = b"z" * 900_000
+    calls.check("large", lambda: (client.store(b"set", b"wikidb:page", page), client.get(b"wikidb:page") == page), (True, True))
+    calls.check("too_large", lambda: client.store(b"set", other, b"z" * 1_100_000), False)
+    calls.check("after_too_large", lambda: (client.get(other), client.store(b"set", other, 8), client.get(other)), (0, True, 8))
     calls.report()
 
 

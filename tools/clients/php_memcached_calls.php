@@ -36,6 +36,8 @@ $ketama->setOption(Memcached::OPT_LIBKETAMA_COMPATIBLE, true);
 check('libketama', $ketama->set('ph-k', 'x') && $ketama->get('ph-k') === 'x', true);
 $plain = client();
 $plain->setOption(Memcached::OPT_COMPRESSION, false);
+$page = str_repeat('z', 900000);
+check('large', $plain->set('ph-p', $page) && $plain->get('ph-p') === $page, true);
 check('append', $plain->append('ph-b', '4') && $plain->get('ph-b') === '34', true);
 check('touch', client()->touch('ph-b', 60), true);
 $binary = client();

@@ -21,6 +21,7 @@ def raises(error, call):
 def main():
     make = lambda: Client(("127.0.0.1", int(sys.argv[1])), timeout=10, default_noreply=False)
     client, calls, big = make(), Calls("pymemcache"), b"v" * 8000
+    large = b"v" * 1_000_000
     many = {f"pm-{number}": b"%d" % number for number in range(100)}
     more = {f"a-name-of-24-bytes-{number:05}": b"%d" % number for number in range(1000)}
     calls.check("flush_all", client.flush_all, True)
@@ -40,10 +41,12 @@ def main():
     calls.check("big_and_empty", lambda: (client.set("big", big), make().get("big") == big,
                                           client.set("none", b""), client.get("none")),
                 (True, True, True, b""))
+    calls.check("large", lambda: (make().set("large", large), make().get("large") == large),
+                (True, True))
     calls.check("too_long_a_key", lambda: raises(
         MemcacheIllegalInputError, lambda: client.set("k" * 251, b"x")), True)
     calls.check("too_large_a_value", lambda: raises(
-        MemcacheServerError, lambda: client.set("huge", b"v" * 131_050)), True)
+        MemcacheServerError, lambda: client.set("huge", b"v" * 1_048_500)), True)
     client = make()
     number = client.gets("pm-7")[1]
     calls.check("cas", lambda: (client.cas("pm-7", b"new", number),

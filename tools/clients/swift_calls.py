@@ -17,8 +17,9 @@ def main():
     calls.check("incr", lambda: (ring.incr("sw-n", delta=5), ring.incr("sw-n", delta=37), ring.decr("sw-n", delta=2)), (5, 42, 40))
     calls.check("delete", lambda: (ring.delete("sw-a"), ring.get("sw-a"))[1], None)
     # (a list of shards may be as long)
-    calls.check("large", lambda: (ring.set("sw-t", "z" * 200_000), ring.get("sw-t"))[1], [1, 2])
-    calls.check("after_large", lambda: (ring.set("sw-t", [3]), ring.get("sw-t"))[1], [3])
+    calls.check("large", lambda: (ring.set("sw-l", "z" * 200_000), ring.get("sw-l"))[1], "z" * 200_000)
+    calls.check("too_large", lambda: (ring.set("sw-t", "z" * 1_100_000), ring.get("sw-t"))[1], [1, 2])
+    calls.check("after_too_large", lambda: (ring.set("sw-t", [3]), ring.get("sw-t"))[1], [3])
     calls.report()
 
 

@@ -89,7 +89,9 @@ impl<H: Eprint + Drop> Operator<H> {
     pub(crate) fn may_take(&mut self, most: u64, limit: Option<u64>) {
         let most_mebibytes = mebibytes(most);
         if self.can_write() {
-            let _ = eprintln!(self.rt; "segcached: takes about {most_mebibytes} MiB of memory at most");
+            let _ = eprintln!(self.rt;
+                "segcached: takes about {most_mebibytes} MiB of memory at most"
+            );
         }
         if let Some(limit) = limit {
             if limit < most && self.can_write() {

@@ -45,7 +45,10 @@ fn more_than_block(dialect: Dialect) -> u64 {
 /// What a worker takes for the values of replies on their way, and for one reply above the most output.
 fn answers_of(dialect: Dialect) -> (u64, u64) {
     match dialect {
-        Dialect::Lenient(_) => (40 * MIB + KEYS * more_than_block(dialect), 8 * MIB),
+        Dialect::Lenient(_) => {
+            let more = KEYS.saturating_mul(more_than_block(dialect));
+            (more.saturating_add(40 * MIB), 8 * MIB)
+        }
         Dialect::Strict => (160 * MIB, 128 * MIB),
     }
 }
@@ -53,8 +56,8 @@ fn answers_of(dialect: Dialect) -> (u64, u64) {
 /// What a worker takes for the values of its requests on their way. One of up to 131,072 bytes
 /// stands in up to four times its memory.
 fn requests_of(dialect: Dialect) -> u64 {
-    let value = MAX_BLOCK + more_than_block(dialect) + BESIDE_VALUE;
-    REQUESTS * value.max(4 * MAX_BLOCK)
+    let value = more_than_block(dialect).saturating_add(MAX_BLOCK + BESIDE_VALUE);
+    REQUESTS.saturating_mul(value.max(4 * MAX_BLOCK))
 }
 
 /// What the connections of a worker take beside their output.

@@ -145,8 +145,6 @@ def test_who_stops_while_others_wait_is_closed(serve):
         ask(stream, put(b"set", b"b", value_of(LONGEST)) + b"get b\r\n", STORED + hit(b"b", value_of(LONGEST), 7))
         assert 8 < time.monotonic() - before < 20
         assert int(told(other)["closed_unread"]) >= 2
-    server.process.terminate()
-    assert ": stalled\n" in server.errors()
 
 
 def test_who_sends_slowly_is_waited_for(serve):

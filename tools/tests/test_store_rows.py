@@ -255,7 +255,7 @@ def random_rows(below, longest, left):
 # (and the largest item, if it isn't an eighth of a segment)
 @pytest.mark.parametrize("segment_size, segments, longest, largest", [
     (4096, 8, 484, None), (4096, 8, 100, None), (4096, 9, 0, None), (4096, 23, 484, None), (8192, 8, 996, None),
-    (16384, 11, 2020, None), (65536, 8, 8164, None), (4096, 64, 2020, 2048), (65536, 11, 50_000, 50_032), (1_048_576, 64, 524_256, 524_288),
+    (16384, 11, 2020, None), (65536, 8, 8164, None), (4096, 64, 2020, 2048), (65536, 11, 50_000, 50_032), (1_048_576, 12, 524_256, 524_288),
 ])
 def test_all_that_is_written_within_the_bound_is_found(program, segment_size, segments, longest, largest):
     bound = (segments - 1) * (segment_size - (largest or segment_size // 8))

@@ -43,7 +43,6 @@ def main():
         cache, calls = django.core.cache.caches[kind], Calls(f"django-{kind}")
         many = {f"a-name-of-24-bytes-{n:05}": n for n in range(1000)}
         calls.check("set", lambda: (cache.set("dj-a", "1"), cache.get("dj-a"))[1], "1")
-        calls.check("page_of_140_kB", lambda: (cache.set("dj-p", "z" * 140_000), cache.get("dj-p"))[1], "z" * 140_000)
         calls.check("get_many", lambda: (cache.set_many({"dj-b": 1, "dj-c": 2}), cache.get_many(["dj-b", "dj-no", "dj-c"]))[1], {"dj-b": 1, "dj-c": 2})
         calls.check("incr", lambda: cache.incr("dj-b", 4), 5)
         calls.check("delete", lambda: (cache.delete("dj-c"), cache.get("dj-c"))[1], None)
@@ -52,6 +51,7 @@ def main():
         calls.check("get_many_1000", lambda: (cache.set_many(many), cache.close(), cache.get_many(list(many)))[2], many)
         calls.check("clear", lambda: (cache.clear(), cache.get("dj-a"))[1], None)
         calls.check("touch", lambda: (cache.set("dj-t", "1"), cache.touch("dj-t", 60))[1], True)
+        calls.check("page_of_140_kB", lambda: (cache.set("dj-p", "z" * 140_000), cache.get("dj-p"))[1], "z" * 140_000)
         calls.report()
 
 

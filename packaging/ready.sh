@@ -6,8 +6,8 @@ probe=$(dirname "$0")/examples/probe.sh
 . "$(dirname "$0")/address.sh"
 address_of "$@"
 runs() { [ -z "${MAINPID:-}" ] || kill -0 "$MAINPID" 2>/dev/null; }
-# (the port that port 0 became isn't known here, and a path alone isn't asked)
-[ "$port" = 0 ] || until "$probe" "$host" "$port"; do
+# (the port that port 0 became isn't known here)
+[ ${#at[@]} -eq 0 ] || until "$probe" "${at[@]}"; do
   runs && [ $SECONDS -lt 60 ] || exit 1
   sleep 0.05
 done

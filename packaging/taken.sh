@@ -3,5 +3,9 @@
 # The package calls it before it starts the service. Usage: taken.sh OPTION ..
 . "$(dirname "$0")/address.sh"
 address_of "$@"
-[ "$port" != 0 ] && timeout 2 bash -c 'exec 3<>"/dev/tcp/$0/$1"' "$host" "$port" 2>/dev/null || exit 1
-echo "$host:$port"
+case ${at[*]} in
+  '') exit 1 ;;
+  unix:*) timeout 2 perl -MIO::Socket::UNIX -e 'exit !IO::Socket::UNIX->new(Peer => $ARGV[0])' "${at[0]#unix:}" || exit 1 ;;
+  *) timeout 2 bash -c 'exec 3<>"/dev/tcp/$0/$1"' "${at[@]}" 2>/dev/null || exit 1 ;;
+esac
+(IFS=: && echo "${at[*]}")

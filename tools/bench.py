@@ -24,6 +24,8 @@ program does more, or takes longer.
 import argparse
 import datetime
 import os
+import pathlib
+import re
 import shutil
 import subprocess
 import sys
@@ -33,7 +35,9 @@ import textwrap
 import hot_keys
 import misses
 import speed
-from served import PROGRAM, TOP, Trouble
+from served import PROGRAM, TOP, Trouble, read
+
+PAGE = pathlib.Path(f"{TOP}/docs/PERFORMANCE.md")
 
 
 def say(text):
@@ -42,10 +46,9 @@ def say(text):
 
 def machine():
     """When and on what the figures are taken."""
-    with open("/proc/cpuinfo", encoding="utf-8") as file:
-        models = [line.partition(":")[2].strip() for line in file if line.startswith("model name")]
+    model = re.search(r"^model name\s*: (.*)", read("/proc/cpuinfo"), re.MULTILINE)
     date = datetime.datetime.now(datetime.timezone.utc).date()
-    processors = f"{os.cpu_count()} processors ({models[0] if models else 'unknown'})"
+    processors = f"{os.cpu_count()} processors ({model[1] if model else 'unknown'})"
     ran = subprocess.run(["memcached", "--version"], capture_output=True, text=True, check=False)
     load = f"load before it {os.getloadavg()[0]:.1f}"
     return f"Taken {date}, {processors}, {load}; {ran.stdout.strip()}."
@@ -53,8 +56,7 @@ def machine():
 
 def processor_ticks():
     """What the processors did, in ticks: all, and those that the host gave to other machines."""
-    with open("/proc/stat", encoding="ascii") as file:
-        ticks = [int(it) for it in file.readline().split()[1:9]]
+    ticks = [int(it) for it in read("/proc/stat").splitlines()[0].split()[1:9]]
     return sum(ticks), ticks[7]
 
 
@@ -65,35 +67,22 @@ def taken(measure):
     all_ticks, stolen = (now - then for now, then in zip(processor_ticks(), before))
     share = stolen / max(1, all_ticks)
     parts.append([f"The host took {share:.0%} of the processors' time during the run."])
-    return "\n\n".join("\n".join(wrapped(it)) for it in parts)
-
-
-def wrapped(lines):
-    for line in lines:
-        yield from [line] if line.startswith("|") or not line else textwrap.wrap(line, 100)
+    wrapped = lambda line: line if line.startswith("|") else textwrap.fill(line, 100)
+    return "\n\n".join("\n".join(map(wrapped, part)) for part in parts)
 
 
 def write(mark, text):
     """Puts the text between the marks of this name in docs/PERFORMANCE.md."""
-    path, begin, end = f"{TOP}/docs/PERFORMANCE.md", f"<!-- {mark}: begin -->", f"<!-- {mark}: end -->"
-    with open(path, encoding="utf-8") as file:
-        before, found_begin, rest = file.read().partition(begin)
+    path, begin, end = PAGE, f"<!-- {mark}: begin -->", f"<!-- {mark}: end -->"
+    before, found_begin, rest = read(path).partition(begin)
     _, found_end, after = rest.partition(end)
     if not (found_begin and found_end):
         raise Trouble(f"{path} lacks the marks {begin} and {end}")
-    with open(path, "w", encoding="utf-8") as file:
-        file.write(f"{before}{begin}\n{text}\n{end}{after}")
-
-
-def keep(text):
-    """Puts the text into out/bench.md."""
-    os.makedirs(f"{TOP}/out", exist_ok=True)
-    with open(f"{TOP}/out/bench.md", "w", encoding="utf-8") as file:
-        file.write(text + "\n")
+    path.write_text(f"{before}{begin}\n{text}\n{end}{after}", encoding="utf-8")
 
 
 def speed_parts(load, words):
-    """The table of speed, and two lines after it; a whole run's picture with --write."""
+    """The table of speed, and a second one after it; a whole run's picture with --write."""
     called = {words.against or "memcached": "before" if words.against else "memcached",
               words.program: "now" if words.against else "segcached"}
     names = list(called.values())
@@ -109,7 +98,7 @@ def speed_parts(load, words):
     results = runs.compared((2,) if words.quick else (1, 2, 3), loads)
     parts = [runs.table(results, names)]
     if not words.only:
-        parts.append([speed.pause_line(runs.pauses(), called), speed.idle_line(runs.idle(), called)])
+        parts.append(speed.other_table(runs.pauses(), runs.idle(), called))
     if words.write:
         speed.draw(runs, results, names, f"{TOP}/docs/performance.svg")
     return parts
@@ -128,7 +117,9 @@ def miss_parts(load, words):
     tables = [misses.table(points, results) for points in kinds]
     if words.write:
         misses.draw(results, f"{TOP}/docs/misses.svg")
-        keep("\n\n".join("\n".join(it) for it in tables))
+        kept = pathlib.Path(f"{TOP}/out/bench.md")
+        kept.parent.mkdir(exist_ok=True)
+        kept.write_text("\n\n".join("\n".join(it) for it in tables) + "\n", encoding="utf-8")
         tables = []
     return [*tables, misses.ratios(results), [misses.least_held(results)], lost]
 

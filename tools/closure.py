@@ -14,8 +14,11 @@ The first cells of the page's tables have to name each of these types, each type
 contract's function, that contracts see as another value, and each word of the kit that is cited.
 """
 import argparse
+import functools
 import glob
+import itertools
 import os
+import pathlib
 import re
 import sys
 import textwrap
@@ -39,8 +42,7 @@ class Trouble(Exception):
 
 
 def read(path):
-    with open(path, encoding="utf-8") as file:
-        return file.read()
+    return pathlib.Path(path).read_text(encoding="utf-8")
 
 
 def without_comments(text):
@@ -65,28 +67,25 @@ class Sources:
     """The specs of a tree, read as they are asked for."""
 
     def __init__(self, tree):
-        self.tree, self.files = tree, {}
+        self.tree = tree
 
     def path(self, *parts):
         return os.path.join(self.tree, "crates", *parts)
 
+    @functools.cache
     def spec(self, crate, file):
         """The definitions of a file of specs, by name, its lines, and its imports."""
-        if (crate, file) not in self.files:
-            text = read(self.path(crate, "specs", f"{file.replace('.', '/')}.antt"))
-            lines = text.splitlines()
-            defined, name = {}, None
-            for at, line in enumerate(lines, 1):
-                begins = BEGINNING.match(line)
-                if begins:
-                    name = begins[1]
-                    defined[name] = Definition(crate, file, name, at, at)
-                elif line.startswith(("--", "use ", "pub use ", "pub mod ")):
-                    name = None
-                elif name and line.strip():
-                    defined[name] = defined[name]._replace(last=at)
-            self.files[crate, file] = defined, lines, imports_of(text, "use ")
-        return self.files[crate, file]
+        text = read(self.path(crate, "specs", f"{file.replace('.', '/')}.antt"))
+        defined, name = {}, None
+        for at, line in enumerate(text.splitlines(), 1):
+            if begins := BEGINNING.match(line):
+                name = begins[1]
+                defined[name] = Definition(crate, file, name, at, at)
+            elif line.startswith(("--", "use ", "pub use ", "pub mod ")):
+                name = None
+            elif name and line.strip():
+                defined[name] = defined[name]._replace(last=at)
+        return defined, text.splitlines(), imports_of(text, "use ")
 
     def text_of(self, definition):
         lines = self.spec(definition.crate, definition.file)[1]
@@ -209,12 +208,8 @@ BINDING = {"→": 1, "then": 1, "else": 1, "in": 1, "×": 2, "⊎": 2, "≡": 3,
 
 def depths(line):
     """How many brackets are open at each place of a line."""
-    found, depth = [], 0
-    for mark in line:
-        depth -= mark in ")}]"
-        found.append(depth)
-        depth += mark in "({["
-    return found
+    steps = ((before in "({[") - (mark in ")}]") for before, mark in zip(" " + line, line))
+    return list(itertools.accumulate(steps))
 
 
 def indent_of(line):
@@ -298,8 +293,7 @@ def main():
         page = read(path)
         now, wrong = filled(page, sources)
         if given.contracts == ["fill"]:
-            with open(path, "w", encoding="utf-8") as file:
-                file.write(now)
+            pathlib.Path(path).write_text(now, encoding="utf-8")
         elif now != page:
             wrong.append(f"{PAGE} has not the texts of the sources: tools/closure.py fill")
         print("\n".join(wrong) or counts_of(sources.closure(contracts_of(page))[0]))

@@ -8,6 +8,7 @@ import shutil
 
 import functions
 import prove
+from prove import read, write
 
 PARTS = ("src", "specs", "proofs")
 # The proof of a function that is taken by its contract.
@@ -18,17 +19,6 @@ MOST = 48
 
 class Misplaced(Exception):
     """Why an edit can't be tried."""
-
-
-def read(path):
-    with open(path, encoding="utf-8", errors="replace") as file:
-        return file.read()
-
-
-def write(path, text):
-    os.makedirs(os.path.dirname(path), exist_ok=True)
-    with open(path, "w", encoding="utf-8") as file:
-        file.write(text)
 
 
 @dataclasses.dataclass(frozen=True)

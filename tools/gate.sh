@@ -1,6 +1,6 @@
 #!/usr/bin/env bash
-# The gate. `rt ci` proves every crate, but for what an earlier run on this machine proved of the same files, and runs the
-# tests and the programs. On the processors that it leaves idle each wrong body must be refused by the prover. Then each
+# The gate. `rt ci` proves every crate from nothing, and runs the tests and the programs. On the processors that it leaves
+# idle each wrong body must be refused by the prover, now or in an earlier run on this machine over the same files. Then each
 # growth is refused in turn, and real sockets and real clients are tried against a served program, with nothing beside.
 # Each crate that is proved gets a line with the time so far. What the gate took is left in out/gate_took, too. The last line
 # is 'N passed, M failed'.
@@ -26,7 +26,7 @@ with_progress() {
     printf '%s\n' "$line"
     case $line in
       'rt: '*': its tests are proved') ;;
-      'rt: '*' proved' | 'rt: '*' is kept: '*) proved=$((proved + 1)) ;;
+      'rt: '*' proved') proved=$((proved + 1)) ;;
       *) continue ;;
     esac
     so_far=$(((SECONDS - began) / 60)):$(printf %02d $(((SECONDS - began) % 60)))

@@ -8,10 +8,9 @@ forgotten meanwhile, so the server's segments have to hold all keys.
 """
 import collections
 import random
-import socket
-import sys
-import threading
 import time
+
+from served import Client, together
 
 CLIENTS = 8
 KEYS_AT_A_TIME = 4
@@ -23,72 +22,52 @@ Operation = collections.namedtuple("Operation", "client begin end key verb words
 State = collections.namedtuple("State", "value number newest")
 
 
-class Connection:
-    """A client that waits for each answer."""
+# What stands before the key of a request that shows a value and its number.
+SHOWING = {"gets": b"gets", "gats": b"gats 1000"}
 
-    def __init__(self, port):
-        self.socket = socket.create_connection(("127.0.0.1", port), 30)
-        self.socket.setsockopt(socket.IPPROTO_TCP, socket.TCP_NODELAY, 1)
-        self.file = self.socket.makefile("rb")
 
-    def ask(self, verb, key, words):
-        """The answer as words: of `gets` the value and its number, or nothing."""
-        if verb == "gets":
-            self.socket.sendall(f"gets {key}\r\n".encode())
-            head = self.file.readline().split()
-            if head[0] == b"END":
-                return []
-            value = self.file.read(int(head[3]) + 2)[:-2]
-            self.file.readline()
-            # (memcached leaves spaces after a number that got shorter)
-            return [value.decode().rstrip(), head[4].decode()]
-        if verb in ("set", "add", "replace", "append", "cas"):
-            value, *number = words
-            text = f"{verb} {key} 0 0 {len(value)}{''.join(f' {it}' for it in number)}\r\n{value}\r\n"
-        else:
-            text = " ".join([verb, key, *words]) + "\r\n"
-        self.socket.sendall(text.encode())
-        return self.file.readline().decode().split()
+def ask(client, verb, key, words):
+    """The answer as words: of `gets` and `gats` the value and its number, or nothing."""
+    if verb in SHOWING:
+        found = client.get(key.encode(), SHOWING[verb])
+        # (memcached leaves spaces after a number that got shorter)
+        return [found[0].decode().rstrip(), str(found[1])] if found else []
+    if verb in ("set", "add", "replace", "append", "cas"):
+        value, *number = words
+        tail = "".join(f" {it}" for it in number)
+        return [client.set(key.encode(), value.encode(), verb.encode(), tail.encode()).decode()]
+    return client.ask(" ".join([verb, key, *words]).encode()).decode().split()
 
 
 def choose(chance, told):
     """A verb and its words; `told` is the cas number that this client saw last."""
     value = str(chance.randrange(1000))
-    verbs = ["gets"] * 4 + ["incr"] * 3 + ["add"] * 2 + ["set", "replace", "delete", "decr", "touch", "append"] + ["cas"] * (4 if told else 0)
+    verbs = ["gets"] * 3 + ["gats"] + ["incr"] * 3 + ["add"] * 2 + ["set", "replace", "delete", "decr", "touch", "append"] + ["cas"] * (4 if told else 0)
     verb = chance.choice(verbs)
     # (an append of nothing changes the cas number alone)
-    words = {"gets": [], "delete": [], "incr": [value], "decr": [value], "touch": ["1000"], "append": [""], "cas": [value, told]}
+    words = {"gets": [], "gats": [], "delete": [], "incr": [value], "decr": [value], "touch": ["1000"], "append": [""], "cas": [value, told]}
     return verb, words.get(verb, [value])
 
 
-def run_client(number, port, until, operations, troubles):
-    try:
-        chance, connection, told, count = random.Random(number), Connection(port), {}, 0
-        while time.monotonic() < until:
-            # (all clients go on to further keys at about the same time, since each makes about as many operations)
-            group = count * CLIENTS // (OPERATIONS_OF_KEY * KEYS_AT_A_TIME)
-            key = f"history-{group}-{chance.randrange(KEYS_AT_A_TIME)}"
-            verb, words = choose(chance, told.get(key))
-            begin = time.monotonic_ns()
-            answer = connection.ask(verb, key, words)
-            operations.append(Operation(number, begin, time.monotonic_ns(), key, verb, words, answer))
-            if verb == "gets" and answer:
-                told[key] = answer[1]
-            count += 1
-    except (OSError, ValueError, IndexError) as trouble:
-        troubles.append(f"client {number}: {type(trouble).__name__} {trouble}")
+def run_client(number, server, until):
+    chance, client, told, operations = random.Random(number), Client(server, 30), {}, []
+    while time.monotonic() < until:
+        # (all clients go on to further keys at about the same time, since each makes about as many operations)
+        group = len(operations) * CLIENTS // (OPERATIONS_OF_KEY * KEYS_AT_A_TIME)
+        key = f"history-{group}-{chance.randrange(KEYS_AT_A_TIME)}"
+        verb, words = choose(chance, told.get(key))
+        begin = time.monotonic_ns()
+        answer = ask(client, verb, key, words)
+        operations.append(Operation(number, begin, time.monotonic_ns(), key, verb, words, answer))
+        if verb in SHOWING and answer:
+            told[key] = answer[1]
+    return operations
 
 
-def record(port, seconds):
-    until, operations, troubles = time.monotonic() + seconds, [[] for _ in range(CLIENTS)], []
-    threads = [threading.Thread(target=run_client, args=(it, port, until, operations[it], troubles)) for it in range(CLIENTS)]
-    for thread in threads:
-        thread.start()
-    for thread in threads:
-        thread.join()
-    if troubles:
-        sys.exit(f"histories: {troubles[0]}")
-    return [it for of_client in operations for it in of_client]
+def record(server, seconds):
+    until = time.monotonic() + seconds
+    runs = together(lambda it=it: run_client(it, server, until) for it in range(CLIENTS))
+    return [it for of_client in runs for it in of_client]
 
 
 def next_state(state, operation):
@@ -96,31 +75,30 @@ def next_state(state, operation):
     value, number, newest = state
     verb, words, answer = operation.verb, operation.words, operation.answer
     there = value is not None
-    if verb == "gets":
+    if verb in SHOWING:
         if not there or not answer:
             return state if not there and not answer else None
         told = int(answer[1])
         if answer[0] != value or (number is None and told <= newest) or number not in (None, told):
             return None
         return State(value, told, max(newest, told))
-    if verb == "delete":
-        return State(None, None, newest) if there and answer == ["DELETED"] else state if not there and answer == ["NOT_FOUND"] else None
-    if verb in ("incr", "decr"):
-        if not there:
-            return state if answer == ["NOT_FOUND"] else None
-        counted = str(int(value) + int(words[0]) if verb == "incr" else max(int(value) - int(words[0]), 0))
-        return State(counted, None, newest) if answer == [counted] else None
+    acts = verb == "set" or there != (verb == "add")
+    if there and verb == "cas":
+        acts = number == int(words[-1])
+    if not acts:
+        stores = verb in ("add", "replace", "append")
+        refusal = "NOT_STORED" if stores else "EXISTS" if there and verb == "cas" else "NOT_FOUND"
+        return state if answer == [refusal] else None
     if verb == "touch":
-        return state if answer == ["TOUCHED" if there else "NOT_FOUND"] else None
-    if verb == "append":
-        if not there:
-            return state if answer == ["NOT_STORED"] else None
-        return State(value, None, newest) if answer == ["STORED"] else None
-    stored = {"set": True, "add": not there, "replace": there, "cas": there and number == int(words[-1])}[verb]
-    if stored:
-        return State(words[0], None, newest) if answer == ["STORED"] else None
-    refusal = {"add": "NOT_STORED", "replace": "NOT_STORED", "cas": "EXISTS" if there else "NOT_FOUND"}[verb]
-    return state if answer == [refusal] else None
+        return state if answer == ["TOUCHED"] else None
+    if verb == "delete":
+        after, wanted = None, "DELETED"
+    elif verb in ("incr", "decr"):
+        amount = int(words[0]) if verb == "incr" else -int(words[0])
+        after = wanted = str(max(int(value) + amount, 0))
+    else:
+        after, wanted = value if verb == "append" else words[0], "STORED"
+    return State(after, None, newest) if answer == [wanted] else None
 
 
 def has_order(operations):

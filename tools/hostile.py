@@ -8,7 +8,8 @@ and says a line. Without --long the parts take about three minutes in all; with 
 takes half an hour. Ends with status 0 if nothing was wrong, lost or late.
 """
 import argparse
-import multiprocessing
+import collections
+import contextlib
 import os
 import random
 import re
@@ -18,14 +19,16 @@ import socket
 import subprocess
 import sys
 import tempfile
-import threading
 import time
 import traceback
 
+import histories
 import served
 import waits
-from served import OF_THE_PACKAGE, TOP, NotServing, Trouble, read_to_end, reset
-from standstills import Standstills
+from served import (
+    OF_THE_PACKAGE, TOP, Client, NotServing, Trouble, comes_true, read_till_closed, read_to_end,
+    reset)
+from standstills import Beside, Standstills
 
 PROGRAM = served.PROGRAM
 # The most seconds that six answers to the canary may take.
@@ -36,117 +39,63 @@ def serve(*words, **named):
     return served.Server(PROGRAM, *words, **named)
 
 
-class Client:
-    """A client that waits for each answer."""
-
-    def __init__(self, server, seconds=10):
-        self.socket = server.connect(seconds)
-        self.unread = b""
-
-    def close(self):
-        self.socket.close()
-
-    def send(self, text):
-        self.socket.sendall(text)
-
-    def line(self):
-        while b"\r\n" not in self.unread:
-            self.more()
-        line, _, self.unread = self.unread.partition(b"\r\n")
-        return line
-
-    def more(self):
-        piece = self.socket.recv(65536)
-        if not piece:
-            raise EOFError
-        self.unread += piece
-
-    def ask(self, text):
-        self.send(text + b"\r\n")
-        return self.line()
-
-    def set(self, key, value, verb=b"set", tail=b""):
-        return self.ask(b"%s %s 0 0 %d%s\r\n%s" % (verb, key, len(value), tail, value))
-
-    def get(self, key, verb=b"get"):
-        """The value, or the value and the cas number for `gets`; None if there is none."""
-        self.send(b"%s %s\r\n" % (verb, key))
-        head = self.line()
-        if head == b"END":
-            return None
-        words = head.split(b" ")
-        length = int(words[3])
-        while len(self.unread) < length + 7:
-            self.more()
-        value, rest = self.unread[:length], self.unread[length:]
-        if not rest.startswith(b"\r\nEND\r\n"):
-            raise Trouble(f"after a value came {rest[:20]!r}")
-        self.unread = rest[7:]
-        return (value, int(words[4])) if verb == b"gets" else value
+def must(holds, why):
+    if not holds:
+        raise Trouble(why)
 
 
-class Canary(multiprocessing.Process):
-    """Writes, reads, counts and deletes keys of its own until it is stopped; notes the longest wait, and what was wrong. It has a
-    process of its own: in a thread beside the bad peers it would wait for them too, and that isn't the server's doing."""
+def must_store(client, key, value):
+    answer = client.set(key, value)
+    must(answer == b"STORED", f"a write of {key} was answered {answer!r}")
 
-    def __init__(self, server, pause=0.005):
-        super().__init__(daemon=True)
-        self.server, self.pause = server, pause
-        self.is_over, (self.hears, self.says) = multiprocessing.Event(), multiprocessing.Pipe(False)
-        self.standstills, self.late, self.longest, self.rounds = Standstills(), [], 0.0, 0
 
-    def start(self):
-        self.standstills.start()
-        super().start()
-
-    def run(self):
-        trouble = None
-        try:
-            client = Client(self.server)
-            while not self.is_over.is_set():
-                began = time.monotonic()
-                self.round(client)
-                ended = time.monotonic()
-                if ended - began > LATE:
-                    self.late.append((began, ended))
-                else:
-                    self.longest = max(self.longest, ended - began)
-                self.rounds += 1
-                time.sleep(self.pause)
-            client.close()
-        except (OSError, EOFError, Trouble) as fault:
-            trouble = f"canary: {type(fault).__name__} {fault}"
-        self.says.send((trouble, self.rounds, self.longest, self.late))
-
-    def round(self, client):
-        key, value = b"canary-%d" % (self.rounds % 50), b"value-%d" % self.rounds
+def sing(is_over, server):
+    """What the canary does: the rounds, the longest that is not late, and when the late ones began
+    and ended."""
+    client, rounds, longest, late = Client(server), 0, 0.0, []
+    while not is_over.is_set():
+        key, value = b"canary-%d" % (rounds % 50), b"value-%d" % rounds
+        began = time.monotonic()
         for wanted, got in (
             (b"STORED", client.set(key, value)),
             (value, client.get(key)),
-            (b"STORED", client.set(b"canary-n", b"%d" % self.rounds)),
-            (b"%d" % (self.rounds + 7), client.ask(b"incr canary-n 7")),
+            (b"STORED", client.set(b"canary-n", b"%d" % rounds)),
+            (b"%d" % (rounds + 7), client.ask(b"incr canary-n 7")),
             (b"DELETED", client.ask(b"delete " + key)),
             (None, client.get(key)),
         ):
-            if wanted != got:
-                raise Trouble(f"in round {self.rounds} wanted {wanted!r} and got {got!r}")
+            must(wanted == got, f"in round {rounds} wanted {wanted!r} and got {got!r}")
+        ended = time.monotonic()
+        if ended - began > LATE:
+            late.append((began, ended))
+        else:
+            longest = max(longest, ended - began)
+        rounds += 1
+        time.sleep(0.005)
+    return rounds, longest, late
+
+
+class Canary(Beside):
+    """Writes, reads, counts and deletes keys of its own until it is stopped; notes the longest
+    wait, and what was wrong. It has a process of its own: in a thread beside the bad peers it would
+    wait for them too, and that isn't the server's doing."""
+
+    def __init__(self, server):
+        super().__init__(sing, server)
+        self.standstills = Standstills()
+        self.standstills.start()
+        self.start()
 
     def stop(self):
-        self.is_over.set()
-        if not self.hears.poll(30):
-            raise Trouble("canary: no answer in 30 seconds")
-        trouble, rounds, longest, late = self.hears.recv()
-        self.join()
+        rounds, longest, late = super().stop()
         self.standstills.stop()
-        if trouble:
-            raise Trouble(trouble)
-        excused = []
+        said = f"canary: {rounds} rounds, the longest {longest * 1000:.0f} ms"
         for began, ended in late:
-            still = self.standstills.seconds_in(began, ended)
-            if ended - began - still > LATE:
-                raise Trouble(f"canary: six answers took {ended - began:.2f} seconds, and the machine stood still for {still:.2f}")
-            excused.append(f", once {ended - began:.2f} s of which the machine stood still for {still:.2f}")
-        return f"canary: {rounds} rounds, the longest {longest * 1000:.0f} ms" + "".join(excused)
+            took, still = ended - began, self.standstills.seconds_in(began, ended)
+            once = f"once {took:.2f} s, of which the machine stood still for {still:.2f}"
+            must(took - still <= LATE, f"{said}, {once}")
+            said += f", {once}"
+        return said
 
 
 GOOD = (
@@ -155,7 +104,7 @@ GOOD = (
     b"decr fuzz-3 1 noreply\r\n", b"set fuzz-3 0 0 1 noreply\r\n5\r\n", b"get " + b"k" * 250 + b"\r\n", b"quit\r\n", b"\r\n",
     b"set fuzz-9 0 0 131073\r\n", b"set fuzz-9 0 0 4000\r\n" + b"z" * 4000 + b"\r\n", b"a" * 2047 + b"\r\n", b"version\r\n", b"flush_all 00\r\n",
     b"touch fuzz-1 100\r\n", b"touch fuzz-2 -1 noreply\r\n", b"append fuzz-1 0 0 2\r\n!!\r\n", b"prepend fuzz-3 9 9 1 noreply\r\n1\r\n",
-    b"verbosity 1\r\n", b"cache_memlimit 64 noreply\r\n",
+    b"verbosity 1\r\n", b"cache_memlimit 64 noreply\r\n", b"gat 100 fuzz-1 fuzz-2\r\n", b"gats -1 fuzz-2 noreply\r\n",
 )
 
 
@@ -178,7 +127,7 @@ class Crowd:
 
     def __init__(self, server, most):
         self.server, self.most, self.peers, self.ready = server, most, {}, select.epoll()
-        self.opened = 0
+        self.opened = self.sent = 0
 
     def fill(self):
         while len(self.peers) < self.most:
@@ -193,16 +142,14 @@ class Crowd:
         peer.close()
 
     def send(self, chance):
-        """Bad bytes from forty of them: how many were taken."""
-        sent = 0
+        """Bad bytes from forty of them."""
         for peer in chance.sample(list(self.peers.values()), 40):
             try:
-                sent += peer.send(bad_bytes(chance))
+                self.sent += peer.send(bad_bytes(chance))
             except BlockingIOError:
                 pass
             except OSError:
                 self.drop(peer)
-        return sent
 
     def read(self, chance):
         """Reads what came to some; one in twenty of them goes."""
@@ -215,57 +162,45 @@ class Crowd:
             if not is_open or chance.random() < 0.05:
                 self.drop(peer)
 
-    def close(self):
-        for peer in list(self.peers.values()):
-            self.drop(peer)
-        self.ready.close()
-
 
 def fuzz(is_long):
     """Bad bytes on up to 1,000 connections, beside the canary."""
-    seconds = 1800 if is_long else 60
-    chance = random.Random(20260101)
+    seconds, chance = 1800 if is_long else 60, random.Random(20260101)
     with serve("--workers", "2") as server:
-        canary, crowd, sent = Canary(server), Crowd(server, 1000 if is_long else 300), 0
-        canary.start()
+        canary, crowd = Canary(server), Crowd(server, 1000 if is_long else 300)
         until, settled = time.monotonic() + seconds, None
         while time.monotonic() < until:
             crowd.fill()
-            sent += crowd.send(chance)
+            crowd.send(chance)
             crowd.read(chance)
             if settled is None and time.monotonic() > until - seconds * 0.75:
                 settled = server.kilobytes("VmRSS"), crowd.opened
             server.must_run()
         grown, opened = server.kilobytes("VmRSS") - settled[0], crowd.opened - settled[1]
-        crowd.close()
+        for peer in list(crowd.peers.values()):
+            crowd.drop(peer)
         said = canary.stop()
         # (a session that has gone leaves nothing)
-        if grown > 16 * 1024:
-            raise Trouble(f"memory grew by {grown} kB in the last three quarters, with {opened} sessions; {said}")
-        return f"{sent // 1024} kB of bad bytes, memory grew by {grown} kB with {opened} sessions; {said}"
+        grew = f"memory grew by {grown} kB with {opened} sessions in three quarters of it; {said}"
+        must(grown <= 16 * 1024, grew)
+        return f"{crowd.sent // 1024} kB of bad bytes, {grew}"
 
 
 def bad_peers(is_long):
     """Slow, silent, half-closed and reset peers, and many that come and go, beside the canary."""
     storm = 10000 if is_long else 2000
     with serve("--workers", "2") as server:
-        setup = Client(server)
-        if setup.set(b"big", b"b" * 8000) != b"STORED":
-            raise Trouble("a value of 8,000 bytes wasn't stored")
+        must_store(Client(server), b"big", b"b" * 8000)
         canary = Canary(server)
-        canary.start()
-        stalled = []
         for _ in range(20):
-            peer = server.connect()
-            peer.sendall(b"get big\r\n" * 2000)
-            stalled.append(peer)
-        silent = [server.connect() for _ in range(100)]
+            server.connect().sendall(b"get big\r\n" * 2000)
+        for _ in range(100):
+            server.connect()
         slow = server.connect()
         for byte in b"set slow 0 0 3\r\nabc\r\nget slow\r\n":
             slow.sendall(bytes([byte]))
             time.sleep(0.002)
-        if not slow.recv(100).startswith(b"STORED\r\n"):
-            raise Trouble("a slow writer got another answer")
+        must(slow.recv(100).startswith(b"STORED\r\n"), "a slow writer got another answer")
         for _ in range(storm):
             server.connect().close()
         for text in (b"set cut 0 0 100\r\nabc", b"get big\r\n" * 500, b"get"):
@@ -279,39 +214,29 @@ def bad_peers(is_long):
             peer.shutdown(socket.SHUT_WR)
         for peer in half_closed:
             got = read_to_end(peer)
-            if got != b"VALUE big 0 8000\r\n" + b"b" * 8000 + b"\r\nEND\r\n":
-                raise Trouble(f"a half-closed peer got {len(got)} bytes")
-            peer.close()
+            must(got == b"VALUE big 0 8000\r\n" + b"b" * 8000 + b"\r\nEND\r\n",
+                 f"a half-closed peer got {len(got)} bytes")
         server.must_run()
-        said = canary.stop()
-        for peer in stalled + silent:
-            peer.close()
-        return f"20 that read nothing, 100 silent, {storm} that came and went, 300 reset, 20 half-closed; {said}"
+        said = f"20 that read nothing, 100 silent, {storm} that came and went, 300 reset"
+        return f"{said}, 20 half-closed; {canary.stop()}"
 
 
 def few_descriptors(_):
     """A limit on open files: those beyond aren't served, and the server serves again once there are some."""
     with serve("--workers", "2", limits={resource.RLIMIT_NOFILE: 64}) as server:
-        first = Client(server)
-        crowd = []
-        for _ in range(150):
-            crowd.append(server.connect())
+        first, crowd = Client(server), [server.connect() for _ in range(150)]
         time.sleep(1)
-        if first.set(b"few", b"x") != b"STORED":
-            raise Trouble("a session that was there isn't served at the limit")
+        must_store(first, b"few", b"x")
         for peer in crowd:
             peer.close()
-        until = time.monotonic() + 10
-        while True:
+
+        def is_served():
             try:
-                late = Client(server, 2)
-                if late.get(b"few") == b"x":
-                    break
+                return Client(server, 2).get(b"few") == b"x"
             except (OSError, EOFError):
-                pass
-            if time.monotonic() > until:
-                raise Trouble("nobody is served after the limit was met")
-            time.sleep(0.1)
+                return False
+
+        must(comes_true(is_served), "nobody is served after the limit was met")
         server.must_run()
         return "at 64 open files the others go on, and new ones are served once there are some"
 
@@ -341,31 +266,28 @@ def check_refused(session, got):
     for request, answers in session:
         whole = [it for it in [*answers, REFUSED] if got.startswith(it)]
         if not whole:
-            if any(it.startswith(got) for it in [*answers, REFUSED]):
-                return "a session cut"
-            raise Trouble(f"{request[:20]!r} was answered {got[:60]!r}")
+            is_cut = any(it.startswith(got) for it in [*answers, REFUSED])
+            must(is_cut, f"{request[:20]!r} was answered {got[:60]!r}")
+            return "a session cut"
         was_told |= whole[0] not in answers[:1]
         got = got[len(whole[0]) :]
-    if got:
-        raise Trouble(f"after all answers came {got[:60]!r}")
+    must(not got, f"after all answers came {got[:60]!r}")
     return "a session told" if was_told else "sessions whole"
 
 
 def refused_memory(_):
     """Each request for memory refused in turn, in a served run: sessions may be cut or told so, no wrong answer comes."""
-    ways, refusal = {}, 0
+    ways, refusal = collections.Counter(), 0
     with tempfile.TemporaryDirectory() as folder:
         shim, note = f"{folder}/refuse_nth.so", f"{folder}/note"
         subprocess.run(["gcc", "-O2", "-shared", "-fPIC", "-o", shim, f"{TOP}/tools/refuse_nth.c"], check=True)
         was_met = True
         while was_met:
             refusal += 1
-            environment = {**os.environ, "LD_PRELOAD": shim, "REFUSE_NTH": str(refusal), "REFUSED_FILE": note}
             try:
-                way = one_refusal(environment)
+                ways[one_refusal(LD_PRELOAD=shim, REFUSE_NTH=str(refusal), REFUSED_FILE=note)] += 1
             except Trouble as trouble:
                 raise Trouble(f"request {refusal} for memory refused: {trouble}") from None
-            ways[way] = ways.get(way, 0) + 1
             if was_met := os.path.exists(note):
                 os.remove(note)
     return f"{refusal - 1} requests for memory refused in turn: " + ", ".join(f"{count} with {way}" for way, count in sorted(ways.items()))
@@ -373,22 +295,18 @@ def refused_memory(_):
 
 def answers_to(server, session):
     """What the session was given until it was closed or cut."""
-    got = b""
-    try:
-        with server.connect(30) as peer:
-            peer.sendall(b"".join(request for request, _ in session))
-            while piece := peer.recv(65536):
-                got += piece
-    except (ConnectionResetError, ConnectionRefusedError, BrokenPipeError):
-        pass
-    return got
+    with contextlib.suppress(ConnectionResetError, ConnectionRefusedError, BrokenPipeError):
+        peer = server.connect(30)
+        peer.sendall(b"".join(request for request, _ in session))
+        return read_till_closed(peer)
+    return b""
 
 
-def one_refusal(environment):
+def one_refusal(**variables):
     """How a run of two sessions ended."""
-    found = []
+    found, words = [], "--sessions 2 --workers 1 --segments 8 --segment-size 4096".split()
     try:
-        with serve("--sessions", "2", "--workers", "1", "--segments", "8", "--segment-size", "4096", environment=environment) as server:
+        with serve(*words, environment={**os.environ, **variables}) as server:
             for session in map(refused_session, (b"a", b"b")):
                 found.append(check_refused(session, answers_to(server, session)))
             status, fault = server.wait(30), server.errors()
@@ -406,23 +324,11 @@ def one_refusal(environment):
     return next((it for it in found if it != "sessions whole"), "sessions whole")
 
 
-def together(server, seconds, task):
-    """Runs the task in eight threads, each with its number and a client of its own; the first trouble of any is raised."""
-    troubles = []
-
-    def run(part):
-        try:
-            task(part, Client(server, seconds))
-        except (OSError, EOFError, Trouble) as trouble:
-            troubles.append(f"{type(trouble).__name__} {trouble}")
-
-    threads = [threading.Thread(target=run, args=(part,)) for part in range(8)]
-    for thread in threads:
-        thread.start()
-    for thread in threads:
-        thread.join()
-    if troubles:
-        raise Trouble(troubles[0])
+def eight_at_once(server, seconds, task):
+    """Runs the task eight times at once, each with its number and a client of its own: what they
+    give."""
+    return served.together(lambda part=part: task(part, Client(server, seconds))
+                           for part in range(8))
 
 
 def value_of(key, size):
@@ -433,83 +339,71 @@ def large_use(is_long):
     """The segments filled and overwritten three times by eight clients: what is found is what was written."""
     segments, size = (1024, 20000) if is_long else (64, 4000)
     writes = 3 * segments * 1048576 // size // 8
-    with serve("--workers", "3", "--segment-size", "1048576", "--segments", str(segments)) as server:
-        found = []
 
-        def fill(part, client):
-            chance, hits = random.Random(part), 0
-            for number in range(writes):
-                key = part * 10_000_000 + number
-                if client.set(b"large-%d" % key, value_of(key, size)) != b"STORED":
-                    raise Trouble("a write wasn't stored")
-                if number % 4 == 0:
-                    old = part * 10_000_000 + chance.randrange(number + 1)
-                    value = client.get(b"large-%d" % old)
-                    if value not in (None, value_of(old, size)):
-                        raise Trouble(f"key {old} has another value")
-                    hits += value is not None
-            found.append(hits)
+    def fill(part, client):
+        chance, hits = random.Random(part), 0
+        for number in range(writes):
+            key = part * 10_000_000 + number
+            must_store(client, b"large-%d" % key, value_of(key, size))
+            if number % 4 == 0:
+                old = part * 10_000_000 + chance.randrange(number + 1)
+                value = client.get(b"large-%d" % old)
+                must(value in (None, value_of(old, size)), f"key {old} has another value")
+                hits += value is not None
+        return hits
 
-        together(server, 60, fill)
+    words = "--workers", "3", "--segment-size", "1048576", "--segments", str(segments)
+    with serve(*words) as server:
+        found = sum(eight_at_once(server, 60, fill))
         resident = server.kilobytes("VmRSS")
         # (a 256th of the segments for the marks, at most three slots of 4 bytes an item for the index, and 32 MiB for merges, workers and program)
         most = segments * 1024 * (1 + 1 / 256 + 12 / size) + 32768
-        if resident > most:
-            raise Trouble(f"{resident} kB of memory, and at most {most:.0f} were said")
-        return f"{8 * writes} values of {size} bytes into {segments} MiB, {sum(found)} old ones found and right, {resident // 1024} MiB of memory"
+        must(resident <= most, f"{resident} kB of memory, and at most {most:.0f} were said")
+        return (f"{8 * writes} values of {size} bytes into {segments} MiB, {found} old ones found "
+                f"and right, {resident // 1024} MiB of memory")
 
 
 def shared_counters(is_long):
     """Eight clients count, compare and swap, and add on shared keys: what was acknowledged is what is there."""
     # (the rounds are at most as many, with at most 200 bytes each, as evict nothing from the segments)
     seconds, most = (60, 60_000) if is_long else (10, 30_000)
+
+    def count(part, client):
+        """What was added, the cas numbers that won, and how many keys were added."""
+        number, won, adds = 0, [], 0
+        while time.monotonic() < until and number < most:
+            number += 1
+            client.ask(b"incr sum %d" % (part + 1))
+            value, unique = client.get(b"swapped", b"gets")
+            answer = client.set(b"swapped", b"%d" % (int(value) + 1), b"cas", b" %d" % unique)
+            must(answer in (b"STORED", b"EXISTS"), f"cas answered {answer!r}")
+            won += [unique] * (answer == b"STORED")
+            adds += client.set(b"add-%d" % number, b"x", b"add") == b"STORED"
+        return number * (part + 1), won, adds
+
     with serve("--workers", "3", "--segment-size", "1048576", "--segments", "128") as server:
         setup = Client(server)
         for key in (b"sum", b"swapped"):
             setup.set(key, b"0")
-        added, won, first_adds = [0] * 8, [set() for _ in range(8)], [0] * 8
         until = time.monotonic() + seconds
-
-        def count(part, client):
-            number = 0
-            while time.monotonic() < until and number < most:
-                number += 1
-                client.ask(b"incr sum %d" % (part + 1))
-                added[part] += part + 1
-                value, unique = client.get(b"swapped", b"gets")
-                answer = client.set(b"swapped", b"%d" % (int(value) + 1), b"cas", b" %d" % unique)
-                if answer == b"STORED":
-                    won[part].add(unique)
-                elif answer != b"EXISTS":
-                    raise Trouble(f"cas answered {answer!r}")
-                first_adds[part] += client.set(b"add-%d" % number, b"x", b"add") == b"STORED"
-
-        together(server, 30, count)
+        added, won, adds = zip(*eight_at_once(server, 30, count))
         total, swaps = int(setup.get(b"sum")), int(setup.get(b"swapped"))
-        wins = set().union(*won)
-        if total != sum(added):
-            raise Trouble(f"the counter is {total}, and {sum(added)} were acknowledged")
-        if swaps != len(wins) or len(wins) != sum(len(it) for it in won):
-            raise Trouble(f"{swaps} swaps, {sum(len(it) for it in won)} acknowledged, {len(wins)} different cas numbers")
-        adds = sum(first_adds)
+        added, won, adds = sum(added), sum(won, []), sum(adds)
+        must(total == added, f"the counter is {total}, and {added} were acknowledged")
+        must(swaps == len(won) == len(set(won)),
+             f"{swaps} swaps, {len(won)} acknowledged, {len(set(won))} different cas numbers")
         there = sum(setup.get(b"add-%d" % number) is not None for number in range(1, adds + 2))
-        if there != adds:
-            raise Trouble(f"{adds} adds were acknowledged, and {there} keys are there")
+        must(there == adds, f"{adds} adds were acknowledged, and {there} keys are there")
         return f"a sum of {total}, {swaps} swaps, {adds} adds, all as acknowledged"
 
 
 def press(server, chance):
     """A session that makes the server keep what it sent, or what it is to be answered, until it goes."""
-    peer = server.connect()
-    peer.settimeout(2)
-    try:
-        if chance.random() < 0.5:
-            peer.sendall(b"get pressed\r\n" * 5000)
-        else:
-            peer.sendall(b"set half 0 0 131072\r\n" + b"h" * 131000)
-    except OSError:
-        # (the server may have closed it since memory is out, or reads no more of it)
-        pass
+    peer = server.connect(2)
+    half = b"set half 0 0 131072\r\n" + b"h" * 131000
+    # (the server may have closed it since memory is out, or reads no more of it)
+    with contextlib.suppress(OSError):
+        peer.sendall(b"get pressed\r\n" * 5000 if chance.random() < 0.5 else half)
     return peer
 
 
@@ -518,17 +412,15 @@ def pressed_session(server, number):
     refused = b"SERVER_ERROR out of memory"
     try:
         client = Client(server)
-        with client.socket:
+        with client.stream:
             value = b"value-%d" % number
             stored = client.set(b"key-%d" % number, value)
-            if stored not in (b"STORED", refused):
-                raise Trouble(f"a write was answered {stored!r}")
-            client.send(b"get key-%d\r\n" % number)
-            lines = [client.line()]
+            must(stored in (b"STORED", refused), f"a write was answered {stored!r}")
+            lines = [client.ask(b"get key-%d" % number)]
             while lines[-1] not in (b"END", refused):
                 lines.append(client.line())
-            if lines != [refused] and lines != ([b"VALUE key-%d 0 %d" % (number, len(value)), value] if stored == b"STORED" else []) + [b"END"]:
-                raise Trouble(f"a read was answered {lines!r}")
+            hit = [b"VALUE key-%d 0 %d" % (number, len(value)), value] * (stored == b"STORED")
+            must(lines in ([refused], [*hit, b"END"]), f"a read was answered {lines!r}")
             return stored != refused and lines != [refused]
     except (OSError, EOFError):
         return False
@@ -536,64 +428,50 @@ def pressed_session(server, number):
 
 def little_memory(is_long):
     """A limit on the process's memory (`ulimit -v`) that many sessions run into: no wrong answer, and all are served once they have gone."""
-    chance, spare = random.Random(3), 8 << 20
+    chance, spare, rounds = random.Random(3), 8 << 20, 10 if is_long else 2
     with serve("--workers", "2") as server:
-        setup = Client(server)
-        if setup.set(b"pressed", b"p" * 8000) != b"STORED":
-            raise Trouble("a value of 8,000 bytes wasn't stored")
+        must_store(Client(server), b"pressed", b"p" * 8000)
         most = server.kilobytes("VmSize") * 1024 + spare
         resource.prlimit(server.process.pid, resource.RLIMIT_AS, (most, most))
-        served = tried = 0
-        for _ in range(10 if is_long else 2):
+        outcomes = []
+        for _ in range(rounds):
             peers = [press(server, chance) for _ in range(150)]
-            for _ in range(50):
-                tried += 1
-                served += pressed_session(server, tried)
+            outcomes += [pressed_session(server, len(outcomes) + it) for it in range(50)]
             server.must_run()
             for peer in peers:
                 peer.close()
-            until = time.monotonic() + 30
-            while not pressed_session(server, tried := tried + 1):
-                if time.monotonic() > until:
-                    raise Trouble("nobody is served after those that held the memory have gone")
-                time.sleep(0.1)
-            served += 1
-        return f"{served} of {tried} sessions served beside 150 that held all memory, the others told so or closed; served again afterwards"
+
+            def is_served():
+                outcomes.append(pressed_session(server, len(outcomes)))
+                return outcomes[-1]
+
+            must(comes_true(is_served, 30), "nobody is served once those with the memory have gone")
+        return (f"{sum(outcomes)} of {len(outcomes)} sessions served beside 150 that held all "
+                "memory, the others told so or closed; served again afterwards")
 
 
 def history(is_long):
     """What eight clients were answered on shared keys falls, for each key, into one order that a cache would have; tools/histories.py."""
-    import histories
-
     with serve("--workers", "3", *OF_THE_PACKAGE, "--segments", "64") as server:
-        operations = histories.record(server.port, 60 if is_long else 5)
+        operations = histories.record(server, 60 if is_long else 5)
     wrong, keys, count, at_once = histories.check(operations)
-    if wrong:
-        raise Trouble(f"no order of a cache has what was answered on {', '.join(wrong[:5])}")
+    must(not wrong, f"no order of a cache has what was answered on {', '.join(wrong[:5])}")
     # (the check itself: one answer made wrong, and no order is found)
     place = next(at for at, it in enumerate(operations) if it.verb == "incr" and it.answer[0].isdigit())
     operations[place] = operations[place]._replace(answer=[str(int(operations[place].answer[0]) + 1000000)])
-    if histories.check([it for it in operations if it.key == operations[place].key])[0] != [operations[place].key]:
-        raise Trouble("the check lets a wrong answer pass")
+    of_key = [it for it in operations if it.key == operations[place].key]
+    are_wrong = histories.check(of_key)[0]
+    must(are_wrong == [operations[place].key], "the check lets a wrong answer pass")
     return f"{count} operations of 8 clients on {keys} keys, {at_once} of them beside another on their key: one order for each"
 
 
-def beside(name):
-    """What others wait beside clients that take much: a part of tools/waits.py."""
-    return lambda _: getattr(waits, name)(PROGRAM)
-
-
 PARTS = {
-    "fairness": beside("fairness"),
-    "unread": beside("unread"),
-    "shared_counters": shared_counters,
-    "bad_peers": bad_peers,
-    "few_descriptors": few_descriptors,
-    "history": history,
-    "little_memory": little_memory,
-    "refused_memory": refused_memory,
-    "large_use": large_use,
-    "fuzz": fuzz,
+    # What others wait beside clients that take much: tools/waits.py.
+    "fairness": lambda _: waits.fairness(PROGRAM),
+    "unread": lambda _: waits.unread(PROGRAM),
+    **{it.__name__: it for it in (
+        shared_counters, bad_peers, few_descriptors, history, little_memory, refused_memory,
+        large_use, fuzz)},
 }
 
 

@@ -8,10 +8,10 @@ resident, segcached as many segments as have its bytes.
 """
 import concurrent.futures
 import dataclasses
-import socket
 import time
 
-from misses import MIB, PLAIN, SETTINGS
+import served
+from misses import MIB, PLAIN, SETTINGS, markdown
 from served import Memcached, Server, Trouble
 
 RATE, TICKS_A_SECOND, SECONDS, VALUE = 1_500, 10, 75, b"v" * 1_000
@@ -48,39 +48,22 @@ def servers(flood, program):
         yield Server(program, *sizes, *options, environment=PLAIN)
 
 
-class Client:
+class Client(served.Client):
     """Floods a server with new keys, and uses four keys beside them."""
 
     def __init__(self, server):
-        self.stream = socket.create_connection(("127.0.0.1", server.port), 20)
-        self.answers = self.stream.makefile("rb")
+        super().__init__(server, 20)
         self.written, self.lost, self.until = 0, [0] * len(TTLS), [0.0] * len(TTLS)
-
-    def line(self):
-        got = self.answers.readline()
-        if not got.endswith(b"\r\n"):
-            raise Trouble("the server went away")
-        return got
 
     def use(self, number):
         """Whether a key in use is there."""
         if number == 0:
-            self.stream.sendall(b"incr hot-0 1\r\n")
-            return self.line() != b"NOT_FOUND\r\n"
-        self.stream.sendall(b"get hot-%d\r\n" % number)
-        found = self.line()
-        if found == b"END\r\n":
-            return False
-        self.answers.read(len(VALUE) + 2)
-        if not found.startswith(b"VALUE ") or self.line() != b"END\r\n":
-            raise Trouble(f"get: answered {found!r}")
-        return True
+            return self.ask(b"incr hot-0 1") != b"NOT_FOUND"
+        return self.get(b"hot-%d" % number) is not None
 
     def write(self, number):
         value = b"1000000" if number == 0 else VALUE
-        line = b"set hot-%d 0 %d %d\r\n%s\r\n"
-        self.stream.sendall(line % (number, TTLS[number], len(value), value))
-        if self.line() != b"STORED\r\n":
+        if self.set(b"hot-%d" % number, value, exptime=TTLS[number]) != b"STORED":
             raise Trouble("set: not stored")
         lasts = TTLS[number] - EARLY if TTLS[number] else float("inf")
         self.until[number] = time.monotonic() + lasts
@@ -124,11 +107,9 @@ def losses(program, seconds=SECONDS, floods=FLOODS):
 
 def table(results, seconds=SECONDS):
     """A row for each flood."""
-    heads = [f"{RATE:,} new keys a second, {seconds} seconds", "memcached", *SETTINGS]
-    rows = ["| " + " | ".join(heads) + " |", "|---" * len(heads) + "|"]
+    heads, rows = [f"{RATE:,} new keys a second, {seconds} seconds", "memcached", *SETTINGS], []
     for flood, each in results.items():
         ttls = ", ".join(f"{it:,}" if it else "none" for it in flood.ttls)
         sizes = f"{flood.memory} MiB, segments of {flood.segment_size >> 10} KiB, TTLs {ttls}"
-        cells = [" ".join(map(str, it)) for it in each]
-        rows.append(f"| {sizes} | " + " | ".join(cells) + " |")
-    return rows
+        rows.append([sizes, *(" ".join(map(str, it)) for it in each)])
+    return markdown(heads, rows)

@@ -44,20 +44,16 @@ def sum_of_crate(name):
     return hashlib.sha256(f"{sum_of_tools()} {prove.sum_of_sources(name)} {libraries}".encode()).hexdigest()
 
 
-def forget_old():
-    for path in glob.glob(f"{FOLDER}/*"):
-        with contextlib.suppress(OSError):
-            if time.time() - os.path.getmtime(path) > DAYS * 86400:
-                os.remove(path)
-
-
 class Kept:
     """The edits of a crate that have passed, as empty files. A file's name is a sum of all that the check read, so it never goes stale."""
 
     def __init__(self, name):
         self.name, self.read = name, sum_of_crate(name)
-        os.makedirs(FOLDER, exist_ok=True)
-        forget_old()
+        for path in glob.glob(f"{FOLDER}/*"):
+            # (another run may remove it meanwhile)
+            with contextlib.suppress(OSError):
+                if time.time() - os.path.getmtime(path) > DAYS * 86400:
+                    os.remove(path)
 
     def place(self, edit):
         return f"{FOLDER}/{self.name}-{hashlib.sha256(f'{self.read} {edit.name} {edit.text}'.encode()).hexdigest()}"
@@ -73,5 +69,4 @@ class Kept:
         """Keeps that these passed, if nothing has changed meanwhile of what their check read."""
         if sum_of_crate(self.name) == self.read:
             for it in edits:
-                with open(self.place(it), "w", encoding="utf-8"):
-                    pass
+                prove.write(self.place(it), "")

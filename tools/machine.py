@@ -7,6 +7,7 @@ The logic that the repository is proved with stands in tools/logic.txt, as the l
 other numbers may have the same logic.
 """
 import os
+import pathlib
 import re
 import shutil
 import subprocess
@@ -26,8 +27,7 @@ GROUPS = (
 
 def logic():
     """The logic that the repository is proved with."""
-    with open(LOGIC, encoding="utf-8") as file:
-        return file.read().strip()
+    return pathlib.Path(LOGIC).read_text(encoding="utf-8").strip()
 
 
 def processors():
@@ -36,11 +36,8 @@ def processors():
 
 def number_in(path, word=""):
     """The number after a word at a line's start, or None if there is no such file or no number in it."""
-    try:
-        with open(path, encoding="ascii") as file:
-            found = re.search(rf"^{word}\W*(\d+)", file.read(), re.MULTILINE)
-    except OSError:
-        return None
+    text = pathlib.Path(path).read_text(encoding="ascii") if os.path.exists(path) else ""
+    found = re.search(rf"^{word}\W*(\d+)", text, re.MULTILINE)
     return int(found[1]) if found else None
 
 

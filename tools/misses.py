@@ -233,6 +233,12 @@ def ratio(sides):
     return sides[1].missed / max(sides[0].missed, 1e-9)
 
 
+def markdown(heads, rows):
+    """The lines of a table."""
+    lines = ["| " + " | ".join(it) + " |" for it in [heads, *rows]]
+    return [lines[0], "|---" * len(heads) + "|", *lines[1:]]
+
+
 HEADS = ["Memory (MiB), segments (KiB)", "values (bytes)", "Zipf's exponent",
          "keys (times the memory)", "-m of memcached, segments", "resident (MiB)",
          "missed of 100 reads", "ratio"]
@@ -240,16 +246,15 @@ HEADS = ["Memory (MiB), segments (KiB)", "values (bytes)", "Zipf's exponent",
 
 def table(points, results):
     """A row for each point: both servers' memory and misses."""
-    rows = ["| " + " | ".join(HEADS) + " |", "|---" * len(HEADS) + "|"]
+    rows = []
     for point in points:
         sides = results[point]
         pair = lambda form: ", ".join(map(form, sides))
-        cells = [f"{point.memory}, {point.segment_size >> 10}", f"{point.value:,}",
-                 f"{point.zipf:g}{point.told}", f"{point.keys:,} ({point.times:g})",
-                 pair(lambda it: str(it.size)), pair(lambda it: f"{it.resident:.1f}"),
-                 pair(lambda it: f"{it.missed:.2f}"), f"{ratio(sides):.2f}"]
-        rows.append("| " + " | ".join(cells) + " |")
-    return rows
+        rows.append([f"{point.memory}, {point.segment_size >> 10}", f"{point.value:,}",
+                     f"{point.zipf:g}{point.told}", f"{point.keys:,} ({point.times:g})",
+                     pair(lambda it: str(it.size)), pair(lambda it: f"{it.resident:.1f}"),
+                     pair(lambda it: f"{it.missed:.2f}"), f"{ratio(sides):.2f}"])
+    return markdown(HEADS, rows)
 
 
 def least_held(results):
@@ -267,13 +272,9 @@ def ratios(results):
         name = f"values of {point.value:,} bytes" if is_plain else f"keys of {point.times:g} times"
         name += ", with TTLs" if point.timed else ""
         kinds.setdefault(name, {}).setdefault(point.setting, []).append(ratio(sides))
-    rows = ["| segcached's misses beside memcached's | " + " | ".join(SETTINGS) + " |",
-            "|---" * (1 + len(SETTINGS)) + "|"]
-    for name, by_setting in kinds.items():
-        cells = [by_setting[it] for it in SETTINGS]
-        said = [f"{min(it):.2f}" + f"–{max(it):.2f}" * (len(it) > 1) for it in cells]
-        rows.append(f"| {name} | " + " | ".join(said) + " |")
-    return rows
+    span = lambda it: f"{min(it):.2f}" + f"–{max(it):.2f}" * (len(it) > 1)
+    rows = [[name, *(span(of[it]) for it in SETTINGS)] for name, of in kinds.items()]
+    return markdown(["segcached's misses beside memcached's", *SETTINGS], rows)
 
 
 def panel(zipf, results, folder):
@@ -286,9 +287,8 @@ def panel(zipf, results, folder):
             for memory in MEMORIES:
                 each = [results[it] for it in by_settings([Point(memory, value, zipf)])]
                 figures = [each[0][0].missed, *(it[1].missed for it in each), *map(ratio, each)]
-                file.write(f"{memory} {' '.join(f'{it:.4f}' for it in figures)}\n")
-        kinds = ["memcached", *SETTINGS]
-        for column, (kind, dashes) in enumerate(zip(kinds, (2, 1, 4)), 2):
+                print(memory, *(f"{it:.4f}" for it in figures), file=file)
+        for column, (kind, dashes) in enumerate(zip(("memcached", *SETTINGS), (2, 1, 4)), 2):
             mark = 6 if kind == "memcached" else 7
             style = (f"with linespoints lw 2 dt {dashes} pt {mark} lc rgb '{colour}'"
                      f" title '{value} bytes, {kind}'")

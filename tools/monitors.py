@@ -10,6 +10,7 @@ import argparse
 import contextlib
 import glob
 import os
+import pathlib
 import re
 import signal
 import subprocess
@@ -17,7 +18,7 @@ import sys
 import tempfile
 import time
 
-from served import OF_THE_PACKAGE, PROGRAM, Server, install
+from served import OF_THE_PACKAGE, PROGRAM, Client, Server, install
 
 PACKAGES = """munin-plugins-extra libcache-memcached-perl collectd-core netdata-plugins-python netdata-core monitoring-plugins-contrib memcached
     libmemcached-tools""".split()
@@ -54,10 +55,12 @@ here:
 """
 
 
-def run(words, seconds=SECONDS, **environment):
-    """The status of a command, None if it was ended after so many seconds, and what it said."""
-    process = subprocess.Popen(words, stdout=subprocess.PIPE, stderr=subprocess.DEVNULL, text=True, errors="replace", start_new_session=True,
-                               env={**os.environ, **environment})
+def run(words, seconds=SECONDS, cwd=None, **environment):
+    """The status of a command, None if it was ended after so many seconds, and what it said. What
+    it didn't end itself is ended with it."""
+    process = subprocess.Popen(
+        words, stdout=subprocess.PIPE, stderr=subprocess.DEVNULL, text=True, errors="replace",
+        start_new_session=True, cwd=cwd, env={**os.environ, **environment})
     try:
         said, _ = process.communicate(timeout=seconds)
         return process.returncode, said
@@ -67,23 +70,17 @@ def run(words, seconds=SECONDS, **environment):
             return None, process.communicate(timeout=10)[0]
         os.killpg(process.pid, signal.SIGKILL)
         return None, process.communicate()[0]
+    finally:
+        with contextlib.suppress(ProcessLookupError):
+            os.killpg(process.pid, signal.SIGKILL)
 
 
 def use(server):
     """A hit and a miss."""
-    with server.connect() as stream:
-        stream.sendall(b"set a 0 0 1\r\nx\r\nget a b\r\n")
-        said = b""
-        while not said.endswith(b"END\r\n"):
-            said += stream.recv(4096)
-
-
-def write(folder, name, text):
-    path = f"{folder}/{name}"
-    os.makedirs(os.path.dirname(path), exist_ok=True)
-    with open(path, "w", encoding="ascii") as file:
-        file.write(text)
-    return path
+    client = Client(server)
+    client.set(b"a", b"x")
+    for key in (b"a", b"b"):
+        client.get(key)
 
 
 def munin(server, folder):
@@ -97,7 +94,8 @@ def munin(server, folder):
 
 def collectd(server, folder):
     """It reads each second, and writes a file for each series."""
-    path = write(folder, "collectd.conf", COLLECTD.format(folder=folder, port=server.port))
+    path = pathlib.Path(f"{folder}/collectd.conf")
+    path.write_text(COLLECTD.format(folder=folder, port=server.port), encoding="ascii")
     process = subprocess.Popen(["/usr/sbin/collectd", "-f", "-C", path], stdout=subprocess.DEVNULL, stderr=subprocess.DEVNULL)
     for _ in range(5):
         use(server)
@@ -109,7 +107,9 @@ def collectd(server, folder):
 
 
 def netdata(server, folder):
-    write(folder, "python.d/memcached.conf", NETDATA.format(port=server.port))
+    path = pathlib.Path(f"{folder}/python.d/memcached.conf")
+    path.parent.mkdir()
+    path.write_text(NETDATA.format(port=server.port), encoding="ascii")
     folders = {name: folder for name in ("NETDATA_USER_CONFIG_DIR", "NETDATA_LOCK_DIR", "NETDATA_LIB_DIR")}
     _, said = run(["/usr/lib/netdata/plugins.d/python.d.plugin", "1", "memcached"], 8, **folders)
     charts = set(re.findall(r"^CHART memcached_here\.(\w+)", said, re.MULTILINE))
@@ -122,10 +122,8 @@ def nagios(server, _):
     words = ["/usr/lib/nagios/plugins/check_memcached", "-H", "127.0.0.1", "-p", str(server.port)]
     status, said = run(words)
     yield "check_memcached", status == 0 and said.startswith("OK"), said
-    with server.connect() as stream:
-        stream.sendall(b"get check_memcached\r\n")
-        kept = stream.recv(65536)
-    yield "check_memcached keeps its history", kept.startswith(b"VALUE check_memcached "), kept.decode(errors="replace")
+    kept = Client(server).get(b"check_memcached")
+    yield "check_memcached keeps its history", kept is not None, "there is none"
 
 
 def tools(server, _):

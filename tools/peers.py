@@ -10,17 +10,17 @@ tools/peers/expected lists, each below the sentence of docs/CLIENTS.md or docs/O
 file's form. The last line is 'N passed, M failed as the documents say, K otherwise'.
 """
 import argparse
-import contextlib
 import glob
 import os
+import pathlib
 import re
 import shutil
-import signal
 import subprocess
 import sys
 
 import monitors
-from served import OF_THE_PACKAGE, PROGRAM, TOP, Server, Trouble, install
+from monitors import run
+from served import OF_THE_PACKAGE, PROGRAM, TOP, Server, Trouble, install, read
 
 HERE = f"{TOP}/tools/peers"
 WORK = f"{TOP}/out/peers"
@@ -36,17 +36,6 @@ OF_FAST = """big-value commands flush-all magic malformed namespace noreply nowa
 SECONDS, LIMIT_SECONDS = 120, 150
 
 
-def run(words, seconds=SECONDS, **how):
-    """What a command said; servers that it didn't end are ended with it."""
-    process = subprocess.Popen(words, stdout=subprocess.PIPE, stderr=subprocess.PIPE, text=True, errors="replace", start_new_session=True, **how)
-    try:
-        said, faults = process.communicate(timeout=seconds)
-        return subprocess.CompletedProcess(words, process.returncode, said, faults)
-    finally:
-        with contextlib.suppress(ProcessLookupError):
-            os.killpg(process.pid, signal.SIGKILL)
-
-
 def fetch():
     """The sources, by apt's own lists with `deb` turned into `deb-src`, in a folder of their own."""
     if all(glob.glob(f"{WORK}/{source}_*.orig.tar.*") for source in SOURCES):
@@ -55,12 +44,13 @@ def fetch():
         os.makedirs(f"{WORK}/{folder}", exist_ok=True)
     for path in ["/etc/apt/sources.list", *glob.glob("/etc/apt/sources.list.d/*.list"), *glob.glob("/etc/apt/sources.list.d/*.sources")]:
         if os.path.exists(path):
-            with open(path, encoding="utf-8") as given, open(f"{WORK}/sources.list.d/{os.path.basename(path)}", "w", encoding="utf-8") as made:
-                made.write(re.sub(r"^(Types: *)?deb(?= |$)", r"\1deb-src", given.read(), flags=re.MULTILINE))
+            text = re.sub(r"^(Types: *)?deb(?= |$)", r"\1deb-src", read(path), flags=re.MULTILINE)
+            made = pathlib.Path(f"{WORK}/sources.list.d/{os.path.basename(path)}")
+            made.write_text(text, encoding="utf-8")
     apt = ["apt-get", "-o", "Dir::Etc::SourceList=/dev/null", "-o", f"Dir::Etc::SourceParts={WORK}/sources.list.d"]
     apt += ["-o", f"Dir::State::Lists={WORK}/lists", "-o", "Dir::Cache::pkgcache=", "-o", "Dir::Cache::srcpkgcache="]
     for words in (["update"], ["source", "--tar-only", "--download-only", *SOURCES]):
-        ran = run([*apt, *words], cwd=WORK)
+        ran = subprocess.run([*apt, *words], cwd=WORK, capture_output=True, text=True)
         if ran.returncode:
             raise Trouble(f"apt-get {words[0]} failed: {ran.stderr.strip()[-300:]}")
 
@@ -77,15 +67,11 @@ def unpack(source):
 
 def of_tap(name, words, **how):
     """What a file of tests in perl said: for each number of it, and for its end, whether it passed."""
-    try:
-        said, in_time = run(words, **how).stdout, True
-    except subprocess.TimeoutExpired as late:
-        said = late.stdout or ""
-        said, in_time = said if isinstance(said, str) else said.decode(errors="replace"), False
+    status, said = run(words, SECONDS, **how)
     passed = {int(number): not bad for bad, number in re.findall(r"^(not )?ok (\d+)", said, re.MULTILINE)}
     plan = re.search(r"^1\.\.(\d+)", said, re.MULTILINE)
     passed.update({number: False for number in range(1, int(plan[1]) + 1 if plan else 1) if number not in passed})
-    passed["end"] = plan is not None and in_time
+    passed["end"] = plan is not None and status is not None
     return {f"{name} {number}": holds for number, holds in passed.items()}
 
 
@@ -93,8 +79,8 @@ def memcached(program):
     tests, results = unpack("memcached"), {}
     shutil.copy(f"{HERE}/MemcachedTest.pm", f"{tests}/lib")
     for name in OF_MEMCACHED:
-        environment = {**os.environ, "SEGCACHED": program}
-        results.update(of_tap(f"memcached/{name}.t", ["perl", f"t/{name}.t"], cwd=os.path.dirname(tests), env=environment))
+        how = {"cwd": os.path.dirname(tests), "SEGCACHED": program}
+        results.update(of_tap(f"memcached/{name}.t", ["perl", f"t/{name}.t"], **how))
     return results
 
 
@@ -103,8 +89,8 @@ def fast(program):
     shutil.copy(f"{HERE}/Memd.pm", tests)
     for name in OF_FAST:
         with Server(program, *OF_THE_PACKAGE) as server:
-            environment = {**os.environ, "PORT": str(server.port)}
-            results.update(of_tap(f"fast/{name}.t", ["perl", f"t/{name}.t"], cwd=os.path.dirname(tests), env=environment))
+            how = {"cwd": os.path.dirname(tests), "PORT": str(server.port)}
+            results.update(of_tap(f"fast/{name}.t", ["perl", f"t/{name}.t"], **how))
     return results
 
 
@@ -115,7 +101,7 @@ def pymemcache(program):
         words = ["/usr/bin/python3", "-B", "-m", "pytest", "-p", "no:cacheprovider", "--tb=no", "-rA"]
         # (the package lacks the certificates of the one over TLS)
         words += [OF_PYMEMCACHE, "-k", "not tls", "--server", "127.0.0.1", "--port", str(server.port)]
-        said = run(words, cwd=WORK).stdout
+        _, said = run(words, SECONDS, cwd=WORK)
     for verdict, name in re.findall(r"^(PASSED|FAILED|ERROR) \S+::(\w+)", said, re.MULTILINE):
         results[f"pymemcache/{name}"] = results.get(f"pymemcache/{name}", True) and verdict == "PASSED"
     return results
@@ -126,7 +112,7 @@ def memccapable(program):
     results, name = {}, None
     with Server(program, *OF_THE_PACKAGE) as server:
         words = ["sh", "-c", 'memccapable -h 127.0.0.1 -p "$0" -a -t 5 2>&1', str(server.port)]
-        for line in run(words).stdout.splitlines():
+        for line in run(words, SECONDS)[1].splitlines():
             name = line[6:40].strip().replace(" ", "_") if line.startswith("ascii ") else name
             verdict = re.search(r"\[(pass|FAIL)\]", line)
             if verdict:
@@ -138,7 +124,7 @@ def limits(program):
     """A limit of 100 requests a minute holds, and a TTL ends when it should."""
     with Server(program, *OF_THE_PACKAGE) as server:
         words = ["/usr/bin/python3", "-B", f"{TOP}/tools/clients/ttl_calls.py", str(server.port)]
-        said = run(words, LIMIT_SECONDS).stdout
+        _, said = run(words, LIMIT_SECONDS)
     works = dict(re.findall(r"^(\S+) works:(.*)$", said, re.MULTILINE))
     return {f"limits/{it}": bool(works.get(it, "").strip()) for it in ("Flask-Limiter", "Postfix")}
 
@@ -162,20 +148,16 @@ def numbers_of(word):
 
 def read_expected():
     """By test its sentence; each has to stand in its page."""
-    expected, sentence, pages = {}, None, {}
-    for page in ("CLIENTS", "OPERATIONS"):
-        with open(f"{TOP}/docs/{page}.md", encoding="utf-8") as file:
-            pages[page] = " ".join(file.read().split())
-    with open(f"{HERE}/expected", encoding="utf-8") as file:
-        for line in file:
-            found = re.match(r"(CLIENTS|OPERATIONS): (.+)", line)
-            if found:
-                sentence = found[0]
-                if found[2] not in pages[found[1]]:
-                    raise Trouble(f"docs/{found[1]}.md doesn't say: {found[2]}")
-            elif line.strip() and not line.startswith("#"):
-                name, *numbers = line.split()
-                expected.update({f"{name} {it}" if it else name: sentence for it in (numbers_of(numbers[0]) if numbers else [""])})
+    expected, sentence = {}, None
+    for line in read(f"{HERE}/expected").splitlines():
+        if found := re.match(r"(CLIENTS|OPERATIONS): (.+)", line):
+            sentence = found[0]
+            if found[2] not in " ".join(read(f"{TOP}/docs/{found[1]}.md").split()):
+                raise Trouble(f"docs/{found[1]}.md doesn't say: {found[2]}")
+        elif line.strip() and not line.startswith("#"):
+            name, *numbers = line.split()
+            for it in numbers_of(numbers[0]) if numbers else [""]:
+                expected[f"{name} {it}".rstrip()] = sentence
     return expected
 
 

@@ -12,8 +12,10 @@ all, and none for the others. What is proved stands in out/proofs: after an inte
 goes on from there. What the prover says of each crate stands beside the program, as segcached.log.
 """
 import fcntl
+import functools
 import hashlib
 import os
+import pathlib
 import signal
 import subprocess
 import sys
@@ -37,15 +39,20 @@ EVERY = 0.2
 INTERRUPTED = 130
 
 
+def read(path):
+    return pathlib.Path(path).read_text(encoding="utf-8", errors="replace")
+
+
+def write(path, text):
+    os.makedirs(os.path.dirname(path), exist_ok=True)
+    pathlib.Path(path).write_text(text, encoding="utf-8")
+
+
 def read_lines():
     """The crates of crates.txt, each with all that it uses."""
-    lines = {}
-    with open(f"{TOP}/crates.txt", encoding="utf-8") as file:
-        for line in file:
-            name, colon, below = line.partition("#")[0].partition(":")
-            if colon:
-                lines[name.split()[0]] = below.split()
-    return lines
+    lines = (line.partition("#")[0].partition(":")
+             for line in read(f"{TOP}/crates.txt").splitlines())
+    return {name.split()[0]: below.split() for name, colon, below in lines if colon}
 
 
 def read_crates():
@@ -69,8 +76,7 @@ def files_of(name):
 
 
 def sum_of_file(path):
-    with open(path, "rb") as file:
-        return hashlib.sha256(file.read()).hexdigest()
+    return hashlib.sha256(pathlib.Path(path).read_bytes()).hexdigest()
 
 
 def sum_of_sources(name):
@@ -92,21 +98,12 @@ def record():
 
 
 def is_written(path, text):
-    try:
-        with open(path, encoding="utf-8") as file:
-            return file.read() == text
-    except FileNotFoundError:
-        return False
+    return os.path.exists(path) and read(path) == text
 
 
 def is_kept():
     """Whether the program was built of proved crates, and nothing has changed since."""
     return is_written(f"{PROGRAM}.kept", record())
-
-
-def write(path, text):
-    with open(path, "w", encoding="utf-8") as file:
-        file.write(text)
 
 
 def keep():
@@ -115,26 +112,16 @@ def keep():
 
 def lines_of(name):
     """How many lines a crate has: its proof takes longer the more there are."""
-    lines = 0
-    for path in files_of(name):
-        with open(path, "rb") as file:
-            lines += file.read().count(b"\n")
-    return lines
+    return sum(pathlib.Path(it).read_bytes().count(b"\n") for it in files_of(name))
 
 
 def ways_to_the_top(crates, lines):
     """Of each of these crates the lines of the longest way to one on which none of them stands."""
-    ways = {}
-
+    @functools.cache
     def measure(name):
-        if name not in ways:
-            above = (measure(it) for it in lines if name in crates[it])
-            ways[name] = lines[name] + max(above, default=0)
-        return ways[name]
+        return lines[name] + max((measure(it) for it in lines if name in crates[it]), default=0)
 
-    for name in lines:
-        measure(name)
-    return ways
+    return {name: measure(name) for name in lines}
 
 
 def minutes_and_seconds(seconds):
@@ -205,8 +192,7 @@ class Proof:
 
     def __init__(self, words, name):
         self.name, self.sources, self.record = name, sum_of_sources(name), f"{PROOFS}/{name}.proved"
-        if os.path.exists(self.record):
-            os.remove(self.record)
+        pathlib.Path(self.record).unlink(missing_ok=True)
         with open(log_of(name), "w", encoding="utf-8") as log:
             to = {"stdin": subprocess.DEVNULL, "stdout": log, "stderr": subprocess.STDOUT, "process_group": 0}
             self.ran = subprocess.Popen(words, cwd=f"{TOP}/crates/{name}", **to)
@@ -271,15 +257,11 @@ def prove(interrupts):
         print(f"Interrupted: {progress.proved()} of {progress.all} crates are proved and kept; the next run goes on from there.", flush=True)
         return INTERRUPTED
     if refused:
-        with open(log_of(refused), encoding="utf-8", errors="replace") as log:
-            print(log.read()[-SHOWN:])
+        print(read(log_of(refused))[-SHOWN:])
         print(f"{refused} isn't proved. What the prover said stands in {os.path.relpath(log_of(refused))}.", flush=True)
         return 1
-    with open(f"{PROGRAM}.log", "w", encoding="utf-8") as whole:
-        for name in sorted(names):
-            with open(log_of(name), encoding="utf-8", errors="replace") as log:
-                whole.write(f"== {name}\n{log.read()}")
-        whole.write(f"{len(names)} crates proved\n")
+    logs = "".join(f"== {name}\n{read(log_of(name))}" for name in sorted(names))
+    write(f"{PROGRAM}.log", f"{logs}{len(names)} crates proved\n")
     keep()
     return 0
 

@@ -6,10 +6,9 @@
     tools/proved.py package                      prints the version of the program's package
 
 The record holds for one program, by its sha256, and for one state of the repository's files, by the sum that git gives
-them. Of a crate it has the prover's line, or that of rt, if an earlier run on the machine proved it.
+them. Of a crate it has the prover's line.
 """
 import argparse
-import hashlib
 import os
 import re
 import subprocess
@@ -17,8 +16,8 @@ import sys
 import tempfile
 import time
 
+import prove
 from prove import NAME, PROGRAM, TOP, read_crates, with_those_below
-
 
 # What the record says of a run over the program's crates alone.
 ALONE = ", with no tests and no wrong bodies"
@@ -38,11 +37,6 @@ def output_of(*words, folder=TOP, **variables):
     return ran.stdout.strip()
 
 
-def sum_of_program(program):
-    with open(program, "rb") as file:
-        return hashlib.sha256(file.read()).hexdigest()
-
-
 def sum_of_files():
     """The sum that git gives the repository's files as they stand now, with what isn't committed."""
     with tempfile.TemporaryDirectory() as folder:
@@ -52,12 +46,6 @@ def sum_of_files():
         return output_of("git", "write-tree", **index)
 
 
-def commit_of(files):
-    """The commit whose files have this sum, or the one from which they differ."""
-    at = output_of("git", "rev-parse", "HEAD")
-    return at if files == output_of("git", "rev-parse", "HEAD^{tree}") else f"{at}{CHANGED}"
-
-
 def version_line(program):
     """The first line of `segcached --version`: the name and the number."""
     return output_of(program, "--version").splitlines()[0]
@@ -65,11 +53,8 @@ def version_line(program):
 
 def read_record(program):
     """The record beside a program; empty if there is none."""
-    try:
-        with open(f"{os.path.dirname(program)}/PROVED", encoding="utf-8") as file:
-            lines = file.read().splitlines()
-    except FileNotFoundError:
-        lines = []
+    path = f"{os.path.dirname(program)}/PROVED"
+    lines = prove.read(path).splitlines() if os.path.exists(path) else []
     return dict(line.split(": ", 1) for line in lines if ": " in line)
 
 
@@ -84,14 +69,9 @@ def package_version(number, commit, folder=TOP):
 
 def verdicts_of_log(path):
     """By crate, what a run said of its proof, and after them all its last line."""
-    verdicts, crate = {}, None
-    with open(path, encoding="utf-8", errors="replace") as file:
-        lines = file.read().splitlines()
+    verdicts, crate, lines = {}, None, prove.read(path).splitlines()
     for line in lines:
-        kept = re.match(r"rt: (\w+) is (kept: .*)", line)
-        if kept:
-            verdicts[kept[1]] = kept[2]
-        elif line.startswith("== "):
+        if line.startswith("== "):
             crate = line[3:]
         elif line.startswith("logic=proved ") and crate:
             verdicts.setdefault(crate, line)
@@ -100,33 +80,32 @@ def verdicts_of_log(path):
 
 def write(log, alone):
     crates = read_crates()
-    below = with_those_below(crates, NAME)
-    names = [name for name in crates if name in below]
+    names = [name for name in crates if name in with_those_below(crates, NAME)]
     verdicts, last = verdicts_of_log(log)
-    lacking = [name for name in names if not verdicts.get(name)]
-    if lacking:
-        raise Trouble(f"{lacking[0]} isn't proved")
-    files = sum_of_files()
+    for name in names:
+        if not verdicts.get(name):
+            raise Trouble(f"{name} isn't proved")
+    files, at = sum_of_files(), output_of("git", "rev-parse", "HEAD")
+    changed = "" if files == output_of("git", "rev-parse", "HEAD^{tree}") else CHANGED
     record = [
         version_line(PROGRAM),
-        f"commit: {commit_of(files)}",
+        f"commit: {at}{changed}",
         f"files: {files}",
         f"kit: {output_of('rt', 'version')}",
-        f"program: {sum_of_program(PROGRAM)}",
+        f"program: {prove.sum_of_file(PROGRAM)}",
         f"run: {last}{ALONE if alone else ''}",
         f"proved: {len(names)} crates",
         "",
         *(f"{name}: {verdicts[name]}" for name in names),
     ]
-    with open(f"{os.path.dirname(PROGRAM)}/PROVED", "w", encoding="utf-8") as file:
-        file.writelines(f"{line}\n" for line in record)
+    prove.write(f"{os.path.dirname(PROGRAM)}/PROVED", "".join(f"{line}\n" for line in record))
 
 
 def check(program):
     record = read_record(program)
     if not record or not os.path.exists(program):
         raise Trouble("no program was built with proofs: run tools/build.sh")
-    if record["program"] != sum_of_program(program):
+    if record["program"] != prove.sum_of_file(program):
         raise Trouble("the program isn't the one that was built with proofs: run tools/build.sh")
     if record["files"] != sum_of_files():
         raise Trouble("files have changed since the program was built with proofs: run tools/build.sh")

@@ -20,8 +20,8 @@ import time
 
 import machine
 import prove
+from prove import TOP
 
-TOP = os.path.dirname(os.path.dirname(os.path.abspath(__file__)))
 SCRIPT = "scripts/first.script"
 REQUESTS = b"set a 0 0 1\r\nx\r\nget a\r\n"
 QUIT = b"quit\r\n"
@@ -43,9 +43,8 @@ def say(text=""):
     print(text, flush=True)
 
 
-def show(bytes_):
-    """Shows lines of the protocol."""
-    for line in bytes_.decode().splitlines():
+def show(text):
+    for line in text.splitlines():
         say(f"    {line}")
 
 
@@ -70,9 +69,7 @@ def started(words, **how):
 
 def show_script():
     say(f"The script {SCRIPT}:")
-    with open(SCRIPT, encoding="ascii") as file:
-        for line in file:
-            say(f"    {line.rstrip()}")
+    show(prove.read(SCRIPT))
     say(f"It opens session 1 and sends: {spelled(REQUESTS)}")
     say()
 
@@ -83,7 +80,7 @@ def show_replay(printed):
     say()
     say("Worker 0 gave session 1 these bytes:")
     given = bytes.fromhex(printed.split()[-1]) if printed.split() else b""
-    show(given)
+    show(given.decode())
     say()
     if given != ANSWERS:
         sys.exit("segcached: that is not what the protocol says")
@@ -107,8 +104,7 @@ def note_times(first, whole):
     used = resource.getrusage(resource.RUSAGE_CHILDREN)
     minutes, in_words = (used.ru_utime + used.ru_stime) / 60, prove.minutes_and_seconds
     line = f"make run: the first reply after {in_words(first)}, the proved program after {in_words(whole)}, {minutes:.0f} processor minutes"
-    with open(TIMES, "w", encoding="utf-8") as file:
-        file.write(f"{time.strftime('%Y-%m-%d %H:%M UTC', time.gmtime())}, {line}\n")
+    prove.write(TIMES, f"{time.strftime('%Y-%m-%d %H:%M UTC', time.gmtime())}, {line}\n")
     say(f"{line}.")
 
 
@@ -142,7 +138,7 @@ def serve():
         with socket.create_connection((host, int(port)), timeout=SECONDS) as client, client.makefile("rb") as answers:
             client.sendall(REQUESTS + QUIT)
             read = answers.read()
-        show(read)
+        show(read.decode())
     if read != ANSWERS:
         sys.exit("segcached: that is not what the protocol says")
 

@@ -31,7 +31,7 @@ import argparse
 import collections
 import concurrent.futures
 import contextlib
-import os
+import pathlib
 import re
 import signal
 import socket
@@ -79,10 +79,7 @@ class Script:
 
 
 def read_file(name):
-    if name == "-":
-        return sys.stdin.buffer.read()
-    with open(name, "rb") as file:
-        return file.read()
+    return sys.stdin.buffer.read() if name == "-" else pathlib.Path(name).read_bytes()
 
 
 def run_text(words):
@@ -315,12 +312,9 @@ class Refusals:
 
 def found_program():
     """That of the repository or of the installation to which this tool belongs, or of the path."""
-    here = os.path.dirname(os.path.abspath(__file__))
-    for place in ("../crates/segcached/out/segcached", "../../../../bin/segcached"):
-        path = os.path.normpath(f"{here}/{place}")
-        if os.path.exists(path):
-            return path
-    return "segcached"
+    here = pathlib.Path(__file__).resolve().parent
+    places = here / "../crates/segcached/out/segcached", here / "../../../../bin/segcached"
+    return str(next(filter(pathlib.Path.exists, places), "segcached"))
 
 
 def run_proxy(words, observer):
@@ -341,8 +335,7 @@ def run_record(words):
     run_proxy(words, lambda: Recording(script, answers))
     sys.stdout.write(script.text())
     if words.answers:
-        with open(words.answers, "w", encoding="ascii") as file:
-            file.write(answer_lines(script, answers))
+        pathlib.Path(words.answers).write_text(answer_lines(script, answers), encoding="ascii")
 
 
 def run_refused(words):

@@ -5,8 +5,10 @@
 
 A server listens on a free port of 127.0.0.1 unless it is told another address, and is ended with the block.
 """
+import concurrent.futures
 import contextlib
 import os
+import pathlib
 import re
 import resource
 import signal
@@ -19,16 +21,19 @@ TOP = os.path.dirname(os.path.dirname(os.path.abspath(__file__)))
 PROGRAM = f"{TOP}/crates/segcached/out/segcached"
 
 
+def read(path):
+    return pathlib.Path(path).read_text(encoding="utf-8")
+
+
 def version():
     """The version of the sources."""
-    with open(f"{TOP}/crates/proto/src/version.rt", encoding="utf-8") as file:
-        return re.search(r'VERSION: &str = "([0-9]+\.[0-9]+\.[0-9]+)";', file.read())[1]
+    text = read(f"{TOP}/crates/proto/src/version.rt")
+    return re.search(r'VERSION: &str = "([0-9]+\.[0-9]+\.[0-9]+)";', text)[1]
 
 
 def words_of(file, name):
     """The words of a file's line NAME=WORDS."""
-    with open(f"{TOP}/{file}", encoding="utf-8") as lines:
-        return re.search(rf"^{name}=(.*)$", lines.read(), re.MULTILINE)[1].split()
+    return re.search(rf"^{name}=(.*)$", read(f"{TOP}/{file}"), re.MULTILINE)[1].split()
 
 
 # What the package sets: its options, those with the sizes of segments and items, and the C library's settings.
@@ -43,6 +48,10 @@ class Trouble(Exception):
     """What must not happen did."""
 
 
+class Gone(Trouble, EOFError):
+    """The other end went away."""
+
+
 class NotServing(Trouble):
     """The program ended in place of serving: with this status, and these words on standard error."""
 
@@ -52,7 +61,9 @@ class NotServing(Trouble):
 
 
 class Process:
-    """A process that is ended with the block that uses it."""
+    """A process that is ended with the block that uses it, and may listen at an address."""
+
+    path, host, port = None, "127.0.0.1", 0
 
     def __init__(self, words, environment=None, limits=None, stderr=subprocess.PIPE):
         def begin():
@@ -63,10 +74,24 @@ class Process:
                 resource.setrlimit(what, (most, most))
 
         self.process = subprocess.Popen(words, stdout=subprocess.PIPE, stderr=stderr, text=True, env=environment, preexec_fn=begin)
-        self.was_stopped = False
+        self.was_stopped, self.streams = False, []
+
+    def connect(self, seconds=20, receive_buffer=None):
+        """A connection whose calls wait for at most this number of seconds. It ends with the
+        process, if not before."""
+        of_tcp = socket.AF_INET6 if ":" in self.host else socket.AF_INET
+        stream = socket.socket(socket.AF_UNIX if self.path else of_tcp)
+        self.streams = [it for it in self.streams if it.fileno() >= 0] + [stream]
+        if receive_buffer:
+            stream.setsockopt(socket.SOL_SOCKET, socket.SO_RCVBUF, receive_buffer)
+        stream.settimeout(seconds)
+        stream.connect(self.path or (self.host, self.port))
+        return stream
 
     def stop(self):
         self.was_stopped = True
+        for it in self.streams:
+            it.close()
         self.process.kill()
         self.process.wait()
         for pipe in (self.process.stdout, self.process.stderr):
@@ -86,33 +111,31 @@ class Process:
 
     def kilobytes(self, what):
         """A line of the process's status: VmRSS is what is resident."""
-        with open(f"/proc/{self.process.pid}/status", encoding="ascii") as file:
-            return int(re.search(rf"{what}:\s+(\d+)", file.read())[1])
+        return int(re.search(rf"{what}:\s+(\d+)", read(f"/proc/{self.process.pid}/status"))[1])
 
     def threads(self):
         """The number of each of its threads, by its name."""
-        found, folder = {}, f"/proc/{self.process.pid}/task"
-        for task in os.listdir(folder):
-            with open(f"{folder}/{task}/comm", encoding="ascii") as file:
-                found[file.read().strip()] = int(task)
-        return found
+        folder = f"/proc/{self.process.pid}/task"
+        return {read(f"{folder}/{it}/comm").strip(): int(it) for it in os.listdir(folder)}
 
     def descriptors(self):
-        """How many it has open."""
-        return len(os.listdir(f"/proc/{self.process.pid}/fd"))
+        """How many it has open, but for those of /proc, where it looks for its own times."""
+        folder, count = f"/proc/{self.process.pid}/fd", 0
+        for it in os.listdir(folder):
+            with contextlib.suppress(FileNotFoundError):
+                count += not os.readlink(f"{folder}/{it}").startswith("/proc/")
+        return count
 
     def sleeps(self, thread):
         """How often one of its threads has gone to sleep."""
-        with open(f"/proc/{thread}/status", encoding="ascii") as file:
-            return int(re.search(r"\nvoluntary_ctxt_switches:\s+(\d+)", file.read())[1])
+        text = read(f"/proc/{thread}/status")
+        return int(re.search(r"\nvoluntary_ctxt_switches:\s+(\d+)", text)[1])
 
     def processor_seconds(self):
         """What all its threads have run (the kernel counts nanoseconds there, and ticks elsewhere)."""
-        spent, folder = 0, f"/proc/{self.process.pid}/task"
-        for task in os.listdir(folder):
-            with open(f"{folder}/{task}/schedstat", encoding="ascii") as file:
-                spent += int(file.read().split()[0])
-        return spent / 1e9
+        folder = f"/proc/{self.process.pid}/task"
+        return sum(int(read(f"{folder}/{it}/schedstat").split()[0])
+                   for it in os.listdir(folder)) / 1e9
 
 
 class Server(Process):
@@ -129,19 +152,6 @@ class Server(Process):
             self.stop()
             raise NotServing(status, self.first_line + fault)
         self.path, self.host, self.port = found["path"], (found["host"] or "").strip("[]"), int(found["port"] or 0)
-
-    def connect(self, seconds=20, receive_buffer=None):
-        """A connection whose calls wait for at most this number of seconds."""
-        stream = socket.socket(socket.AF_UNIX if self.path else socket.AF_INET6 if ":" in self.host else socket.AF_INET)
-        if receive_buffer:
-            stream.setsockopt(socket.SOL_SOCKET, socket.SO_RCVBUF, receive_buffer)
-        stream.settimeout(seconds)
-        try:
-            stream.connect(self.path or (self.host, self.port))
-        except OSError:
-            stream.close()
-            raise
-        return stream
 
     def wait(self, seconds=20):
         """The exit status of a server that ends by itself."""
@@ -160,21 +170,53 @@ class Server(Process):
             self.stop()
 
 
+class Client:
+    """A client that waits for each answer."""
+
+    def __init__(self, server, seconds=10):
+        self.stream = server.connect(seconds)
+        self.answers = self.stream.makefile("rb")
+
+    def line(self):
+        line = self.answers.readline()
+        if not line.endswith(b"\r\n"):
+            raise Gone(f"the server went away after {line!r}")
+        return line[:-2]
+
+    def ask(self, text):
+        self.stream.sendall(text + b"\r\n")
+        return self.line()
+
+    def set(self, key, value, verb=b"set", tail=b"", exptime=0):
+        return self.ask(b"%s %s 0 %d %d%s\r\n%s" % (verb, key, exptime, len(value), tail, value))
+
+    def get(self, key, verb=b"get"):
+        """The value, or the value and the cas number for `gets` and `gats`; None if there is none."""
+        head = self.ask(b"%s %s" % (verb, key)).split(b" ")
+        if head == [b"END"]:
+            return None
+        value, end = self.answers.read(int(head[3]) + 2), self.line()
+        if head[:2] != [b"VALUE", key] or value[-2:] != b"\r\n" or end != b"END":
+            raise Trouble(f"{verb} of {key} was answered {head}, and {end!r} after the value")
+        return (value[:-2], int(head[4])) if verb.split()[0] in (b"gets", b"gats") else value[:-2]
+
+
 class OnPort(Process):
     """Another program, whose words say its port: it listens there when this returns."""
 
     def __init__(self, port, words, environment=None):
         super().__init__(words, environment)
         self.port = port
-        until = time.monotonic() + 20
-        while time.monotonic() < until and self.process.poll() is None:
-            try:
-                socket.create_connection(("127.0.0.1", port), 1).close()
-                return
-            except OSError:
-                time.sleep(0.02)
-        self.stop()
-        raise Trouble(f"{words[0]} doesn't listen on port {port}")
+        if not comes_true(self.listens, 20):
+            self.stop()
+            raise Trouble(f"{words[0]} doesn't listen on port {port}")
+
+    def listens(self):
+        """Whether it takes a connection."""
+        with contextlib.suppress(OSError):
+            self.connect(1).close()
+            return True
+        return False
 
 
 class Memcached(OnPort):
@@ -199,6 +241,22 @@ def install(*packages):
         for words in (["update"], ["install", "-y", "--no-install-recommends", *packages]):
             quiet = {**os.environ, "DEBIAN_FRONTEND": "noninteractive"}
             subprocess.run(["apt-get", *words], check=True, stdout=subprocess.DEVNULL, env=quiet)
+
+
+def comes_true(holds, seconds=10):
+    """Whether this holds before so many seconds are over."""
+    until = time.monotonic() + seconds
+    while not (is_true := holds()) and time.monotonic() < until:
+        time.sleep(0.02)
+    return is_true
+
+
+def together(calls):
+    """What these calls give, which run at once, each in a thread of its own. What the first one
+    raised is raised."""
+    calls = list(calls)
+    with concurrent.futures.ThreadPoolExecutor(len(calls)) as pool:
+        return [it.result() for it in [pool.submit(call) for call in calls]]
 
 
 def read_exactly(stream, count):

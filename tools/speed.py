@@ -7,18 +7,19 @@ with its default options, too. A ratio is one of two runs of the same round. Tab
 of the rounds' ratios, for the main figure and the processor time with their quartiles, and '≈' if
 these have 1 between them.
 """
+import collections
+import contextlib
 import dataclasses
 import os
 import random
-import socket
 import statistics
 import subprocess
 import tempfile
 import time
 
+from misses import MIB, markdown
 from served import OPTIONS, TOP, TUNABLES, Memcached, Server, Trouble
 
-MIB = 1 << 20
 # The workers of segcached, and the threads of memcached beside them.
 THREADS = {1: 1, 2: 2, 3: 4}
 # By the bytes of a value: how many segments of 1 MiB there are (room for what is stored), and keys.
@@ -106,22 +107,19 @@ class LoadProgram:
         words = ["gcc", "-O2", "-pthread", "-o", self.path, f"{TOP}/tools/load.c", "-lm"]
         subprocess.run(words, check=True)
 
-    def started(self, server, *words):
-        words, pipe = [self.path, "127.0.0.1", str(server.port), *map(str, words)], subprocess.PIPE
-        return subprocess.Popen(words, stdout=pipe, stderr=pipe, text=True)
+    def words(self, server, words):
+        return [self.path, "127.0.0.1", str(server.port), *map(str, words)]
 
     def run(self, server, *words, seconds=None):
         """The figures of its last line, and the server's processor microseconds a request."""
-        before = server.processor_seconds()
-        with self.started(server, *words) as load:
-            try:
-                said, faults = load.communicate(timeout=seconds)
-            except subprocess.TimeoutExpired:
-                load.kill()
-                raise Trouble(f"no end of {' '.join(load.args)} in {seconds} seconds") from None
-        if load.returncode:
-            raise Trouble(f"{' '.join(load.args)}: {faults.strip()}")
-        parts = (it.partition("=") for it in said.split())
+        before, words = server.processor_seconds(), self.words(server, words)
+        try:
+            ran = subprocess.run(words, capture_output=True, text=True, timeout=seconds)
+        except subprocess.TimeoutExpired:
+            raise Trouble(f"no end of {' '.join(words)} in {seconds} seconds") from None
+        if ran.returncode:
+            raise Trouble(f"{' '.join(words)}: {ran.stderr.strip()}")
+        parts = (it.partition("=") for it in ran.stdout.split())
         figures = {name: float(figure) for name, _, figure in parts}
         spent = server.processor_seconds() - before
         return {**figures, "processor": spent * 1e6 / max(figures["requests"], 1)}
@@ -182,7 +180,8 @@ class Speed:
         seconds = max(self.seconds, 1) if load.has_rate() else self.seconds
         words = ["--seconds", seconds, *load.shape(), *load.words]
         if load.beside:
-            with self.load.started(server, *BESIDE, "--seconds", seconds + 0.2) as beside:
+            asked = self.load.words(server, [*BESIDE, "--seconds", seconds + 0.2])
+            with subprocess.Popen(asked, stdout=subprocess.DEVNULL) as beside:
                 time.sleep(0.1)
                 figures = self.run(server, *words)
                 if beside.wait(120):
@@ -198,21 +197,17 @@ class Speed:
 
     def run_round(self, workers, loads):
         """All loads of a group: by name, the figures of each side."""
-        value, options, beside = loads[0].group()
-        servers = {}
-        try:
+        (value, options, beside), servers = loads[0].group(), {}
+        with contextlib.ExitStack() as until:
             for kind, is_default in self.shuffled(self.sides(loads)):
                 megabytes = 1024 if kind == "memcached" else SEGMENTS[value]
                 chosen = () if is_default else options
-                server = self.started(kind, workers, megabytes, options=chosen)
+                server = until.enter_context(self.started(kind, workers, megabytes, options=chosen))
                 servers[kind, is_default] = server
                 self.run(server, "--fill", "--pipeline", 16, *loads[0].shape())
                 if beside:
                     self.run(server, "--fill", *BESIDE_KEYS)
             return {it.name: self.run_all(servers, it) for it in loads}
-        finally:
-            for it in servers.values():
-                it.stop()
 
     def run_all(self, servers, load):
         sides = [it for it in servers if load.default or not it[1]]
@@ -229,9 +224,9 @@ class Speed:
     def compared(self, sizes, loads):
         """By load and workers, the figures of all rounds."""
         results = {it.name: {size: [] for size in sizes} for it in loads}
-        groups = {}
+        groups = collections.defaultdict(list)
         for it in loads:
-            groups.setdefault(it.group(), []).append(it)
+            groups[it.group()].append(it)
         parts = [(size, some) for size in sizes for some in groups.values()]
         for turn in range(self.rounds):
             for size, some in self.shuffled(parts):
@@ -267,16 +262,16 @@ class Speed:
         sizes = list(next(iter(results.values())))
         heads = ["Load", f"{names[0]}/{names[1]}: 1,000 requests a second, or p50 in us"]
         heads += [*FIGURES.values(), "by default: rate or p50; processor time"]
-        rows = ["| " + " | ".join(heads) + " |", "|---" * len(heads) + "|"]
+        rows = []
         for load in (it for it in LOADS if it.name in results):
             rounds = results[load.name]
-            cells = [self.cells(load, rounds[size]) for size in sizes]
-            lines = " | ".join("<br>".join(filter(None, it)) for it in zip(*cells))
-            rows.append(f"| {load.name}{marks(rounds)} | {lines} |")
+            cells = zip(*(self.cells(load, rounds[size]) for size in sizes))
+            lines = ("<br>".join(filter(None, it)) for it in cells)
+            rows.append([load.name + marks(rounds), *lines])
         many = f"In each cell a line for {', '.join(map(str, sizes))} workers."
         said = [many if len(sizes) > 1 else f"{sizes[0]} workers."]
-        said += [it for mark, it in MARKS.items() if any(mark in row for row in rows)]
-        return [*rows, "", *said]
+        said += [it for mark, it in MARKS.items() if any(mark in row[0] for row in rows)]
+        return [*markdown(heads, rows), "", *said]
 
     def cells(self, load, rounds):
         """The cells of a load with one number of workers."""
@@ -301,14 +296,12 @@ MARKS = {
 
 
 def idle_share(server, seconds=1):
-    peers = [socket.create_connection(("127.0.0.1", server.port), 10) for _ in range(50)]
+    for _ in range(50):
+        server.connect()
     time.sleep(0.3)
     before = server.processor_seconds()
     time.sleep(seconds)
-    spent = server.processor_seconds() - before
-    for peer in peers:
-        peer.close()
-    return spent / seconds
+    return (server.processor_seconds() - before) / seconds
 
 
 def medians(pairs, figure):
@@ -329,19 +322,21 @@ def with_quartiles(numbers):
     return f"{middle:.1f} ({low:.1f}–{high:.1f})"
 
 
-def pause_line(longest, name_of):
-    said = []
+def other_table(longest, shares, name_of):
+    """The longest replies, and what idle servers take."""
+    cells = {kind: [[], f"{with_quartiles([100 * it for it in each])}"]
+             for kind, each in shares.items()}
     for (kind, size), times in longest.items():
         of = "" if kind == "memcached" else f" with segments of {size >> 10} KiB"
-        said.append(f"{name_of[kind]}{of} {with_quartiles(times)}")
-    return ("The longest time to a reply in a run of `set`s on one connection, with "
-            f"{PAUSE_MIB} MiB in use, in ms: {', '.join(said)}.")
-
-
-def idle_line(shares, name_of):
-    said = [f"{name_of[it]} {with_quartiles([100 * one for one in each])}"
-            for it, each in shares.items()]
-    return f"Idle, with 50 connections, in hundredths of a processor: {', '.join(said)}."
+        cells[kind][0].append(with_quartiles(times) + of)
+    rows = [
+        ("longest time to a reply in a run of `set`s on one connection, with "
+         f"{PAUSE_MIB} MiB in use, ms", ["<br>".join(it[0]) for it in cells.values()]),
+        ("idle with 50 connections, hundredths of a processor", [it[1] for it in cells.values()]),
+    ]
+    lines = [f"| Median, with quartiles | {' | '.join(name_of[it] for it in cells)} |",
+             "|---" * (len(cells) + 1) + "|"]
+    return lines + [f"| {name} | {' | '.join(said)} |" for name, said in rows]
 
 
 PICTURE = """

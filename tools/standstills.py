@@ -1,41 +1,91 @@
-"""When a processor of the machine stood still: for tools/hostile.py, and what it runs."""
+"""When a processor of the machine stood still, and calls in processes of their own: for
+tools/hostile.py, and what it runs."""
 import multiprocessing
 import os
 import threading
 import time
 
+from served import Trouble, together
 
-class Standstills(multiprocessing.Process):
-    """Notes when a processor of the machine stood still, as a virtual one does while its host has other work: a thread of each processor
-    sleeps for a hundredth of a second again and again, and notes where it woke so many seconds late."""
 
-    def __init__(self, late=0.1):
-        super().__init__(daemon=True)
-        self.late = late
-        self.is_over, (self.hears, self.says) = multiprocessing.Event(), multiprocessing.Pipe(False)
-        self.noted = []
+class Beside:
+    """A call in a process of its own, which is given an event that says when it is over."""
 
-    def watch(self, processor):
+    def __init__(self, call, *given):
+        self.is_over, (self.hears, says) = multiprocessing.Event(), multiprocessing.Pipe(False)
+
+        def run():
+            try:
+                says.send((call(self.is_over, *given), None))
+            except Exception as fault:  # (who stops it hears of it)
+                says.send((None, f"{type(fault).__name__} {fault}"))
+
+        self.process = multiprocessing.Process(target=run, daemon=True)
+
+    def start(self):
+        self.process.start()
+
+    def stop(self):
+        """What the call gave."""
+        self.is_over.set()
+        if not self.hears.poll(60):
+            raise Trouble("what runs beside doesn't end")
+        said, fault = self.hears.recv()
+        self.process.join()
+        if fault:
+            raise Trouble(fault)
+        return said
+
+
+def note_late(is_over, late, noted):
+    """When this thread, which sleeps for a hundredth of a second again and again, woke so many
+    seconds late."""
+    while not is_over.is_set():
+        began = time.monotonic()
+        time.sleep(0.01)
+        ended = time.monotonic()
+        if ended - began > 0.01 + late:
+            noted.append((began, ended))
+
+
+def watch(is_over, late):
+    """When a thread of some processor woke so many seconds late."""
+    noted = []
+
+    def watch_one(processor):
         os.sched_setaffinity(threading.get_native_id(), {processor})
-        while not self.is_over.is_set():
-            began = time.monotonic()
-            time.sleep(0.01)
-            ended = time.monotonic()
-            if ended - began > 0.01 + self.late:
-                self.noted.append((began, ended))
+        note_late(is_over, late, noted)
 
-    def run(self):
-        threads = [threading.Thread(target=self.watch, args=(processor,)) for processor in os.sched_getaffinity(0)]
-        for thread in threads:
-            thread.start()
-        for thread in threads:
-            thread.join()
-        self.says.send(self.noted)
+    together(lambda it=it: watch_one(it) for it in os.sched_getaffinity(0))
+    return sorted(noted)
+
+
+class OwnStandstills:
+    """Notes when the process that makes this stood still, so that what it timed says nothing."""
+
+    def __init__(self, late):
+        self.is_over, self.noted = threading.Event(), []
+        words = self.is_over, late, self.noted
+        self.thread = threading.Thread(target=note_late, args=words, daemon=True)
+
+    def start(self):
+        self.thread.start()
 
     def stop(self):
         self.is_over.set()
-        self.noted = sorted(self.hears.recv())
-        self.join()
+        self.thread.join()
+
+
+class Standstills(Beside):
+    """Notes when a processor of the machine stood still, as a virtual one does while its host has
+    other work."""
+
+    def __init__(self, late=0.1):
+        super().__init__(watch, late)
+        self.noted = []
+
+    def stop(self):
+        self.noted = super().stop()
 
     def seconds_in(self, began, ended):
         """For how long some processor stood still in this time."""

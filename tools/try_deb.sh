@@ -130,7 +130,7 @@ serves_as_its_user() {
   options=$(sed -n 's/^LOCAL=--listen 127.0.0.1:11211 //p' "$root/etc/default/segcached.local")
   options+=" $(sed -n 's/^OPTIONS=//p' "$root/etc/default/segcached")"
   # shellcheck disable=SC2086  # (they are words)
-  [[ $options == --workers*--lenient* ]] && serve_on_free_port "$work/installed" $options || return 1
+  [[ $options == --workers*--lenient* ]] && serve_on_free_port "$work/installed" $options --listen unix:/tmp/cache || return 1
   [ "$(stat -c %u "/proc/$server")" = "$(chroot "$root" id --user segcached)" ] || return 1
   exec 3<>"/dev/tcp/127.0.0.1/$port"
   printf 'set a 0 0 1\r\nx\r\nget a\r\nquit\r\n' >&3
@@ -138,6 +138,9 @@ serves_as_its_user() {
   exec 3>&-
   MAINPID=$server chroot "$root" /usr/lib/segcached/ready --listen "127.0.0.1:$port" || return 1
   [ "$(chroot "$root" /usr/lib/segcached/taken --listen "0.0.0.0:$port")" = "127.0.0.1:$port" ] || return 1
+  MAINPID=$server chroot "$root" /usr/lib/segcached/ready --listen unix:/tmp/cache || return 1
+  [ "$(chroot "$root" /usr/lib/segcached/taken --listen unix:/tmp/cache)" = unix:/tmp/cache ] || return 1
+  rm "$root/tmp/cache"
   began=$(date +%s%N)
   kill -TERM "$server"
   wait "$server" || status=$?

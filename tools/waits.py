@@ -2,26 +2,26 @@
 can (`fairness`), or ask for the longest answers and read nothing (`unread`), and how much memory
 these take: for tools/hostile.py, which says the words.
 
-segcached stands beside memcached (of Debian), with as many threads as workers, in one run.
-memcached's clients show how busy the machine is.
+On a machine that is busy otherwise memcached (of Debian), with as many threads as workers, shows
+how long the same load makes others wait.
 """
 import multiprocessing
+import os
 import selectors
-import socket
 import time
 from typing import NamedTuple
 
 import tries
 from served import Memcached, Server, Trouble, install
+from served import read as read_file
+from standstills import Beside
 
-# What 99 of 100 requests, and each one, may wait on a quiet machine, in seconds.
+# What 99 of 100 requests, and each one, may wait on a quiet machine, in seconds, unless a load says
+# otherwise.
 MOST = 0.020, 0.060
-# The same beside one client, and beside several, that ask for the longest answers.
-BESIDE_LONGEST = {1: (0.030, 0.2), 8: (0.060, 0.2)}
-# And beside many that ask for those and read nothing: each one alone.
-BESIDE_UNREAD = (float("inf"), 0.060)
-# A machine is quiet where memcached's clients waited at most these in the same load.
-QUIET = 0.007, 0.015
+# A machine is quiet where others take at most this share of its processors meanwhile: processes
+# that have nothing to do with the load, and the machine's host.
+QUIET = 0.05
 # A busy machine makes all wait: so much longer may they wait, or so many times as long as
 # memcached's clients in the same load.
 ROOM = 3
@@ -34,10 +34,6 @@ BEFORE = 0.15
 # The bytes that a fast client sends, or asks for, at a time.
 AT_A_TIME = 2_000_000
 OPTIONS = ["--segment-size", "1048576", "--segments", "64"]
-
-
-def connect(port):
-    return socket.create_connection(("127.0.0.1", port), 60)
 
 
 def set_of(key, size, tail=b""):
@@ -62,53 +58,85 @@ def wait_of(stream):
     return time.monotonic() - asked
 
 
-def waits_beside(port, newcomers, says, is_over):
+def waits_beside(is_over, server, newcomers):
     """How long the requests of a client waited, and, if asked for, those of newcomers from before
     they connect."""
-    with connect(port) as stream:
+    with server.connect(60) as stream:
         waits = [wait_of(stream)]
         while not is_over.is_set():
             waits.append(wait_of(stream))
             time.sleep(0.001)
             if newcomers and len(waits) % 4 == 0:
                 asked = time.monotonic()
-                with connect(port) as newcomer:
+                with server.connect(60) as newcomer:
                     wait_of(newcomer)
                     waits.append(time.monotonic() - asked)
-    says.send(sorted(waits))
+    return sorted(waits)
 
 
-class Waits:
+class Waits(Beside):
     """What 99 of 100 requests, and each one, waited at most beside the block."""
 
-    def __init__(self, port, newcomers=False):
-        self.is_over = multiprocessing.Event()
-        self.hears, says = multiprocessing.Pipe(False)
-        words = port, newcomers, says, self.is_over
-        self.process = multiprocessing.Process(target=waits_beside, args=words, daemon=True)
+    def __init__(self, server, newcomers=False):
+        super().__init__(waits_beside, server, newcomers)
 
     def __enter__(self):
-        self.process.start()
+        self.start()
         time.sleep(BEFORE)
         return self
 
     def __exit__(self, *_):
-        self.is_over.set()
-        waits = self.hears.recv() if self.hears.poll(60) else [float("inf")]
+        waits = self.stop()
         self.longest = waits[len(waits) * 99 // 100], waits[-1]
-        self.process.kill()
-        self.process.join()
-
-
-def most_of(most, beside):
-    """What they may wait, where memcached's clients waited so long."""
-    if all(it <= quiet for it, quiet in zip(beside, QUIET)):
-        return most
-    return tuple(max(ROOM * it, TIMES_MEMCACHED * waited) for it, waited in zip(most, beside))
 
 
 def is_within(waited, most):
     return all(it <= much for it, much in zip(waited, most))
+
+
+class Others:
+    """The share of the machine's processors that others took beside the block, in which this
+    process, those that it started and waited for, and a server run."""
+
+    def __init__(self, server):
+        self.server = server
+
+    def taken(self):
+        """The seconds that others took so far."""
+        user, nice, system, *_, steal = map(int, read_file("/proc/stat").split()[1:9])
+        taken = (user + nice + system + steal) / os.sysconf("SC_CLK_TCK")
+        return taken - sum(os.times()[:4]) - self.server.processor_seconds()
+
+    def __enter__(self):
+        self.began, self.before = time.monotonic(), self.taken()
+        return self
+
+    def __exit__(self, *_):
+        seconds = (time.monotonic() - self.began) * os.cpu_count()
+        self.share = (self.taken() - self.before) / seconds
+
+
+class Waited(NamedTuple):
+    """What 99 of 100 requests, and each one, waited at most, in seconds, and what others took."""
+
+    longest: tuple
+    others: float
+
+    def __str__(self):
+        return f"{said(self.longest)} where others took {self.others:.0%} of the processors"
+
+
+def judged(here, most, beside):
+    """Whether clients waited no longer than they may, and what is said of it. `beside` measures
+    memcached's in the same load."""
+    if is_within(here.longest, most):
+        return True, str(here)
+    same = beside()
+    words = f"{here}, memcached's {same}"
+    if here.others <= QUIET:
+        return False, words
+    most = [max(ROOM * it, TIMES_MEMCACHED * waited) for it, waited in zip(most, same.longest)]
+    return is_within(here.longest, most), words
 
 
 def said(waits):
@@ -118,12 +146,15 @@ def said(waits):
 # ---- clients that send or read as fast as they can
 
 class Load(NamedTuple):
-    """So many clients, which do this with values of this size; and of how many keys a `get` is."""
+    """So many clients, each with so many connections, which do this with values of this size; of
+    how many keys a `get` is; and what others may wait on a quiet machine."""
 
     clients: int
     size: int
     verb: str
     keys: int = 1
+    streams: int = 1
+    most: tuple = MOST
     # What stands before each `get`, and its answer.
     before: bytes = b""
     answered: bytes = b""
@@ -131,10 +162,8 @@ class Load(NamedTuple):
     def __str__(self):
         many = f"{self.keys} times " if self.keys > 1 else ""
         behind = f" behind {self.before!r}" if self.before else ""
-        return f"{self.clients} that {self.verb} {many}{self.size // 1000} kB{behind}"
-
-    def most(self):
-        return BESIDE_LONGEST[self.clients] if self.verb == "read" and self.keys > 1 else MOST
+        count = self.clients * self.streams
+        return f"{count} that {self.verb} {many}{self.size // 1000} kB{behind}"
 
     def seconds(self):
         return SECONDS if self.keys == 1 else SECONDS * TIMES_LONGEST
@@ -143,54 +172,75 @@ class Load(NamedTuple):
 SENDERS = [Load(clients, size * 1000, "send") for size in (8, 30, 100, 130) for clients in (1, 2, 8)]
 READERS = [Load(clients, size * 1000, "read") for size in (10, 100) for clients in (1, 2, 8)]
 # (a hit more would exceed the limit of an answer)
-LONGEST = [Load(clients, 131_000, "read", 64) for clients in BESIDE_LONGEST]
-HOSTILE = [
-    Load(8, 131_000, "read", 64, b"x\r\n", b"ERROR\r\n"),
-    Load(8, 64_000, "send malformed lines and then"),
-    Load(8, 100_000, "ask for and don't read", 64),
+LONGEST = [
+    Load(1, 131_000, "read", 64, most=(0.030, 0.200)),
+    Load(8, 131_000, "read", 64, most=(0.120, 0.200)),
 ]
-# By the number of workers. With two the clients are on both of them in turn.
+HIDDEN = {"before": b"x\r\n", "answered": b"ERROR\r\n"}
+HOSTILE = [
+    Load(8, 131_000, "read", 64, most=(0.120, 0.200), **HIDDEN),
+    Load(8, 131_000, "read", 64, 5, most=(0.450, 0.500), **HIDDEN),
+    Load(8, 64_000, "send malformed lines and then", streams=16, most=(0.100, 0.150)),
+    Load(8, 100_000, "ask for and don't read", 64, 25),
+]
+# (a line has 2,048 bytes strictly, so an answer 134 MB)
+STRICT = [Load(1, 131_000, "read", 1021, most=(0.180, 0.250))]
+# By the server's words. With two workers the clients are on both of them in turn.
 LOADS = {
-    1: SENDERS + READERS + LONGEST + HOSTILE,
-    2: [it for it in SENDERS + READERS if it.size == 100_000 and it.clients > 1],
+    ("--lenient", "--workers", "1"): SENDERS + READERS + LONGEST + HOSTILE,
+    ("--lenient", "--workers", "2"): [
+        it for it in SENDERS + READERS if it.size == 100_000 and it.clients > 1],
+    ("--workers", "1"): STRICT,
 }
-# The connections of each client that sends malformed lines, or that doesn't read.
-STREAMS = 16, 25
 
 
-def send_fast(port, key, load):
+def send_fast(server, key, load):
     """Sends writes that aren't answered, and reads nothing."""
-    text = set_of(key, load.size, b" noreply") * (AT_A_TIME // load.size)
-    with connect(port) as stream:
-        while True:
-            stream.sendall(text)
+    text, stream = set_of(key, load.size,
+                          b" noreply") * (AT_A_TIME // load.size), server.connect(60)
+    while True:
+        stream.sendall(text)
 
 
-def read_fast(port, key, load):
-    """Sends many requests at once, or a long one, and reads what it is answered."""
+def read_fast(server, key, load):
+    """Each connection sends many requests at once, or a long one, and reads what it is answered."""
     answer, buffer = len(load.answered + answer_of(key, load.size, load.keys)), bytearray(65536)
-    count, left = max(AT_A_TIME // (load.keys * load.size), 1), len(b"STORED\r\n")
-    with connect(port) as stream:
-        stream.sendall(set_of(key, load.size))
-        while True:
-            while left > 0:
-                left -= stream.recv_into(buffer, min(left, len(buffer)))
-            stream.sendall((load.before + get_of(key, load.keys)) * count)
-            left = count * answer
+    count = max(AT_A_TIME // (load.keys * load.size), 1)
+    asked, left = (load.before + get_of(key, load.keys)) * count, {}
+    with server.connect(60) as stream:
+        write(stream, key, load.size)
+    selector = selectors.DefaultSelector()
+
+    def ask(stream):
+        stream.sendall(asked)
+        left[stream] = count * answer
+
+    for stream in [server.connect(60) for _ in range(load.streams)]:
+        selector.register(stream, selectors.EVENT_READ)
+        ask(stream)
+    while True:
+        for ready, _ in selector.select():
+            stream = ready.fileobj
+            got = stream.recv_into(buffer, min(left[stream], len(buffer)))
+            if not got:
+                raise Trouble("one that reads was closed")
+            left[stream] -= got
+            if not left[stream]:
+                ask(stream)
 
 
-def send_malformed(port, key, load):
+def send_malformed(server, key, load):
     """Each connection sends a line for which it is closed, and goes on until it is; then another
     one comes."""
     selector = selectors.DefaultSelector()
 
     def begin():
-        stream = connect(port)
+        stream = server.connect(60)
         stream.sendall(b"set %s 0 0 x\r\n" % key)
         stream.setblocking(False)
         selector.register(stream, selectors.EVENT_WRITE)
 
-    for _ in range(STREAMS[0]):
+    for _ in range(load.streams):
         begin()
     while True:
         for ready, _ in selector.select():
@@ -204,14 +254,12 @@ def send_malformed(port, key, load):
                 begin()
 
 
-def ask_and_hold(port, key, load):
+def ask_and_hold(server, key, load):
     """Each connection asks once, and reads nothing."""
-    with connect(port) as stream:
-        stream.sendall(set_of(key, load.size))
-        stream.recv(100)
-    streams = [connect(port) for _ in range(STREAMS[1])]
-    for stream in streams:
-        stream.sendall(get_of(key, load.keys))
+    with server.connect(60) as stream:
+        write(stream, key, load.size)
+    for _ in range(load.streams):
+        server.connect(60).sendall(get_of(key, load.keys))
     while True:
         time.sleep(60)
 
@@ -220,67 +268,64 @@ CLIENT_OF = {"send": send_fast, "read": read_fast, "send malformed lines and the
              "ask for and don't read": ask_and_hold}
 
 
-def waited(port, load):
-    """What 99 of 100 requests, and each one, waited at most beside a load, in seconds."""
+def waited(server, load):
+    """What others waited beside a load."""
     run = CLIENT_OF[load.verb]
-    fast = [multiprocessing.Process(target=run, args=(port, b"fast-%d" % it, load), daemon=True)
+    fast = [multiprocessing.Process(target=run, args=(server, b"%c" % (65 + it), load), daemon=True)
             for it in range(load.clients)]
-    try:
-        for process in fast:
-            process.start()
-        time.sleep(BEFORE)
-        with Waits(port, newcomers=True) as waits:
-            time.sleep(load.seconds())
-        if any(it.exitcode is not None for it in fast):
-            raise Trouble(f"beside {load}: a fast client has ended")
-    finally:
-        for process in fast:
-            process.kill()
-            process.join()
-    return waits.longest
+    with Others(server) as others:
+        try:
+            for process in fast:
+                process.start()
+            time.sleep(BEFORE)
+            with Waits(server, newcomers=True) as waits:
+                time.sleep(load.seconds())
+            if any(it.exitcode is not None for it in fast):
+                raise Trouble(f"beside {load}: a fast client has ended")
+        finally:
+            for process in fast:
+                process.kill()
+                process.join()
+    return Waited(waits.longest, others.share)
 
 
 def waited_beside(load, server, memcached):
-    """What others waited beside a load, and memcached's clients; Trouble where they waited too long
-    in two of three tries."""
+    """What others waited beside a load; Trouble where they waited too long in two of three
+    tries."""
     seen = []
 
     def attempt():
-        beside, here = waited(memcached.port, load), waited(server.port, load)
-        seen[:] = here, beside
-        words = f"beside {load}: {said(here)}, memcached's clients {said(beside)}"
-        return is_within(here, most_of(load.most(), beside)), words
+        seen.append(waited(server, load))
+        is_fine, words = judged(seen[-1], load.most, lambda: waited(memcached, load))
+        return is_fine, f"beside {load}: {words}"
 
     tries.in_two_of_three(attempt)
-    return seen
+    return seen[-1].longest
 
 
-def fairness_of(program, workers):
-    """What it says of the loads for so many workers."""
-    longest, beside_longest, within = (0, 0), (0, 0), 0
-    options = ["--lenient", "--workers", str(workers), *OPTIONS]
-    with Server(program, *options) as server, Memcached(workers) as memcached:
-        for load in LOADS[workers]:
-            here, beside = waited_beside(load, server, memcached)
-            within += is_within(here, load.most())
+def fairness_of(program, words):
+    """What it says of the loads for a server with these words."""
+    longest, within = (0, 0), 0
+    with Server(program, *words, *OPTIONS) as server, Memcached(int(words[-1])) as memcached:
+        for load in LOADS[words]:
+            here = waited_beside(load, server, memcached)
+            within += is_within(here, load.most)
             longest = tuple(map(max, longest, here))
-            beside_longest = tuple(map(max, beside_longest, beside))
         server.must_run()
-    return (f"{workers} worker{'s'[: workers - 1]}: {len(LOADS[workers])} loads of fast clients, "
-            f"{within} as on a quiet machine; in the worst others waited {said(longest)}, "
-            f"memcached's {said(beside_longest)}")
+    return (f"{' '.join(words)}: {len(LOADS[words])} loads of fast clients, {within} as on a quiet "
+            f"machine; in the worst others waited {said(longest)}")
 
 
 def fairness(program):
     """What it says of all loads; Trouble where a client waited too long in two of three tries."""
     install("memcached")
-    return "; ".join(fairness_of(program, workers) for workers in LOADS)
+    return "; ".join(fairness_of(program, words) for words in LOADS)
 
 
 # ---- clients that ask for the longest answers and read nothing
 
-# What a worker may hold more, in MiB.
-MOST_MEMORY = 192
+# What a worker may hold more, in MiB, and what others may wait on a quiet machine.
+MOST_MEMORY, BESIDE_UNREAD = 192, MOST
 CLIENTS, VALUE = 40, 131_000
 # The keys of a request, as many as one answer may have: 33 MB or 8; there are so many requests in
 # all that 1.3 GB are asked for.
@@ -317,61 +362,47 @@ def most_keys(server):
     raise Trouble(f"{KEYS[-1]} values of {VALUE} bytes aren't answered")
 
 
-def ask_and_read_nothing(port, keys):
+def ask_and_read_nothing(server, keys):
     """The clients, of which each takes little into its own system."""
-    streams = []
     for _ in range(CLIENTS * KEYS[0] // keys):
-        stream = socket.socket()
-        stream.setsockopt(socket.SOL_SOCKET, socket.SO_RCVBUF, 4096)
-        stream.connect(("127.0.0.1", port))
-        stream.sendall(get_of(b"large", keys))
-        streams.append(stream)
-    return streams
+        server.connect(receive_buffer=4096).sendall(get_of(b"large", keys))
 
 
 def settle(server):
     """Waits until no more memory is taken or given back."""
-    before = -1
-    for _ in range(100):
+    before, now, turn = -1, 0, 0
+    while now != before and turn < 100:
         time.sleep(0.2)
-        now = server.kilobytes("VmRSS")
-        if now == before:
-            return
-        before = now
+        before, now, turn = now, server.kilobytes("VmRSS"), turn + 1
 
 
 def unread_here(program):
-    """How many MiB more it holds, how long others waited, and how many keys a request has."""
+    """How many MiB more it holds, how others waited, and how many keys a request has."""
     with Server(program, "--workers", "1", *OPTIONS) as server:
         keys = most_keys(server)
         with server.connect() as reader:
             for size, _ in READ:
                 write(reader, b"read-%d" % size, size)
             before = server.kilobytes("VmRSS")
-            with Waits(server.port) as waits:
-                streams = ask_and_read_nothing(server.port, keys)
+            with Others(server) as others, Waits(server) as waits:
+                ask_and_read_nothing(server, keys)
                 settle(server)
                 for size, times in READ:
                     if not read(reader, b"read-%d" % size, size, times):
                         raise Trouble(f"a client that reads wasn't answered {times} x {size} bytes")
             more = (server.kilobytes("VmHWM") - before) // 1024
-            for stream in streams:
-                stream.close()
-            server.must_run()
-    return more, waits.longest, keys
+    return more, Waited(waits.longest, others.share), keys
 
 
 def unread_beside(keys):
-    """How long a client of memcached waited in the same load."""
+    """How a client of memcached waited in the same load."""
     with Memcached(1) as server:
-        with connect(server.port) as stream:
+        with server.connect(60) as stream:
             write(stream, b"large", VALUE)
-        with Waits(server.port) as waits:
-            streams = ask_and_read_nothing(server.port, keys)
+        with Others(server) as others, Waits(server) as waits:
+            ask_and_read_nothing(server, keys)
             time.sleep(1)
-        for stream in streams:
-            stream.close()
-    return waits.longest
+    return Waited(waits.longest, others.share)
 
 
 def unread(program):
@@ -383,11 +414,9 @@ def unread(program):
         more, here, keys = unread_here(program)
         if more > MOST_MEMORY:
             raise Trouble(f"clients that read nothing take {more} MiB")
-        # (how quiet the machine is, the longest wait tells)
-        most = most_of(BESIDE_UNREAD, (0, unread_beside(keys)[1]))
-        return is_within(here, most), (
+        is_fine, words = judged(here, BESIDE_UNREAD, lambda: unread_beside(keys))
+        return is_fine, (
             f"clients that ask for {keys * VALUE / 1e6:.0f} MB each and read nothing take {more} "
-            f"MiB in all, and others waited {here[1] * 1000:.0f} ms at most, where "
-            f"{most[1] * 1000:.0f} are allowed")
+            f"MiB in all, and others waited {words}")
 
     return tries.in_two_of_three(attempt)

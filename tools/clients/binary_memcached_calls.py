@@ -5,12 +5,5 @@ import sys
 import bmemcached
 from calls import Calls
 
-
-def main():
-    calls = Calls("python-binary-memcached")
-    calls.check("set", lambda: bmemcached.Client((f"127.0.0.1:{sys.argv[1]}",), socket_timeout=2).set("pb-a", "1"), True)
-    calls.report()
-
-
-if __name__ == "__main__":
-    main()
+Calls("python-binary-memcached").check("set", lambda: bmemcached.Client(
+    (f"127.0.0.1:{sys.argv[1]}",), socket_timeout=2).set("pb-a", "1"), True).report()

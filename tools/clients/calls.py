@@ -12,6 +12,7 @@ class Calls:
         except Exception as error:  # (each client has errors of its own)
             got = f"{type(error).__name__}: {error}"
         (self.works if got == wanted else self.fails).append(name)
+        return self
 
     def report(self):
         print(f"{self.client} works: {' '.join(self.works)}")

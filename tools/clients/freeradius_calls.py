@@ -4,6 +4,7 @@
 When a connection to the cache is opened it asks for the version, and doesn't start without one.
 """
 import os
+import pathlib
 import shutil
 import subprocess
 import sys
@@ -49,10 +50,8 @@ def starts(port):
         shutil.copytree(HOME, f"{folder}/raddb", symlinks=False, ignore_dangling_symlinks=True)
         for path in os.listdir(f"{folder}/raddb/sites-enabled"):
             os.remove(f"{folder}/raddb/sites-enabled/{path}")
-        with open(f"{folder}/raddb/mods-enabled/stored", "w", encoding="ascii") as file:
-            file.write(MODULE.format(port=port))
-        with open(f"{folder}/raddb/sites-enabled/one", "w", encoding="ascii") as file:
-            file.write(SITE)
+        pathlib.Path(f"{folder}/raddb/mods-enabled/stored").write_text(MODULE.format(port=port))
+        pathlib.Path(f"{folder}/raddb/sites-enabled/one").write_text(SITE)
         words = ["timeout", "10", "freeradius", "-d", f"{folder}/raddb", "-X"]
         with subprocess.Popen(words, stdout=subprocess.PIPE, stderr=subprocess.STDOUT, text=True, errors="replace") as server:
             is_ready = any("Ready to process requests" in line for line in server.stdout)
@@ -60,11 +59,4 @@ def starts(port):
     return is_ready
 
 
-def main():
-    calls = Calls("FreeRADIUS")
-    calls.check("starts", lambda: starts(sys.argv[1]), True)
-    calls.report()
-
-
-if __name__ == "__main__":
-    main()
+Calls("FreeRADIUS").check("starts", lambda: starts(sys.argv[1]), True).report()

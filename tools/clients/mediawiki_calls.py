@@ -80,25 +80,20 @@ def swapped(client, key, value):
     return client.store(b"cas", key, value, 60, number), client.store(b"cas", key, value, 60, number), client.get(key)
 
 
-def main():
-    client, calls = Client(int(sys.argv[1])), Calls("MediaWiki")
-    key, other = b"wikidb:messages:de", b"wikidb:user:id:7"
-    calls.check("set", lambda: (client.store(b"set", key, b"text", 3600), client.get(key)), (True, b"text"))
-    calls.check("set_int", lambda: (client.store(b"set", other, 7), client.get(other)), (True, 7))
-    calls.check("set_array", lambda: (client.store(b"set", b"wikidb:a", [5, 6]), client.get(b"wikidb:a")), (True, b"a:2:{i:0;i:5;i:1;i:6;}"))
-    calls.check("get_multi", lambda: {it: value for it, (value, _) in client.load(b"get", [key, b"wikidb:none", other]).items()}, {key: b"text", other: 7})
-    calls.check("add", lambda: (client.store(b"add", b"wikidb:lock", 1, 6), client.store(b"add", b"wikidb:lock", 1, 6)), (True, False))
-    calls.check("merge", lambda: swapped(client, key, b"newer"), (True, False, b"newer"))
-    calls.check("incr", lambda: (client.count(b"incr", other, 3), client.count(b"decr", other, 20), client.count(b"incr", b"wikidb:no", 1)), (10, 0, None))
-    calls.check("delete", lambda: (client.delete(key), client.delete(key), client.get(key)), (True, True, None))
-    calls.check("touch", lambda: client.touch(other, 60), True)
-    calls.check("after_touch", lambda: client.get(other), 0)
-    page = b"z" * 900_000
-    calls.check("large", lambda: (client.store(b"set", b"wikidb:page", page), client.get(b"wikidb:page") == page), (True, True))
-    calls.check("too_large", lambda: client.store(b"set", other, b"z" * 1_100_000), False)
-    calls.check("after_too_large", lambda: (client.get(other), client.store(b"set", other, 8), client.get(other)), (0, True, 8))
-    calls.report()
-
-
-if __name__ == "__main__":
-    main()
+client, calls = Client(int(sys.argv[1])), Calls("MediaWiki")
+key, other = b"wikidb:messages:de", b"wikidb:user:id:7"
+calls.check("set", lambda: (client.store(b"set", key, b"text", 3600), client.get(key)), (True, b"text"))
+calls.check("set_int", lambda: (client.store(b"set", other, 7), client.get(other)), (True, 7))
+calls.check("set_array", lambda: (client.store(b"set", b"wikidb:a", [5, 6]), client.get(b"wikidb:a")), (True, b"a:2:{i:0;i:5;i:1;i:6;}"))
+calls.check("get_multi", lambda: {it: value for it, (value, _) in client.load(b"get", [key, b"wikidb:none", other]).items()}, {key: b"text", other: 7})
+calls.check("add", lambda: (client.store(b"add", b"wikidb:lock", 1, 6), client.store(b"add", b"wikidb:lock", 1, 6)), (True, False))
+calls.check("merge", lambda: swapped(client, key, b"newer"), (True, False, b"newer"))
+calls.check("incr", lambda: (client.count(b"incr", other, 3), client.count(b"decr", other, 20), client.count(b"incr", b"wikidb:no", 1)), (10, 0, None))
+calls.check("delete", lambda: (client.delete(key), client.delete(key), client.get(key)), (True, True, None))
+calls.check("touch", lambda: client.touch(other, 60), True)
+calls.check("after_touch", lambda: client.get(other), 0)
+page = b"z" * 900_000
+calls.check("large", lambda: (client.store(b"set", b"wikidb:page", page), client.get(b"wikidb:page") == page), (True, True))
+calls.check("too_large", lambda: client.store(b"set", other, b"z" * 1_100_000), False)
+calls.check("after_too_large", lambda: (client.get(other), client.store(b"set", other, 8), client.get(other)), (None, True, 8))
+calls.report()

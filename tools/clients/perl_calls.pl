@@ -68,6 +68,10 @@ sub try_others {
         check('set_multi', sub { scalar keys %{ $client->set_multi(['pe-m1', '1'], ['pe-m2', '2']) } }, 2);
         check('append', sub { client()->append('pe-b', '5') && client()->get('pe-b') }, '45');
         check('touch', sub { client()->touch('pe-b', 60) }, 1);
+        check('gat', sub { client()->gat(60, 'pe-b') . (defined client()->gat(60, 'pe-none') ? 'there' : 'gone') }, '45gone');
+        check('gat_multi', sub { my $got = client()->gat_multi(60, 'pe-b', 'pe-none', 'pe-m1'); join ' ', map { "$_=$got->{$_}" } sort keys %$got },
+            'pe-b=45 pe-m1=1');
+        check('gats', sub { my $got = client()->gats(60, 'pe-b'); $client->cas('pe-b', $got->[0], '4') }, 1);
         check('touch_without_waiting', \&missed_beside_touches, 0);
         check('server_versions', sub { scalar keys %{ client()->server_versions } }, 1);
     }

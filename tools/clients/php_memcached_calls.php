@@ -1,5 +1,5 @@
 <?php
-// php-memcached (over libmemcached) against a server. Usage: php_memcached_calls.php PORT.
+// php-memcached (over libmemcached) against a server. Usage: php_memcached_calls.php PORT|PATH.
 $works = $fails = [];
 function check($name, $got, $wanted) {
     global $works, $fails;
@@ -8,7 +8,8 @@ function check($name, $got, $wanted) {
 function client() {
     global $argv;
     $client = new Memcached();
-    $client->addServer('127.0.0.1', (int)$argv[1]);
+    $is_path = $argv[1][0] === '/';
+    $client->addServer($is_path ? $argv[1] : '127.0.0.1', $is_path ? 0 : (int)$argv[1]);
     return $client;
 }
 $client = client();

@@ -44,19 +44,12 @@ def let_through(place):
     return sum(limiter.hit(limit, "somebody") for _ in range(300))
 
 
-def main():
-    logging.disable(logging.CRITICAL)
-    warnings.simplefilter("ignore")
-    place = f"127.0.0.1:{sys.argv[1]}"
-    for client, name, call, wanted in (
-        ("tooz", "one_holder_while_its_heart_beats", lambda: holders(place), (True, True, True)),
-        ("Celery", "expire", lambda: of_celery(place), "1"),
-        ("limits", "elastic_expiry", lambda: let_through(place), 100),
-    ):
-        calls = Calls(client)
-        calls.check(name, call, wanted)
-        calls.report()
-
-
-if __name__ == "__main__":
-    main()
+logging.disable(logging.CRITICAL)
+warnings.simplefilter("ignore")
+place = f"127.0.0.1:{sys.argv[1]}"
+for client, name, call, wanted in (
+    ("tooz", "one_holder_while_its_heart_beats", lambda: holders(place), (True, True, True)),
+    ("Celery", "expire", lambda: of_celery(place), "1"),
+    ("limits", "elastic_expiry", lambda: let_through(place), 100),
+):
+    Calls(client).check(name, call, wanted).report()

@@ -1,6 +1,7 @@
 #!/usr/bin/python3
 """Flask-Limiter's limits and Postfix's memcache_table, against a server that keeps TTLs to the
 second. Usage: ttl_calls.py PORT."""
+import pathlib
 import subprocess
 import sys
 import tempfile
@@ -32,21 +33,17 @@ def looked_up(port):
     """What a table with a file behind it answers as long as its TTL lasts, and then, once the file
     has another value."""
     with tempfile.TemporaryDirectory() as folder:
-        def write(value):
-            with open(f"{folder}/file", "w", encoding="ascii") as file:
-                file.write(f"key {value}\n")
-
-        with open(f"{folder}/table", "w", encoding="ascii") as file:
-            file.write(f"memcache = inet:127.0.0.1:{port}\nbackup = texthash:{folder}/file\n")
-            file.write(f"ttl = {TTL}\n")
+        file, table = pathlib.Path(f"{folder}/file"), pathlib.Path(f"{folder}/table")
+        backup = f"backup = texthash:{file}\nttl = {TTL}\n"
+        table.write_text(f"memcache = inet:127.0.0.1:{port}\n{backup}", encoding="ascii")
 
         def value():
-            words = ["postmap", "-q", "key", f"memcache:{folder}/table"]
+            words = ["postmap", "-q", "key", f"memcache:{table}"]
             return subprocess.run(words, capture_output=True, text=True, check=False).stdout.strip()
 
-        write("first")
+        file.write_text("key first\n", encoding="ascii")
         seen, began = {value()}, time.monotonic()
-        write("second")
+        file.write_text("key second\n", encoding="ascii")
         while time.monotonic() < began + TTL - 3:
             seen.add(value())
             time.sleep(0.5)
@@ -55,15 +52,8 @@ def looked_up(port):
         return seen, value()
 
 
-def main():
-    for client, name, call, wanted in (
-        ("Flask-Limiter", "100_of_300", lambda: let_through(sys.argv[1]), (100, True)),
-        ("Postfix", "ttl", lambda: looked_up(sys.argv[1]), ({"first"}, "second")),
-    ):
-        calls = Calls(client)
-        calls.check(name, call, wanted)
-        calls.report()
-
-
-if __name__ == "__main__":
-    main()
+for client, name, call, wanted in (
+    ("Flask-Limiter", "100_of_300", lambda: let_through(sys.argv[1]), (100, True)),
+    ("Postfix", "ttl", lambda: looked_up(sys.argv[1]), ({"first"}, "second")),
+):
+    Calls(client).check(name, call, wanted).report()

@@ -116,6 +116,16 @@ upgrades_without_a_question() {
   tr '\0' ' ' <"/proc/$(state_of segcached MainPID)/cmdline" | grep -e '--segments 65 .*--idle 3600'
 }
 
+# It counts as started once it answers there, also after a crash.
+serves_a_path_alone() {
+  sed -i 's|^LOCAL=--listen [^ ]*|LOCAL=--listen unix:/run/segcached/cache|' /etc/default/segcached.local
+  systemctl reset-failed segcached
+  systemctl restart segcached && /usr/lib/segcached/probe unix:/run/segcached/cache || return 1
+  systemctl kill --signal=KILL --kill-who=main segcached
+  sleep 3
+  [ "$(state_of segcached ActiveState)" = active ] && /usr/lib/segcached/probe unix:/run/segcached/cache
+}
+
 # Of a version in which one file had all options.
 takes_over_older_options() {
   dpkg --purge segcached || return 1
@@ -139,5 +149,6 @@ part gives_up_one_that_crashes
 part takes_another_address
 part fails_once segcached 'fault: cannot listen on localhost:11211: not an IP address and a port'
 part upgrades_without_a_question
+part serves_a_path_alone
 part takes_over_older_options
 echo "$passed passed, $failed failed"

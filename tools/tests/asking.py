@@ -1,4 +1,11 @@
 """Requests with the answers that the protocol gives them."""
+STORED, NOT_STORED, END, ERROR = b"STORED\r\n", b"NOT_STORED\r\n", b"END\r\n", b"ERROR\r\n"
+NOT_FOUND, DELETED, TOUCHED = b"NOT_FOUND\r\n", b"DELETED\r\n", b"TOUCHED\r\n"
+BAD_LINE, TOO_LONG = b"CLIENT_ERROR bad command line format\r\n", b"CLIENT_ERROR line too long\r\n"
+BAD_BLOCK = b"CLIENT_ERROR bad data chunk\r\n"
+NO_NUMBER = b"CLIENT_ERROR cannot increment or decrement non-numeric value\r\n"
+TOO_LARGE = b"SERVER_ERROR object too large for cache\r\n"
+OUT_OF_MEMORY = b"SERVER_ERROR out of memory\r\n"
 SET_AND_GET = b"set %b 0 0 1\r\nx\r\nget %b\r\n"
 SET_AND_GET_ANSWER = b"STORED\r\nVALUE %b 0 1\r\nx\r\nEND\r\n"
 
@@ -19,5 +26,38 @@ def ask_set_and_get(stream, key):
     ask(stream, SET_AND_GET % (key, key), SET_AND_GET_ANSWER % key)
 
 
+def put(key, value, verb=b"set", flags=0, exptime=0, words=b""):
+    """A request with a data block."""
+    return b"%b %b %d %d %d%b\r\n%b\r\n" % (verb, key, flags, exptime, len(value), words, value)
+
+
+def hits(key, value, flags=0, cas=None, times=1):
+    """This many hits of a key, as they are shown."""
+    unique = b"" if cas is None else b" %d" % cas
+    return b"VALUE %b %d %d%b\r\n%b\r\n" % (key, flags, len(value), unique, value) * times
+
+
 def hit(key, value, flags=0):
-    return b"VALUE %b %d %d\r\n%b\r\nEND\r\n" % (key, flags, len(value), value)
+    return hits(key, value, flags) + END
+
+
+# ---- clients that read nothing
+
+LARGE = b"v" * 131_000
+
+
+def write_large(server):
+    with server.connect() as stream:
+        ask(stream, put(b"large", LARGE), STORED)
+
+
+def asks_for(server, keys, receive_buffer=65_536):
+    """A client that has asked once for this many large values, and has read nothing."""
+    stream = server.connect(receive_buffer=receive_buffer)
+    stream.sendall(b"get" + b" large" * keys + b"\r\n")
+    return stream
+
+
+def is_same(got, wanted):
+    """Whether they are, of bytes that are too many to be shown where they differ."""
+    return got == wanted

@@ -19,6 +19,7 @@ hypothesis.settings.load_profile("gate")
 def pytest_addoption(parser):
     parser.addoption("--program", default=served.PROGRAM, help="the built segcached")
     parser.addoption("--all-clients", action="store_true", help="also the clients that the gate doesn't install")
+    parser.addoption("--against", help="another build, to compare with")
     parser.addoption("--model-runs", type=int, default=7, help="how many long runs beside the model")
 
 

@@ -7,6 +7,9 @@ import collections
 import itertools
 
 import served
+from asking import (
+    BAD_LINE, DELETED, END, ERROR, NO_NUMBER, NOT_FOUND, NOT_STORED, STORED, TOO_LARGE, TOUCHED,
+    hits, put)
 
 LASTING = 1024  # the bucket of what has no deadline
 VERSION = f"VERSION 1.6.0-segcached-{served.version()}\r\n".encode()
@@ -16,11 +19,10 @@ LOCAL = (b"version", b"verbosity")
 COUNTED = """cmd_get cmd_set cmd_touch cmd_flush total_items cas_badval out_of_memory get_hits get_misses delete_hits delete_misses incr_hits
     incr_misses decr_hits decr_misses touch_hits touch_misses cas_hits cas_misses""".split()
 # Which count a reply to `cas` is, and of a `delete`, a `touch` or a change of a number.
-OF_CAS = {b"STORED\r\n": "cas_hits", b"NOT_FOUND\r\n": "cas_misses", b"EXISTS\r\n": "cas_badval"}
+OF_CAS = {STORED: "cas_hits", NOT_FOUND: "cas_misses", b"EXISTS\r\n": "cas_badval"}
 JOINS = (b"append", b"prepend")
+SHOWN_AND_TOUCHED = (b"gat", b"gats")
 STORES = (b"set", b"add", b"replace", b"cas", *JOINS)
-TOO_LARGE = b"SERVER_ERROR object too large for cache\r\n"
-ERROR, BAD_LINE = b"ERROR\r\n", b"CLIENT_ERROR bad command line format\r\n"
 
 
 def refused(request):
@@ -28,27 +30,29 @@ def refused(request):
     verb, *words = request
     if verb == b"delete" and len(words) > 1:
         return BAD_LINE
-    return 2 * ERROR if verb in JOINS else ERROR if verb in (b"touch", b"stats", *LOCAL) else None
+    return 2 * ERROR if verb in JOINS else ERROR if verb in (b"touch", *SHOWN_AND_TOUCHED, b"stats", *LOCAL) else None
+
+
+# Of buckets of each width: below which life they are, the first one, and the width.
+WIDTHS = (2048, 0, 8), (32768, 256, 128), (524288, 512, 2048), (8388608, 768, 32768)
 
 
 def bucket_of(ttl):
     if ttl is None:
         return LASTING
-    for bound, first, width in ((2048, 0, 8), (32768, 256, 128), (524288, 512, 2048), (8388608, 768, 32768)):
-        if ttl < bound:
-            return first + ttl // width
-    return 1023
+    return next((first + ttl // width for bound, first, width in WIDTHS if ttl < bound), 1023)
 
 
 def width_and_lower_end(bucket):
-    for first, width in ((768, 32768), (512, 2048), (256, 128), (0, 8)):
-        if bucket >= first:
-            return width, width * (bucket - first)
-    raise ValueError(bucket)
+    first, width = next((first, width) for _, first, width in reversed(WIDTHS) if bucket >= first)
+    return width, width * (bucket - first)
 
 
-def deadline_of(exptime, now):
-    """The moment that an exptime asks for; None if it asks for none."""
+def deadline_of(exptime, now, is_lenient):
+    """The moment that an exptime asks for; None if it asks for none. Leniently one of 32 bits may be
+    negative."""
+    if is_lenient and 1 << 31 <= exptime < 1 << 32:
+        return -1
     return None if exptime == 0 else now + exptime if 0 < exptime <= 2592000 else exptime
 
 
@@ -56,30 +60,34 @@ def life_of(deadline, now):
     return None if deadline is None else max(1, deadline - now)
 
 
-def may_be_given(has, asked, now):
-    """Whether a write that asks for one deadline may give the other: less than two widths of its bucket are missing."""
-    if has is None or asked is None:
-        return has is asked
+def is_within_widths(has, asked, now):
+    """Whether less than two widths of its bucket are missing of a deadline that is asked for."""
     life = min(asked - now, 8388608)
-    width, _ = width_and_lower_end(bucket_of(life))
-    return now < has <= asked and has + 2 * width > now + life
+    return has <= asked and has + 2 * width_and_lower_end(bucket_of(life))[0] > now + life
+
+
+def is_within_an_eighth(has, asked, now):
+    """Whether no more than an eighth of its life is missing."""
+    return has <= asked and asked - has <= (asked - now) // 8
+
+
+def may_be_given(has, asked, now):
+    """Whether a write that asks for one deadline may give the other."""
+    return has is asked if None in (has, asked) else now < has and is_within_widths(has, asked, now)
 
 
 def suits(has, own, now):
     """Whether an item with a deadline of its own goes into a segment with another one: that is little earlier, or the same, and may have come."""
     if None in (has, own):
         return has is own
-    life = min(own - now, 8388608)
-    width, _ = width_and_lower_end(bucket_of(life))
-    return now < own and has <= own and (has + 2 * width > now + life or own - has <= (own - now) // 8)
+    return now < own and (is_within_widths(has, own, now) or is_within_an_eighth(has, own, now))
 
 
 def may_stand_for(has, asked, now):
-    """Whether an item with one deadline may stay where another is asked for: a write might have given it, or no more than an eighth of its life
-    is missing."""
-    if may_be_given(has, asked, now):
-        return True
-    return None not in (has, asked) and now < has <= asked and asked - has <= (asked - now) // 8
+    """Whether an item with one deadline may stay where another is asked for."""
+    if None in (has, asked):
+        return has is asked
+    return now < has and (is_within_widths(has, asked, now) or is_within_an_eighth(has, asked, now))
 
 
 class Segment:
@@ -118,7 +126,7 @@ class Cache:
         self.largest = largest or segment_size // 8
         self.segment_size, self.free, self.order, self.cursor = segment_size, segments, [], 0
         self.segments, self.opens, self.is_least_read, self.is_in_place = segments, 0, is_least_read, is_in_place
-        self.current, self.cas, self.pending, self.is_exact = {}, 0, None, is_exact
+        self.current, self.cas, self.pending, self.is_exact, self.is_lenient = {}, 0, None, is_exact, False
         self.merges = self.clearings = self.given_back = 0
         self.counts = collections.Counter()
 
@@ -260,9 +268,10 @@ class Cache:
         self.current[key] = item
 
     def forget_expired(self, now):
-        for key in [key for key, item in self.current.items() if item.is_over(now)]:
+        over = [key for key, item in self.current.items() if item.is_over(now)]
+        for key in over:
             del self.current[key]
-            self.counts["reclaimed"] += 1
+        self.counts["reclaimed"] += len(over)
 
     # ---- what is counted
 
@@ -272,16 +281,19 @@ class Cache:
         if verb in (b"get", b"gets"):
             hits = answer.count(b"VALUE key")
             counts.update(cmd_get=len(words[0]), get_hits=hits, get_misses=len(words[0]) - hits)
+        elif verb in SHOWN_AND_TOUCHED:
+            hits, asked = answer.count(b"VALUE key"), len(words[1])
+            counts.update(cmd_touch=asked, touch_hits=hits, touch_misses=asked - hits)
         elif verb in (b"incr", b"decr", b"delete", b"touch"):
             counts["cmd_touch"] += verb == b"touch"
-            if answer == b"NOT_FOUND\r\n":
+            if answer == NOT_FOUND:
                 counts[f"{name}_misses"] += 1
             elif not answer.startswith(b"CLIENT_ERROR"):
                 counts[f"{name}_hits"] += 1
         elif verb == b"flush_all":
             counts["cmd_flush"] += 1
         else:
-            counts.update(cmd_set=1, total_items=answer == b"STORED\r\n")
+            counts.update(cmd_set=1, total_items=answer == STORED)
             if verb == b"cas" and answer in OF_CAS:
                 counts[OF_CAS[answer]] += 1
 
@@ -309,68 +321,66 @@ class Cache:
             if item is not None:
                 item.reads = min(127, item.reads + 1)
                 item.segment.hits += 1
-                unique = b" %d" % item.cas if with_cas else b""
-                out += b"VALUE %s %d %d%s\r\n%s\r\n" % (key, item.flags, len(item.value), unique, item.value)
-        return out + b"END\r\n"
+                out += hits(key, item.value, item.flags, item.cas if with_cas else None)
+        return out + END
 
     def put(self, verb, key, flags, exptime, value, unique, now):
         if Item(key, value, flags, 0).size > self.largest:
+            if self.is_lenient:
+                self.current.pop(key, None)
             return TOO_LARGE
         there = self.find(key, now)
         if (verb == b"add" and there) or (verb == b"replace" and not there):
-            return b"NOT_STORED\r\n"
-        if verb == b"cas":
-            if not there:
-                return b"NOT_FOUND\r\n"
-            if there.cas != unique:
-                return b"EXISTS\r\n"
-        deadline = deadline_of(exptime, now)
+            return NOT_STORED
+        if verb == b"cas" and not (there and there.cas == unique):
+            return b"EXISTS\r\n" if there else NOT_FOUND
+        deadline = deadline_of(exptime, now, self.is_lenient)
         if deadline is not None and deadline <= now:
             self.current.pop(key, None)
         else:
             self.write(key, value, flags, life_of(deadline, now), now)
-        return b"STORED\r\n"
+        return STORED
 
     def join(self, verb, key, value, now):
         """An `append` or a `prepend`: the flags and the deadline stay, but the deadline is asked for anew if the item is written anew."""
         item = self.find(key, now)
         if item is None:
-            return b"NOT_STORED\r\n"
+            return NOT_STORED
         value = item.value + value if verb == b"append" else value + item.value
         if Item(key, value, item.flags, 0).size > self.largest:
             return TOO_LARGE
         self.rewrite(item, value, now)
-        return b"STORED\r\n"
+        return STORED
 
     def touch(self, key, exptime, now):
         """The item gets the deadline that is asked for, and stays as it is if its own may stand for that one: where items have their own, only the
         same one."""
-        item, deadline = self.find(key, now), deadline_of(exptime, now)
+        item, deadline = self.find(key, now), deadline_of(exptime, now, self.is_lenient)
         if item is None:
-            return b"NOT_FOUND\r\n"
+            return NOT_FOUND
         if deadline is not None and deadline <= now:
             del self.current[key]
         elif item.deadline == deadline if self.is_exact else may_stand_for(item.deadline, deadline, now):
             item.segment.hits += 1
         else:
             self.store(Item(key, item.value, item.flags, item.cas), life_of(deadline, now), now)
-        return b"TOUCHED\r\n"
+        return TOUCHED
 
     def change(self, key, amount, adds, now):
         item = self.find(key, now)
         if item is None:
-            return b"NOT_FOUND\r\n"
+            return NOT_FOUND
         if not (1 <= len(item.value) <= 20 and item.value.isdigit() and int(item.value) < 2**64):
-            return b"CLIENT_ERROR cannot increment or decrement non-numeric value\r\n"
+            return NO_NUMBER
         number = (int(item.value) + amount) % 2**64 if adds else max(0, int(item.value) - amount)
         self.rewrite(item, b"%d" % number, now)
         return b"%d\r\n" % number
 
     def delete(self, key, now):
         if self.find(key, now) is None:
-            return b"NOT_FOUND\r\n"
+            return NOT_FOUND
         del self.current[key]
-        return b"DELETED\r\n"
+        return DELETED
 
     def flush(self, delay, now):
         if delay == 0:
@@ -387,24 +397,30 @@ class Cache:
             self.begin(now)
             return b"stats\r\n", self.told()
         line, answer = self.answer_uncounted(request, now)
-        if verb not in LOCAL:
+        # (leniently no `set` that is too large counts)
+        if verb not in LOCAL and not (self.is_lenient and verb == b"set" and answer == TOO_LARGE):
             self.count(verb, words, answer)
         return line, answer
 
     def answer_uncounted(self, request, now):
         """A request's bytes, and what it is answered. A `cas` number of None is that of what is there, or 0. `append`, `prepend`, `touch`,
-        `version` and `verbosity`, and a zero after the key of a `delete`, are for the lenient dialect."""
+        `gat`, `gats`, `version` and `verbosity`, and a zero after the key of a `delete`, are for the lenient dialect."""
         verb, *words = request
         if verb in LOCAL:
             return verb + b"".join(b" " + it for it in words) + b"\r\n", b"OK\r\n" if verb == b"verbosity" else VERSION
         self.begin(now)
         if verb in JOINS:
             key, flags, exptime, value, _ = words
-            line = b"%b %b %d %d %d\r\n%b\r\n" % (verb, key, flags, exptime, len(value), value)
-            return line, self.join(verb, key, value, now)
+            return put(key, value, verb, flags, exptime), self.join(verb, key, value, now)
         if verb == b"touch":
             key, exptime = words
             return b"touch %b %d\r\n" % (key, exptime), self.touch(key, exptime, now)
+        if verb in SHOWN_AND_TOUCHED:
+            exptime, keys = words
+            answer = self.get(keys, verb == b"gats", now)
+            for key in keys:
+                self.touch(key, exptime, now)
+            return b"%b %d %b\r\n" % (verb, exptime, b" ".join(keys)), answer
         if verb in (b"get", b"gets"):
             (keys,) = words
             return b"%b %b\r\n" % (verb, b" ".join(keys)), self.get(keys, verb == b"gets", now)
@@ -419,8 +435,6 @@ class Cache:
             return b"flush_all %d\r\n" % delay, self.flush(delay, now)
         key, flags, exptime, value, unique = words
         if unique is None:
-            there = self.find(key, now)
-            unique = there.cas if there else 0
-        tail = b" %d" % unique if verb == b"cas" else b""
-        line = b"%b %b %d %d %d%b\r\n%b\r\n" % (verb, key, flags, exptime, len(value), tail, value)
+            unique = getattr(self.find(key, now), "cas", 0)
+        line = put(key, value, verb, flags, exptime, b" %d" % unique if verb == b"cas" else b"")
         return line, self.put(verb, key, flags, exptime, value, unique, now)

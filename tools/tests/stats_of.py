@@ -1,5 +1,14 @@
 """What a `stats` tells."""
-import time
+from served import Gone, comes_true
+
+
+def by_name(answer):
+    """What the answer to a `stats` tells, by name."""
+    lines = [line.split(b" ") for line in answer.removesuffix(b"END\r\n").split(b"\r\n")[:-1]]
+    assert all(len(it) == 3 and it[0] == b"STAT" for it in lines)
+    found = {name.decode(): value.decode() for _, name, value in lines}
+    assert len(found) == len(lines)
+    return found
 
 
 def told(stream, line=b"stats\r\n"):
@@ -7,20 +16,25 @@ def told(stream, line=b"stats\r\n"):
     stream.sendall(line)
     got = b""
     while not got.endswith(b"END\r\n"):
-        got += stream.recv(65536)
-    lines = [line.split(b" ") for line in got.split(b"\r\n")[:-2]]
-    assert all(len(it) == 3 and it[0] == b"STAT" for it in lines)
-    names = [it[1].decode() for it in lines]
-    assert len(set(names)) == len(names)
-    return {name: it[2].decode() for name, it in zip(names, lines)}
+        piece = stream.recv(65536)
+        if not piece:
+            raise Gone(f"the server went away after {got!r}")
+        got += piece
+    return by_name(got)
+
+
+def numbers(stream):
+    return {name: int(it) for name, it in told(stream).items() if it.isdigit()}
 
 
 def wait_for(stream, **wanted):
     """Asks until these gauges are told: what another worker did last may not be told yet."""
-    until = time.monotonic() + 10
-    while True:
-        found = told(stream)
-        if all(found[name] == str(it) for name, it in wanted.items()) or time.monotonic() > until:
-            assert {name: found[name] for name in wanted} == {name: str(it) for name, it in wanted.items()}
-            return found
-        time.sleep(0.05)
+    found, wanted = {}, {name: str(it) for name, it in wanted.items()}
+
+    def are_told():
+        found.update(told(stream))
+        return wanted.items() <= found.items()
+
+    comes_true(are_told)
+    assert {name: found[name] for name in wanted} == wanted
+    return found

@@ -2,10 +2,7 @@
 import os
 import socket
 import stat
-import subprocess
-import sys
 
-import pylibmc
 import pytest
 import served
 from asking import ask
@@ -117,32 +114,3 @@ def test_pymemcache(serve, path):
     serve(listen=f"unix:{path}")
     client = Client(path, timeout=20)
     assert client.set("a", b"x") and client.get("a") == b"x" and client.incr("none", 1) is None
-
-
-PYLIBMC = """
-import sys, pylibmc
-client = pylibmc.Client([sys.argv[1]])
-assert client.set("a", "x") and client.get("a") == "x" and client.set_multi({"b": 1, "c": 2}) == [] and client.get_multi(["a", "b"]) == {"a": "x", "b": 1}
-"""
-
-
-def test_pylibmc(serve, path):
-    assert pylibmc
-    serve("--lenient", listen=f"unix:{path}")
-    subprocess.run([sys.executable, "-c", PYLIBMC, path], check=True, timeout=30)
-
-
-PHP = """
-$client = new Memcached();
-$client->addServer($argv[1], 0);
-echo json_encode([$client->set("a", "x"), $client->get("a"), $client->getMulti(["a", "b"])]);
-"""
-
-
-def test_php_memcached_by_path(request, serve, path):
-    if not request.config.getoption("--all-clients"):
-        pytest.skip("asked for by --all-clients alone")
-    served.install("php-cli", "php-memcached")
-    serve("--lenient", listen=f"unix:{path}")
-    ran = subprocess.run(["php", "-r", PHP, path], capture_output=True, text=True, check=True, timeout=30)
-    assert ran.stdout == '[true,"x",{"a":"x"}]'

@@ -2,35 +2,31 @@
 import os
 import subprocess
 import sys
+import tempfile
 
 import pytest
 import served
-from asking import ask
+from asking import END, STORED, ask, put
 
 CLIENTS = f"{served.TOP}/tools/clients"
 
 
 @pytest.fixture(scope="module")
-def server(program):
-    with served.Server(program) as it:
-        yield it
-
-
-@pytest.fixture(scope="module")
-def lenient_server(program):
-    with served.Server(program, "--lenient") as it:
-        yield it
+def servers(program):
+    """A strict one, and a lenient one."""
+    with served.Server(program) as strict, served.Server(program, "--lenient") as lenient:
+        yield strict, lenient
 
 
 @pytest.fixture
-def run(tmp_path):
-    """Runs a command in a folder of its own: its exit status and what it wrote."""
+def server(servers):
+    return servers[0]
 
-    def run_command(*words, data=b""):
-        done = subprocess.run(words, input=data, stdout=subprocess.PIPE, timeout=20, cwd=tmp_path)
-        return done.returncode, done.stdout
 
-    return run_command
+def run(*words, data=b"", cwd=None):
+    """A command's exit status and what it wrote."""
+    done = subprocess.run(words, input=data, stdout=subprocess.PIPE, timeout=20, cwd=cwd)
+    return done.returncode, done.stdout
 
 
 # ---- netcat
@@ -39,30 +35,22 @@ def run(tmp_path):
     (b"get a\r\n", b"END\r\n"),
     (b"set a 0 0 1\r\nx\r\nget a\r\n", b"STORED\r\nVALUE a 0 1\r\nx\r\nEND\r\n"),
 ], ids=["a miss", "a write and a hit"])
-def test_netcat_closes_its_half_at_once_and_still_prints_the_answers(server, run, requests, answers):
+def test_netcat_closes_its_half_at_once_and_still_prints_the_answers(server, requests, answers):
     assert run("nc", "-N", "127.0.0.1", str(server.port), data=requests) == (0, answers)
 
 
 # ---- libmemcached's tools
 
-def test_libmemcached_copies_shows_finds_and_removes_a_file(server, run, tmp_path):
+def test_libmemcached_copies_shows_finds_and_removes_a_file(server, tmp_path):
     """A missing key is status 1."""
     (tmp_path / "greeting").write_text("hello", encoding="ascii")
-    servers = f"--servers=127.0.0.1:{server.port}"
-    assert run("memccp", servers, "greeting") == (0, b"")
-    assert run("memccat", servers, "greeting") == (0, b"hello\n")
-    assert run("memcexist", servers, "greeting") == (0, b"")
-    assert run("memcrm", servers, "greeting") == (0, b"")
-    assert run("memcexist", servers, "greeting") == (1, b"")
-    assert run("memccat", servers, "greeting") == (1, b"")
-
-
-def capable(run, server, part):
-    """Whether a part of memccapable passes."""
-    label = f"ascii {part}"
-    printed = f"{label:<40}[pass]\nAll tests passed\n".encode()
-    words = ["-h", "127.0.0.1", "-p", str(server.port), "-a", "-t", "5", "-T", label]
-    return run("memccapable", *words) == (0, printed)
+    where = f"--servers=127.0.0.1:{server.port}"
+    for tool, ends in (
+        ("memccp", (0, b"")), ("memccat", (0, b"hello\n")), ("memcexist", (0, b"")),
+        ("memcrm", (0, b"")),
+        ("memcexist", (1, b"")), ("memccat", (1, b"")),
+    ):
+        assert run(tool, where, "greeting", cwd=tmp_path) == ends, tool
 
 
 PARTS = ["quit", "get", "gets", "mget", "flush", "delete", "incr", "decr"]
@@ -71,25 +59,25 @@ LENIENT_PARTS = ["version", "verbosity", "set", "set noreply", "flush noreply", 
                  "delete noreply", "incr noreply", "decr noreply", "append", "append noreply", "prepend", "prepend noreply"]
 
 
-@pytest.mark.parametrize("part", PARTS)
-def test_memccapable_passes(server, run, part):
-    assert capable(run, server, part)
+@pytest.mark.parametrize("is_lenient, part", [
+    *((False, part) for part in PARTS), *((True, part) for part in PARTS + LENIENT_PARTS)])
+def test_memccapable_passes(servers, is_lenient, part):
+    label, port = f"ascii {part}", str(servers[is_lenient].port)
+    words = ["-h", "127.0.0.1", "-p", port, "-a", "-t", "5", "-T", label]
+    printed = f"{label:<40}[pass]\nAll tests passed\n".encode()
+    assert run("memccapable", *words) == (0, printed)
 
 
-@pytest.mark.parametrize("part", PARTS + LENIENT_PARTS)
-def test_with_lenient_lines_memccapable_passes(lenient_server, run, part):
-    assert capable(run, lenient_server, part)
-
-
-def test_memcflush_writes_a_space_behind_its_request_which_is_a_fault(server, run):
+def test_memcflush_writes_a_space_behind_its_request_which_is_a_fault(server):
     assert run("memcflush", f"--servers=127.0.0.1:{server.port}") == (1, b"")
 
 
-def test_with_lenient_lines_memcflush_flushes(program, run):
-    with served.Server(program, "--lenient") as server, server.connect() as stream:
-        ask(stream, b"set a 0 0 1\r\nx\r\n", b"STORED\r\n")
+def test_with_lenient_lines_memcflush_flushes(serve):
+    server = serve("--lenient")
+    with server.connect() as stream:
+        ask(stream, put(b"a", b"x"), STORED)
         assert run("memcflush", f"--servers=127.0.0.1:{server.port}") == (0, b"")
-        ask(stream, b"get a\r\n", b"END\r\n")
+        ask(stream, b"get a\r\n", END)
 
 
 # ---- all that docs/CLIENTS.md names
@@ -127,17 +115,19 @@ def all_clients(request):
 
 def said_by(calls, server):
     """The lines in which these clients say what works, and what doesn't."""
-    said, environment = [], {**os.environ, "PYTHONDONTWRITEBYTECODE": "1"}
+    here = {"PYTHONDONTWRITEBYTECODE": "1", "PYTHONPATH": f"{served.TOP}/tools"}
+    said, environment = [], {**os.environ, **here}
     for language, file, *given in calls:
-        line = [language, f"{CLIENTS}/{file}", *given, str(server.port)]
+        line = [language, f"{CLIENTS}/{file}", *given, server.path or str(server.port)]
         ran = subprocess.run(line, stdout=subprocess.PIPE, text=True, timeout=100, env=environment)
         said += [it.rstrip() for it in ran.stdout.splitlines()]
     return said
 
 
-def expected_of(name):
-    with open(f"{CLIENTS}/{name}", encoding="utf-8") as file:
-        return file.read().splitlines()
+def expected_of(name, clients=("",)):
+    """What is expected of these clients."""
+    lines = served.read(f"{CLIENTS}/{name}").splitlines()
+    return [line for line in lines if line.startswith(clients)]
 
 
 @pytest.mark.parametrize("words, calls, expected", [
@@ -145,7 +135,7 @@ def expected_of(name):
 ], ids=["strict", "package"])
 def test_each_call_of_each_client_works_or_fails_as_expected(program, all_clients, words, calls, expected):
     with served.Server(program, *words) as server:
-        assert said_by(calls, server) == expected_of(expected)
+        assert said_by(calls, server) == served.read(f"{CLIENTS}/{expected}").splitlines()
 
 
 @pytest.mark.parametrize("words, calls, names, expected", [
@@ -154,5 +144,27 @@ def test_each_call_of_each_client_works_or_fails_as_expected(program, all_client
      ("pymemcache ", "MediaWiki ", "cachelib "), "expected_lenient"),
 ], ids=["strict", "package"])
 def test_what_the_gate_has_works_as_expected(serve, words, calls, names, expected):
-    wanted = [line for line in expected_of(expected) if line.startswith(names)]
+    wanted = expected_of(expected, names)
     assert len(wanted) == 2 * len(names) and said_by(calls, serve(*words)) == wanted
+
+
+# ---- by a path in place of a port
+
+@pytest.fixture
+def server_at_path(program):
+    """Of the package, where any user may connect, as nginx does."""
+    with tempfile.TemporaryDirectory() as folder:
+        os.chmod(folder, 0o755)
+        with served.Server(program, *served.OF_THE_PACKAGE, "--socket-mode", "0777", listen=f"unix:{folder}/cache") as it:
+            yield it
+
+
+def test_pylibmc_works_by_path_as_by_port(server_at_path):
+    wanted = expected_of("expected_lenient", "pylibmc ")
+    assert len(wanted) == 2 and said_by([(sys.executable, "pylibmc_calls.py")], server_at_path) == wanted
+
+
+def test_php_memcached_and_nginx_work_by_path_as_by_port(all_clients, server_at_path):
+    wanted = expected_of("expected_lenient", ("nginx ", "php-memcached "))
+    calls = [(sys.executable, "nginx_calls.py"), ("php", "php_memcached_calls.php")]
+    assert len(wanted) == 4 and said_by(calls, server_at_path) == wanted

@@ -12,7 +12,7 @@ import time
 
 import pytest
 from asking import ask, hit
-from served import TOP
+from served import TOP, read
 
 DAY = 86_400
 HOUR = 3_600
@@ -69,10 +69,8 @@ def test_a_step_of_the_clock_by_a_day_changes_no_life(stepped):
 
 
 def test_only_its_own_module_makes_a_reading():
-    sources = {}
-    for path in glob.glob(f"{TOP}/crates/proto/src/*.rt"):
-        with open(path, encoding="utf-8") as file:
-            sources[os.path.basename(path)] = re.sub(r"//.*", "", file.read())
+    files = glob.glob(f"{TOP}/crates/proto/src/*.rt")
+    sources = {os.path.basename(it): re.sub(r"//.*", "", read(it)) for it in files}
     made = {name for name, text in sources.items() if re.search(r"\b(ClockReading|ClockStart) \{", text)}
     assert made == {"logged_clock.rt"}
     for name in ("ClockStart", "ClockReading"):

@@ -2,17 +2,18 @@
 import contextlib
 import os
 import re
+import resource
 import time
 
-from asking import ask
-from stats_of import told
+from asking import END, ask, asks_for, write_large
+from served import comes_true, read_to_end
+from stats_of import numbers
 
 
 def closed_by(server, stream):
     """Waits until the server has closed the connection. It returns what the other end is called."""
     host, port = stream.getsockname()[:2]
-    while stream.recv(65536):
-        pass
+    read_to_end(stream)
     return f"{host}:{port}"
 
 
@@ -28,6 +29,32 @@ def lines_of(server, seconds=2.5):
     os.set_blocking(server.process.stderr.fileno(), False)
     said = server.process.stderr.read() or ""
     return [it for it in said.splitlines() if not it.startswith("segcached: ")]
+
+
+def test_peers_of_a_path_have_no_address(serve, tmp_path):
+    server = serve("--lenient", listen=f"unix:{tmp_path}/cache")
+    with server.connect() as stream:
+        stream.sendall(b"set a 0 0 no\r\n")
+        read_to_end(stream)
+    assert lines_of(server) == ['closed a Unix socket: malformed storage line: "set a 0 0 no"']
+
+
+def test_one_for_which_there_is_no_memory_is_told(serve):
+    """Values grow until the process may have no more memory, which all threads take at one place."""
+    server = serve("--lenient", "--workers", "1", "--segment-size", "1048576", "--max-item-size", "1048512",
+                   environment={**os.environ, "GLIBC_TUNABLES": "glibc.malloc.arena_max=1"})
+    with server.connect() as stream:
+        ask(stream, b"get a\r\n", END)
+    most = server.kilobytes("VmSize") * 1024 + (4 << 20)
+    resource.prlimit(server.process.pid, resource.RLIMIT_AS, (most, most))
+    streams = [server.connect() for _ in range(40)]
+    for stream in streams:
+        stream.setblocking(False)
+        with contextlib.suppress(OSError):
+            stream.sendall(b"set a 0 0 1000000\r\n" + b"v" * 500_000)
+    lines = [it for it in lines_of(server) if it.startswith("closed ")]
+    form = r"closed 127\.0\.0\.1:[0-9]+: out of memory(; [0-9]+ more for this)?"
+    assert lines and all(re.fullmatch(form, it) for it in lines), lines
 
 
 SENT = {
@@ -75,18 +102,19 @@ def test_idle_connections_are_told(serve):
 
 
 def test_connections_closed_for_memory_are_told(serve):
-    """A worker keeps no more than 64 MiB of output, and each socket some four MB."""
+    """Of forty replies of 7.8 MB a worker keeps no more than 64 MiB, and each socket some four MB.
+    After ten seconds clients that took nothing are closed for those that wait."""
     server = serve("--lenient", "--workers", "1", "--segment-size", "1048576")
-    with contextlib.ExitStack() as streams:
-        stream = streams.enter_context(server.connect())
-        ask(stream, b"set large 0 0 130000\r\n%b\r\n" % (b"v" * 130_000), b"STORED\r\n")
+    write_large(server)
+    with server.connect() as stream:
+        assert numbers(stream)["closed_unread"] == 0
         for _ in range(40):
-            slow = streams.enter_context(server.connect(receive_buffer=65536))
-            slow.sendall(b"get" + b" large" * 60 + b"\r\n")
-        until = time.monotonic() + 30
-        while told(stream)["closed_unread"] == "0" and time.monotonic() < until:
-            time.sleep(0.1)
-        lines = lines_of(server)
+            asks_for(server, 60)
+        comes_true(lambda: numbers(stream)["closed_unread"] >= 3, 30)
+        found = numbers(stream)
+        assert 3 <= found["closed_unread"] < 40
+        assert found["curr_connections"] == 41 - found["closed_unread"]
+    lines = lines_of(server)
     assert lines and all(re.fullmatch(r"closed 127\.0\.0\.1:[0-9]+: stalled(; .*)?", it) for it in lines)
 
 
@@ -95,7 +123,7 @@ def test_what_clients_do_themselves_is_not_told(serve):
     for sent in (b"quit\r\n", b"nonsense\r\nquit\r\n"):
         send_and_lose(server, sent)
     with server.connect() as stream:
-        ask(stream, b"get a\r\n", b"END\r\n")
+        ask(stream, b"get a\r\n", END)
     assert lines_of(server) == []
 
 

@@ -1,10 +1,9 @@
 """Tests of what `tools/closure.py` finds, over a small tree that is written here, and that docs/HEADLINE.md has what its
 contracts rest on. They take a second.
 """
-import pathlib
-
 import closure
 import pytest
+from prove import write
 from served import TOP
 
 FILES = {
@@ -69,9 +68,7 @@ impl Thing for Other {
 @pytest.fixture
 def tree(tmp_path):
     for name, text in FILES.items():
-        path = tmp_path / "crates" / name
-        path.parent.mkdir(parents=True, exist_ok=True)
-        path.write_text(text, encoding="utf-8")
+        write(tmp_path / "crates" / name, text)
     return str(tmp_path)
 
 
@@ -102,9 +99,10 @@ def test_a_type_of_the_code_is_told_by_its_file(tree):
 
 
 def test_a_type_that_contracts_see_as_another_value_is_found_in_fields_and_heads(tree):
-    (path := pathlib.Path(tree) / "crates/low/src/parts").mkdir(parents=True)
-    (path.parent / "seen.rt").write_text("impl Model for Sides {\n}\nimpl<T: Drop> Model for Text<T> {\n}\nimpl Model for Unseen {\n}\n", encoding="utf-8")
-    (path / "shape.rt").write_text("/// (no Unseen)\npub enum Shape {\n    Round,\n    Square(Sides),\n}\nstruct Other(Unseen);\n", encoding="utf-8")
+    seen = ("impl Model for Sides", "impl<T: Drop> Model for Text<T>", "impl Model for Unseen")
+    write(f"{tree}/crates/low/src/seen.rt", "".join(f"{it} {{\n}}\n" for it in seen))
+    shape = "/// (no Unseen)\npub enum Shape {\n    Round,\n    Square(Sides),\n}\nstruct Other(Unseen);\n"
+    write(f"{tree}/crates/low/src/parts/shape.rt", shape)
     with open(f"{tree}/crates/high/src/call.rt", "a", encoding="utf-8") as file:
         file.write("fn last(text: &Text<u8>)\n    ensures { is_round result }\n{\n}\n")
     sources, contracts = closure.Sources(tree), ["high/src/call.rt:last"]

@@ -4,18 +4,15 @@ and ARCHITECTURE quote stands in the crates. They take a second.
 import glob
 import os
 import re
+import shutil
+import subprocess
 
 import pytest
 import served
-from served import TOP
+from served import TOP, read
 
 PAGES = sorted(glob.glob(f"{TOP}/*.md") + glob.glob(f"{TOP}/docs/*.md"))
 FILES = [it for it in glob.glob(f"{TOP}/*/**", recursive=True) if "/out/" not in it]
-
-
-def read(path):
-    with open(path, encoding="utf-8") as file:
-        return file.read()
 
 
 def prose(page):
@@ -62,3 +59,14 @@ def test_the_trusted_crates_are_those_that_no_crate_of_the_repository_is():
     said = re.search(r"and its crates (.*?)\. ", prose(f"{TOP}/docs/PROOFS.md").replace("\n", " "))[1]
     listed = re.findall(r"`(\w+)`", said)
     assert sorted(listed) == sorted(stood_on)
+
+
+@pytest.mark.skipif(not shutil.which("rt"), reason="the kit isn't there")
+def test_as_many_functions_in_c_are_trusted_as_the_kit_declares():
+    said = prose(f"{TOP}/docs/PROOFS.md").replace("\n ", "")
+    kit = os.path.dirname(subprocess.check_output(["rt", "doc"], text=True).strip())
+    for name in ("os", "libc"):
+        sources = "".join(map(read, glob.glob(f"{kit}/rattle/{name}/src/**/*.rt", recursive=True)))
+        declared = re.findall(r'extern "C" {.*?^}', re.sub(r"//.*", "", sources), re.DOTALL | re.MULTILINE)
+        count = len(re.findall(r"\bfn \w", "".join(declared)))
+        assert count > 0 and f"{count} of `{name}`" in said, count

@@ -27,8 +27,9 @@ def test_the_page_says_what_the_edits_say():
     assert edits.amiss(found, edits.read(f"{TOP}/docs/EDITS.md"), edits.read(f"{TOP}/docs/PROOFS.md")) == []
 
 
-def test_a_page_has_a_table_for_each_crate():
-    assert edits.page_of(FOUND) == edits.HEAD + TABLES
+def test_a_page_has_a_table_for_each_crate_behind_its_head():
+    page = "# Head\n\nText.\n\n## `other`\n\n| old |\n"
+    assert edits.page_of(FOUND, page) == "# Head\n\nText.\n" + TABLES
 
 
 def test_what_is_amiss_is_said():

@@ -8,8 +8,8 @@ import time
 
 import pytest
 import tries
-from asking import ask, hit
-from served import read_exactly, read_till_closed, read_to_end
+from asking import END, STORED, TOO_LARGE, ask, hit, hits, is_same, put
+from served import comes_true, read_till_closed, read_to_end, together
 
 # The most bytes of a session that a worker reads at a time.
 PIECE = 16_384
@@ -37,22 +37,20 @@ def test_a_pipeline_of_exactly_what_is_read_at_a_time_is_answered_and_goes_on(se
 
 # ---- clients that send no more
 
-def half_closed(server, number, storing):
-    """A client that has sent 2,000 requests and then no more, half of them before the process stood still: its stream, and its answers."""
-    stream = server.connect(30)
-    ask(stream, b"get a\r\n", b"END\r\n")
-    if storing:
-        requests = [b"set s%d-%d 0 0 1\r\nx\r\n" % (number, key) for key in range(2000)]
-        answers = b"STORED\r\n" * 2000
-    else:
-        requests, answers = [b"get g%d-%d\r\n" % (number, key) for key in range(2000)], b"END\r\n" * 2000
-    return stream, requests, answers
+def half_closed(server, number):
+    """A client with 2,000 requests, of which each other one of eight stores: its stream, these, and
+    what each is answered."""
+    stream, is_storing = server.connect(30), number % 2 == 0
+    ask(stream, b"get a\r\n", END)
+    request = b"set s%d-%d 0 0 1\r\nx\r\n" if is_storing else b"get g%d-%d\r\n"
+    answer = STORED if is_storing else END
+    return stream, [request % (number, key) for key in range(2000)], answer
 
 
 def test_a_client_that_sends_no_more_gets_all_answers_of_a_process_that_stood_still(serve, storage):
     """Some of them closed their sending half before the process stopped, and some while it stood still."""
     server = serve("--workers", "2", *storage)
-    clients = [half_closed(server, number, storing=number % 2 == 0) for number in range(8)]
+    clients = [half_closed(server, number) for number in range(8)]
     for number, (stream, requests, _) in enumerate(clients):
         stream.sendall(b"".join(requests if number < 4 else requests[:1000]))
         if number < 4:
@@ -63,16 +61,15 @@ def test_a_client_that_sends_no_more_gets_all_answers_of_a_process_that_stood_st
         stream.shutdown(socket.SHUT_WR)
     time.sleep(2.2)
     server.process.send_signal(signal.SIGCONT)
-    for stream, _, answers in clients:
-        is_right = read_to_end(stream) == answers
-        assert is_right
+    for stream, _, answer in clients:
+        assert is_same(read_to_end(stream), answer * 2000)
         stream.close()
     with server.connect() as stream:
         for number in range(0, 8, 2):
             for at in range(0, 2000, 100):
                 keys = [b"s%d-%d" % (number, key) for key in range(at, at + 100)]
-                wanted = b"".join(hit(key, b"x").removesuffix(b"END\r\n") for key in keys) + b"END\r\n"
-                ask(stream, b"get %b\r\n" % b" ".join(keys), wanted)
+                ask(stream, b"get %b\r\n" % b" ".join(keys),
+                    b"".join(hits(it, b"x") for it in keys) + END)
 
 
 @pytest.mark.parametrize("requests, answers", [
@@ -96,12 +93,11 @@ def test_a_late_reader_that_sends_no_more_gets_all_answers(serve):
     """24 MB of answers, of which the server may keep a part alone while nobody reads."""
     value = b"v" * 60_000
     with serve("--workers", "1", "--segment-size", "1048576").connect(30, receive_buffer=65536) as stream:
-        ask(stream, b"set big 0 0 60000\r\n" + value + b"\r\n", b"STORED\r\n")
+        ask(stream, put(b"big", value), STORED)
         stream.sendall(b"get big\r\n" * 400)
         stream.shutdown(socket.SHUT_WR)
         time.sleep(1)
-        is_right = read_to_end(stream) == hit(b"big", value) * 400
-        assert is_right
+        assert is_same(read_to_end(stream), hit(b"big", value) * 400)
 
 
 # ---- clients that quit
@@ -113,26 +109,26 @@ def test_each_of_eighty_that_quit_and_stay_gets_its_answer_and_nothing_more(serv
     for stream in streams:
         stream.sendall(b"get a\r\nquit\r\n")
     for stream in streams:
-        assert read_exactly(stream, 5) == b"END\r\n"
+        ask(stream, b"", END)
     for stream in streams:
         # (one that was closed already may be told so)
         with contextlib.suppress(OSError):
             stream.sendall(b"get a\r\nbogus\r\n")
     for stream in streams:
         assert read_till_closed(stream) == b""
-        stream.close()
 
 
 def seconds_until_closed(server):
-    """How long a session that quits is held, whose client neither closes nor sends."""
+    """How long a session that quits is held, whose client neither closes nor sends. (It is counted
+    before it quits: this process may stand still until the session has gone.)"""
     with server.connect() as stream:
-        stream.sendall(b"get a\r\nquit\r\n")
-        assert read_to_end(stream) == b"END\r\n"
-        began, held = time.monotonic(), server.descriptors()
-        while server.descriptors() == held and time.monotonic() - began < 10:
-            time.sleep(0.02)
+        ask(stream, b"get a\r\n", END)
+        held, began = server.descriptors(), time.monotonic()
+        stream.sendall(b"quit\r\n")
+        assert read_to_end(stream) == b""
+        assert comes_true(lambda: server.descriptors() == held - 1)
         took = time.monotonic() - began
-        assert server.descriptors() == held - 1 and took > 1
+        assert took > 1
         return took
 
 
@@ -171,7 +167,7 @@ def test_each_of_twenty_that_send_too_much_sees_why_it_is_shut(serve):
             stream.sendall(b"set a 0 0 1048576\r\n")
             for _ in range(128):
                 stream.sendall(b"x" * 8192)
-            assert read_to_end(stream) == b"SERVER_ERROR object too large for cache\r\n"
+            assert read_to_end(stream) == TOO_LARGE
     assert server.wait() == 0
 
 
@@ -199,18 +195,14 @@ for number in range(0, count, at_once):
 """
 
 
-def come_and_go(server, count):
-    return subprocess.Popen([sys.executable, "-c", COMERS, str(server.port), str(count)])
-
-
 def test_sessions_that_came_and_went_leave_no_memory(serve, say):
     """150,000 of them: with 16 bytes a session it would be 2.4 MB, and with 32 until a limit on silence has passed 4.8 MB."""
     servers = [serve("--workers", "1"), serve("--workers", "1", "--idle", "86400")]
     resident = []
     # (the first ones take what is kept for later ones)
     for count in (20_000, 150_000):
-        comers = [come_and_go(server, count) for server in servers]
-        assert [it.wait(300) for it in comers] == [0, 0]
+        words = [[sys.executable, "-c", COMERS, str(server.port), str(count)] for server in servers]
+        together(lambda it=it: subprocess.run(it, check=True, timeout=300) for it in words)
         time.sleep(0.2)
         resident.append([server.kilobytes("VmRSS") for server in servers])
     grown = [after - before for before, after in zip(*resident)]

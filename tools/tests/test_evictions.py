@@ -8,13 +8,12 @@ written again goes over its item: one of a segment that was opened at 1,088 and 
 seconds later.
 """
 import pytest
-from asking import hit
+from asking import END, STORED, hit, is_same
 from replays import given
 
 EIGHT_SEGMENTS = "--segment-size 4096 --segments 8 "
 # (a segment holds eight items of this size)
 VALUE = b"v" * 476
-STORED, END = b"STORED\r\n", b"END\r\n"
 LEAST_READ = "--evict least-read"
 
 # The words; the TTL; how many keys are written; how often the first one is read before the 65th write; how often the last one is then
@@ -53,8 +52,7 @@ def test_merges_keep_what_was_read(program, words, ttl, writes, reads, again, fo
     for key in range(1, writes + 1):
         sent += b"get k%03d\r\n" % key
         wanted += END if any(first <= key <= last for first, last in forgotten) else hit(b"k%03d" % key, VALUE)
-    is_right = given(program, EIGHT_SEGMENTS + words, sent) == wanted
-    assert is_right
+    assert is_same(given(program, EIGHT_SEGMENTS + words, sent), wanted)
 
 
 # Nine keys are written, each with a life of its own: eight times its number of seconds. They stand in nine buckets, of which eight have a

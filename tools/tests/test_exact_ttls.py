@@ -1,16 +1,20 @@
 """With `--exact-ttls` an item lives as long as its TTL says, to the second: rows by the clock of a replay, and items of a served program.
 
-A row is worked out from the TTL alone: at a moment and a TTL later the item is gone, and until a second before it is there. (The one test that
-waits takes sixteen seconds.)
+A row is worked out from the TTL alone: at a moment and a TTL later the item is gone, and until a second before it is there. (The tests that
+wait take sixteen, twelve and six seconds.)
 """
+import glob
+import os
 import time
 
 import pytest
-from test_store_rows import END, IN_PLACE, LENIENT, NOT_FOUND, STORED, TOUCHED, found, hit, key, must_answer, must_answer_at, put
+import tries
+from asking import END, NOT_FOUND, NOT_STORED, STORED, TOUCHED
+from asking import hits as hit
+from test_store_rows import IN_PLACE, LENIENT, SHOWN, found, key, must_answer, must_answer_at, put
 
 EXACT = "--exact-ttls"
 LEAST_READ = "--evict", "least-read"
-SHOWN = hit(b"a", b"x") + END
 ALL_WORDS = [(), LEAST_READ, (LENIENT, IN_PLACE), (LENIENT, IN_PLACE, *LEAST_READ)]
 
 
@@ -46,7 +50,7 @@ def test_a_counter_that_counts_each_second_ends_with_its_ttl(program, ttl, words
 @pytest.mark.parametrize("words", ALL_WORDS[2:] + [(LENIENT,)], ids=" ".join)
 def test_an_item_that_is_joined_each_second_ends_with_its_ttl(program, words):
     append = b"append a 0 0 1\r\ny\r\n"
-    rows = [(put(b"a", 60, b"x"), STORED), *[(append, STORED)] * 59, (append, b"NOT_STORED\r\n")]
+    rows = [(put(b"a", 60, b"x"), STORED), *[(append, STORED)] * 59, (append, NOT_STORED)]
     must_answer(program, rows, "--tick", 1, EXACT, *words)
 
 
@@ -82,8 +86,8 @@ def test_another_ttl_counts_from_the_moment_at_which_it_is_asked_for(program, ro
 def test_a_lock_keeps_others_out_until_its_ttl_ends(program, words):
     """So php-memcache locks a session, for 15 seconds."""
     add = b"add lock 0 15 1\r\nx\r\n"
-    tries = [(1000 + second, add, b"NOT_STORED\r\n") for second in range(1, 15)]
-    must_answer_at(program, [(993, put(b"other", 15, b"x"), STORED), (1000, add, STORED), *tries, (1015, add, STORED)], EXACT, *words)
+    kept_out = [(1000 + second, add, NOT_STORED) for second in range(1, 15)]
+    must_answer_at(program, [(993, put(b"other", 15, b"x"), STORED), (1000, add, STORED), *kept_out, (1015, add, STORED)], EXACT, *words)
 
 
 @pytest.mark.parametrize("words", ALL_WORDS, ids=" ".join)
@@ -131,33 +135,75 @@ def test_a_merge_keeps_each_deadline(program):
 
 # ---- by the clock of the system
 
-TTLS = [1, 2, 5, 8, 15]
 COUNT = 24
 
 
-def test_24_items_of_each_ttl_live_as_long_less_at_most_a_second(serve):
+@pytest.fixture
+def faster(serve):
+    """Starts a server whose clock runs so many times as fast, by libfaketime."""
+    library = glob.glob("/usr/lib/*/faketime/libfaketimeMT.so.1")[0]
+
+    def start(times, *words):
+        faked = {"LD_PRELOAD": library, "FAKETIME": f"+0 x{times}"} if times > 1 else {}
+        return serve("--workers", "1", *words, environment={**os.environ, **faked})
+
+    return start
+
+
+@pytest.mark.parametrize("times, ttls", [(1, [1, 2, 5, 8, 15]), (50, [30, 60, 600])])
+def test_24_items_of_each_ttl_live_as_long_less_at_most_a_second(faster, times, ttls):
     """An answer that comes before the TTL less a second is over, since the item was sent, shows it. One that was asked for when the TTL is over,
     since the item was stored, doesn't."""
-    with serve("--workers", "1", EXACT).connect() as stream, stream.makefile("rb") as answers:
+    def now():
+        return time.monotonic() * times
+
+    with faster(times, EXACT).connect() as stream, stream.makefile("rb") as answers:
         sent, stored, hits, misses = {}, {}, 0, 0
         for number in range(COUNT):
-            for ttl in TTLS:
+            for ttl in ttls:
                 name = b"k-%d-%d" % (ttl, number)
-                sent[name] = time.monotonic()
+                sent[name] = now()
                 stream.sendall(b"set %b 0 %d 1\r\nx\r\n" % (name, ttl))
                 assert answers.readline() == STORED
-                stored[name] = time.monotonic(), ttl
-            time.sleep(1 / COUNT)
-        while any(time.monotonic() < at + ttl + 0.3 for at, ttl in stored.values()):
+                stored[name] = now(), ttl
+            time.sleep(1 / COUNT / times)
+        while any(now() < at + ttl + 0.3 for at, ttl in stored.values()):
             for name, (at, ttl) in stored.items():
-                asked = time.monotonic()
+                asked = now()
                 stream.sendall(b"get %b\r\n" % name)
                 is_hit = answers.readline() != END
                 if is_hit:
                     assert (answers.readline(), answers.readline()) == (b"x\r\n", END)
                 assert not (is_hit and asked >= at + ttl), f"{name} is there {asked - at:.2f} seconds after it was stored"
-                told = time.monotonic()
+                told = now()
                 assert is_hit or told >= sent[name] + ttl - 1, f"{name} is gone {told - sent[name]:.2f} seconds after it was sent"
                 hits, misses = hits + is_hit, misses + (not is_hit)
-            time.sleep(0.05)
-        assert hits > COUNT * len(TTLS) and misses > COUNT * len(TTLS)
+            time.sleep(0.05 / times)
+        assert hits > COUNT * len(ttls) and misses > COUNT * len(ttls)
+
+
+def passed_in_a_minute(server, times):
+    """Of 300 requests within a minute, how many a limit of 100 lets pass; and whether they came within it. It counts each in a counter of a
+    minute, which it adds where there is none."""
+    passed, began = 0, time.monotonic()
+    with server.connect() as stream, stream.makefile("rb") as answers:
+        for number in range(300):
+            stream.sendall(b"incr n 1\r\n")
+            count = answers.readline()
+            if count == NOT_FOUND:
+                stream.sendall(b"add n 0 60 1\r\n1\r\n")
+                assert answers.readline() == STORED
+                count = b"1\r\n"
+            passed += int(count) <= 100
+            time.sleep(max(0, began + number * 58 / 300 / times - time.monotonic()))
+    return passed, (time.monotonic() - began) * times < 59
+
+
+@pytest.mark.parametrize("words", [(EXACT,), (EXACT, IN_PLACE, *LEAST_READ)], ids=" ".join)
+def test_a_limit_of_100_a_minute_lets_100_of_300_pass(faster, words):
+    def attempt():
+        passed, is_in_time = passed_in_a_minute(faster(20, *words), 20)
+        assert passed >= 100 and (passed == 100 or not is_in_time), passed
+        return is_in_time, "it took longer than a minute"
+
+    tries.in_two_of_three(attempt)

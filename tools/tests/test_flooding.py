@@ -10,7 +10,7 @@ import random
 import subprocess
 
 import pytest
-from served import read_exactly
+from asking import STORED, ask, hit, put
 
 # The first slots of chosen keys are among the first SPAN of this number of slots, and so of fewer.
 SLOTS = 1 << 18
@@ -40,60 +40,52 @@ def plain_keys():
     return [b"plain-%010d" % number for number in range(COUNT)]
 
 
-def ask_in_pieces(stream, keys, request, answer):
-    """The request of each key, a hundred at a time."""
-    for at in range(0, len(keys), 100):
-        piece = keys[at : at + 100]
-        stream.sendall(b"".join(request % key for key in piece))
-        wanted = b"".join(answer % key if b"%b" in answer else answer for key in piece)
-        assert read_exactly(stream, len(wanted)) == wanted
+def ask_in_pieces(stream, pairs):
+    """Requests with their answers, a hundred at a time."""
+    for at in range(0, len(pairs), 100):
+        ask(stream, *map(b"".join, zip(*pairs[at : at + 100])))
 
 
 def microseconds_a_key(server, keys):
     """The server's processor time for a `set` and a `get` of each key in pipelines."""
     with server.connect(120) as stream:
         before = server.processor_seconds()
-        ask_in_pieces(stream, keys, b"set %b 0 0 1\r\nx\r\n", b"STORED\r\n")
-        ask_in_pieces(stream, random.Random(1).sample(keys, len(keys)), b"get %b\r\n", b"VALUE %b 0 1\r\nx\r\nEND\r\n")
+        ask_in_pieces(stream, [(put(key, b"x"), STORED) for key in keys])
+        gets = [(b"get %b\r\n" % key, hit(key, b"x")) for key in keys]
+        ask_in_pieces(stream, random.Random(1).sample(gets, len(gets)))
         return (server.processor_seconds() - before) * 1e6 / len(keys)
 
 
 @pytest.fixture
-def cost_of(serve, say):
-    """What these keys cost a server of their own."""
+def is_flooded(serve, say):
+    """Whether these keys cost a server of their own much more than others."""
 
-    def cost(name, keys, environment=None):
-        server = serve("--workers", "1", "--segment-size", "1048576", "--segments", "16", environment=environment)
-        microseconds = microseconds_a_key(server, keys)
-        say(f"{microseconds:.1f} us for a set and a get of keys {name}")
-        return microseconds
+    def compared(chosen, environment=None):
+        costs = []
+        for keys, around in ((chosen, environment), (plain_keys(), None)):
+            sizes = "--segment-size", "1048576", "--segments", "16"
+            costs.append(microseconds_a_key(serve("--workers", "1", *sizes, environment=around),
+                                            keys))
+        say("{:.1f} us for a set and a get of chosen keys, and {:.1f} of others".format(*costs))
+        # (a busy machine adds a few microseconds)
+        return costs[0] > 2 * costs[1] + 5
 
-    return cost
-
-
-def is_flooded(chosen, plain):
-    """Whether chosen keys cost much more than others. (A busy machine adds a few microseconds.)"""
-    return chosen > 2 * plain + 5
+    return compared
 
 
 @pytest.mark.parametrize("seed", BOTH, ids=hex)
-def test_the_seed_is_the_systems_random_bytes(compiled, chosen_for, cost_of, seed):
+def test_the_seed_is_the_systems_random_bytes(compiled, chosen_for, is_flooded, seed):
     shim = compiled("known_random", "-shared", "-fPIC")
     environment = {**os.environ, "LD_PRELOAD": shim, "KNOWN_RANDOM": str(seed)}
-    chosen = cost_of("that were chosen for the server's own random bytes", chosen_for(seed), environment)
-    plain = cost_of("that nobody chose", plain_keys(), environment)
-    assert is_flooded(chosen, plain)
+    assert is_flooded(chosen_for(seed), environment)
 
 
-def test_without_random_bytes_the_seed_is_the_clock(compiled, chosen_for, cost_of):
+def test_without_random_bytes_the_seed_is_the_clock(compiled, chosen_for, is_flooded):
     libraries = [compiled("known_random", "-shared", "-fPIC"), *glob.glob("/usr/lib/*/faketime/libfaketimeMT.so.1")]
     environment = {**os.environ, "LD_PRELOAD": " ".join(libraries), "FAKETIME": AT, "FAKETIME_DONT_FAKE_MONOTONIC": "1", "TZ": "UTC"}
-    chosen = cost_of("that were chosen for the moment of the start", chosen_for(STOPPED * 10**9), environment)
-    plain = cost_of("that nobody chose", plain_keys(), environment)
-    assert is_flooded(chosen, plain)
+    assert is_flooded(chosen_for(STOPPED * 10**9), environment)
 
 
 @pytest.mark.parametrize("seed", [KNOWN, OF_REPLAY], ids=["another server's bytes", "the seed of replay"])
-def test_keys_chosen_for_another_seed_cost_no_more_than_others(chosen_for, cost_of, seed):
-    chosen = cost_of("that were chosen for another seed", chosen_for(seed))
-    assert not is_flooded(chosen, cost_of("that nobody chose", plain_keys()))
+def test_keys_chosen_for_another_seed_cost_no_more_than_others(chosen_for, is_flooded, seed):
+    assert not is_flooded(chosen_for(seed))

@@ -7,15 +7,13 @@ import struct
 import threading
 import time
 
+import pytest
 import tries
-from asking import ask
-from stats_of import told, wait_for
+from asking import END, ERROR, NOT_FOUND, NOT_STORED, STORED, TOO_LARGE, ask, hits, put
+from served import comes_true, read
+from stats_of import numbers, told, wait_for
 
-TOO_LARGE = b"SERVER_ERROR object too large for cache\r\n"
-
-
-def numbers(stream):
-    return {name: int(it) for name, it in told(stream).items() if it.isdigit()}
+MIB = 1 << 20
 
 
 # ---- the process
@@ -40,22 +38,16 @@ def test_each_thread_has_a_name_of_its_own(serve):
     workers = {f"worker {number}" for number in range(8)}
     server = serve("--workers", "8")
     with server.connect() as stream:
-        ask(stream, b"get a\r\n", b"END\r\n")
-        until = time.monotonic() + 10
-        while not workers <= server.threads().keys() and time.monotonic() < until:
-            time.sleep(0.01)
-    names = []
-    for task in os.listdir(f"/proc/{server.process.pid}/task"):
-        with open(f"/proc/{server.process.pid}/task/{task}/comm", encoding="ascii") as file:
-            names.append(file.read().strip())
+        ask(stream, b"get a\r\n", END)
+        comes_true(lambda: workers <= server.threads().keys())
     # (the first thread has the program's name)
-    assert {*workers, "storage", "listener"} < set(names) and len(names) == 11 == len(set(names))
+    names, count = server.threads().keys(), len(os.listdir(f"/proc/{server.process.pid}/task"))
+    assert {*workers, "storage", "listener"} < names and len(names) == 11 == count
 
 
 def processor_times(process):
     """The process's own times in user mode and in the system, in seconds, as the system tells them."""
-    with open(f"/proc/{process.pid}/stat", encoding="ascii") as file:
-        words = file.read().rpartition(")")[2].split()
+    words = read(f"/proc/{process.pid}/stat").rpartition(")")[2].split()
     return tuple(int(it) / os.sysconf("SC_CLK_TCK") for it in words[11:13])
 
 
@@ -63,11 +55,12 @@ def test_processor_times_are_told(serve):
     """They are at most 1.1 seconds old, so two seconds after the last work they are those of then."""
     server = serve("--lenient")
     with server.connect() as stream:
-        for _ in range(20):
-            ask(stream, (b"get" + b" k" * 15_000 + b"\r\n") * 10, b"END\r\n" * 10)
-        until = time.monotonic() + 60
-        while sum(processor_times(server.process)) < 0.1 and time.monotonic() < until:
-            ask(stream, (b"get" + b" k" * 15_000 + b"\r\n") * 10, b"END\r\n" * 10)
+        def has_worked():
+            for _ in range(20):
+                ask(stream, (b"get" + b" k" * 15_000 + b"\r\n") * 10, END * 10)
+            return sum(processor_times(server.process)) >= 0.1
+
+        assert comes_true(has_worked, 60)
         time.sleep(2)
         found, real = told(stream), processor_times(server.process)
     for name, it in zip(("rusage_user", "rusage_system"), real):
@@ -76,31 +69,27 @@ def test_processor_times_are_told(serve):
 
 # ---- busy times
 
-class Flood:
-    """A client that sends requests faster than they are answered, and reads the answers."""
+@contextlib.contextmanager
+def flooded(stream, requests):
+    """A client sends requests faster than they are answered, and reads the answers."""
+    is_ended = threading.Event()
 
-    def __init__(self, stream, requests):
-        self.stream, self.requests, self.is_ended = stream, requests, threading.Event()
-        self.threads = [threading.Thread(target=it, daemon=True) for it in (self.send, self.read)]
-
-    def send(self):
+    def send():
         with contextlib.suppress(OSError):
-            while not self.is_ended.is_set():
-                self.stream.sendall(self.requests)
+            while not is_ended.is_set():
+                stream.sendall(requests)
 
-    def read(self):
+    def read_all():
         with contextlib.suppress(OSError):
-            while self.stream.recv(1 << 20):
+            while stream.recv(1 << 20):
                 pass
 
-    def __enter__(self):
-        for it in self.threads:
-            it.start()
-        time.sleep(0.2)
-
-    def __exit__(self, *_):
-        self.is_ended.set()
-        self.stream.close()
+    for it in (send, read_all):
+        threading.Thread(target=it, daemon=True).start()
+    time.sleep(0.2)
+    yield
+    is_ended.set()
+    stream.close()
 
 
 def busy_shares(stream, seconds=1.0):
@@ -123,7 +112,7 @@ def shares_beside(serve, requests=None):
     server = serve("--lenient", "--workers", "2")
     with server.connect() as stream, server.connect() as other:
         wait_for(stream, curr_connections_0=1, curr_connections_1=1)
-        with Flood(other, requests) if requests else contextlib.nullcontext():
+        with flooded(other, requests) if requests else contextlib.nullcontext():
             shares = busy_shares(stream)
     names = {"storage_busy_us", "worker_busy_us_0", "worker_busy_us_1"}
     assert shares.keys() == names
@@ -172,7 +161,7 @@ def test_the_longest_merge_is_kept(serve):
             size, count = (10, 500) if round_ < 40 else (6000, 20)
             line = b"set key-%d-%d 0 0 %d noreply\r\n%b\r\n"
             sets = [line % (round_, at, size, b"v" * size) for at in range(count)]
-            ask(stream, b"".join(sets) + b"get none\r\n", b"END\r\n")
+            ask(stream, b"".join(sets) + b"get none\r\n", END)
             found = numbers(stream)
             longest.append(found["merge_us_max"])
     assert found["merges"] > 10 and longest == sorted(longest)
@@ -182,10 +171,11 @@ def test_the_longest_merge_is_kept(serve):
 def test_lookups_of_expired_items_are_counted(serve):
     """Those of items that are alive and of keys that never had one are not."""
     with serve("--lenient", "--exact-ttls").connect() as stream:
-        ask(stream, b"set a 0 1 1\r\nx\r\nset b 0 0 1\r\nx\r\nget b c\r\n", b"STORED\r\nSTORED\r\nVALUE b 0 1\r\nx\r\nEND\r\n")
+        hit = hits(b"b", b"x") + END
+        ask(stream, put(b"a", b"x", exptime=1) + put(b"b", b"x") + b"get b c\r\n", 2 * STORED + hit)
         assert numbers(stream)["get_expired"] == 0
         time.sleep(2.1)
-        ask(stream, b"get a\r\nget a b\r\n", b"END\r\nVALUE b 0 1\r\nx\r\nEND\r\n")
+        ask(stream, b"get a\r\nget a b\r\n", END + hit)
         found = numbers(stream)
     assert (found["get_expired"], found["get_misses"]) == (2, 3)
 
@@ -193,68 +183,63 @@ def test_lookups_of_expired_items_are_counted(serve):
 def test_failed_accepts_are_no_rejected_connections(serve):
     """A process of 64 descriptors can't accept 150 connections, which wait in the system's queue."""
     server = serve("--lenient", limits={resource.RLIMIT_NOFILE: 64})
-    folder = f"/proc/{server.process.pid}/fd"
-    with server.connect() as stream, contextlib.ExitStack() as others:
-        ask(stream, b"get none\r\n", b"END\r\n")
+    with server.connect() as stream:
+        ask(stream, b"get none\r\n", END)
         for _ in range(150):
-            others.enter_context(server.connect())
-        until = time.monotonic() + 10
-        while len(os.listdir(folder)) < 64 and time.monotonic() < until:
-            time.sleep(0.01)
+            server.connect()
+        comes_true(lambda: server.descriptors() >= 64)
         # (the next tries come a hundredth of a second after each other)
         time.sleep(0.2)
         found = numbers(stream)
         assert 30 < found["curr_connections"] < 64
         assert (found["rejected_connections"], found["listen_disabled_num"]) == (0, 0)
-    assert "connections can't be accepted" in stopped_errors(server)
-
-
-def stopped_errors(server):
-    """What a server wrote to standard error, which is ended for it."""
     server.process.kill()
     server.was_stopped = True
-    return server.errors()
+    assert "connections can't be accepted" in server.errors()
 
 
 def test_what_is_not_stored_as_too_large_is_counted_and_nothing_else(serve):
     """An item has 24 bytes beside key and value, and 8,192 at most."""
     def block(verb, size, words=b""):
-        return b"%b a 0 0 %d%b\r\n%b\r\n" % (verb, size, words, b"v" * size)
+        return put(b"a", b"v" * size, verb, words=words)
 
     with serve("--lenient").connect() as stream:
-        stored, quiet = b"STORED\r\n", b" noreply"
+        quiet, others = b" noreply", block(b"cas", 1, b" 0") + put(b"b", b"x", b"append")
         # (stored, not stored for another cause, or no storage command)
-        ask(stream, block(b"set", 8167) + block(b"set", 8167, quiet) + block(b"add", 1), stored + b"NOT_STORED\r\n")
-        ask(stream, block(b"cas", 1, b" 0") + b"append b 0 0 1\r\nx\r\n", b"EXISTS\r\nNOT_STORED\r\n")
-        ask(stream, b"x" * 9000 + b"\r\nincr b 1\r\n", b"ERROR\r\nNOT_FOUND\r\n")
+        ask(stream, block(b"set", 8167) + block(b"set", 8167, quiet) + block(b"add", 1),
+            STORED + NOT_STORED)
+        ask(stream, others + b"x" * 9000 + b"\r\nincr b 1\r\n",
+            b"EXISTS\r\n" + NOT_STORED + ERROR + NOT_FOUND)
         assert numbers(stream)["store_too_large"] == 0
         # (by one byte, in each way, as a block, and as one that is dropped as it comes)
         for count, requests in enumerate((
             block(b"set", 8168), block(b"add", 8168), block(b"replace", 8168), block(b"set", 8168, quiet),
-            block(b"set", 140_000), block(b"set", 140_000, quiet),
+            block(b"set", 140_000), block(b"set", 140_000, quiet), block(b"append", 1),
+            block(b"prepend", 1, quiet),
         ), 1):
-            ask(stream, requests + b"get b\r\n", TOO_LARGE * (quiet not in requests) + b"END\r\n")
-            assert numbers(stream)["store_too_large"] == count
-        ask(stream, block(b"set", 8167), stored)
-        for count, requests in enumerate((block(b"append", 1), block(b"prepend", 1, quiet)), 7):
-            ask(stream, requests + b"get b\r\n", TOO_LARGE * (quiet not in requests) + b"END\r\n")
+            ask(stream, block(b"set", 8167) + requests + b"get b\r\n",
+                STORED + TOO_LARGE * (quiet not in requests) + END)
             assert numbers(stream)["store_too_large"] == count
 
 
-def test_connections_closed_for_unread_output_are_told(serve):
-    """Of forty replies of 7.8 MB a worker keeps no more than 64 MiB, and each socket some four MB. After ten seconds clients that
-    took nothing are closed for those that wait."""
-    server = serve("--lenient", "--workers", "1", "--segment-size", "1048576")
+@contextlib.contextmanager
+def forty_slow_readers(server):
+    """Each asks for 7.8 MB and takes none, so that its socket takes some four MB. The stream asks for what is told."""
     with contextlib.ExitStack() as streams:
         stream = streams.enter_context(server.connect())
         ask(stream, b"set large 0 0 130000\r\n%b\r\n" % (b"v" * 130_000), b"STORED\r\n")
-        assert numbers(stream)["closed_unread"] == 0
         for _ in range(40):
             slow = streams.enter_context(server.connect(receive_buffer=65536))
             slow.sendall(b"get" + b" large" * 60 + b"\r\n")
-        until = time.monotonic() + 30
-        while numbers(stream)["closed_unread"] < 3 and time.monotonic() < until:
+        yield stream
+
+
+@pytest.mark.parametrize("words, budget", [([], 64 * MIB), (["--output-memory", str(16 * MIB)], 16 * MIB)], ids=["default", "told"])
+def test_a_worker_keeps_as_much_output_as_it_is_told(serve, words, budget):
+    """A reply may turn out larger than was likely."""
+    with forty_slow_readers(serve("--lenient", "--workers", "1", "--segment-size", "1048576", *words)) as stream:
+        most, until = 0, time.monotonic() + 5
+        while time.monotonic() < until:
+            most = max(most, numbers(stream)["output_bytes"])
             time.sleep(0.05)
-        found = numbers(stream)
-        assert 3 <= found["closed_unread"] < 40
-        assert found["curr_connections"] == 41 - found["closed_unread"]
+    assert budget // 4 < most <= budget + 8_000_000

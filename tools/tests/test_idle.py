@@ -1,5 +1,6 @@
-"""`serve --idle 1`: which connections are closed, and which aren't. (Most waits are in one test, which takes five seconds, and the longest ones in
-another, which takes seven.)"""
+"""`serve --idle 1`: which connections are closed, and which aren't. (Most waits are in one test, whose tries take five seconds, and the longest ones
+in another, whose tries take seven.)"""
+import concurrent.futures
 import contextlib
 import os
 import socket
@@ -10,37 +11,24 @@ import threading
 import time
 
 import tries
-from asking import ask, hit
-from served import read_exactly, read_till_closed
+from asking import END, STORED, ask, hit, is_same, put
+from served import comes_true, read_exactly, read_till_closed
 
 VALUE = b"v" * 8000
 
 
-class Watched:
-    """Runs a client in a thread of its own, and keeps what was wrong with it."""
-
-    def __init__(self, client, *given):
-        self.trouble = None
-        self.thread = threading.Thread(target=self.run, args=(client, *given))
-        self.thread.start()
-
-    def run(self, client, *given):
-        try:
-            client(*given)
-        except Exception as trouble:  # (it is the test's)
-            self.trouble = trouble
-
-    def join(self):
-        """What was wrong with it, if anything."""
-        self.thread.join()
-        return self.trouble
+def troubles_of(clients):
+    """What was wrong with clients that run at once, each a function and what it is given."""
+    with concurrent.futures.ThreadPoolExecutor(len(clients)) as pool:
+        runs = [pool.submit(*it) for it in clients]
+    return [it.exception() for it in runs if it.exception()]
 
 
 def speaks_every(server, seconds, until):
     """A client that is silent for less than the limit each time isn't closed."""
     with server.connect() as stream:
         while time.monotonic() < until:
-            ask(stream, b"get none\r\n", b"END\r\n")
+            ask(stream, b"get none\r\n", END)
             time.sleep(seconds)
 
 
@@ -51,7 +39,7 @@ def sends_a_byte_every(server, seconds, until):
             for byte in b"get none\r\n":
                 stream.sendall(bytes([byte]))
                 time.sleep(seconds)
-            assert read_exactly(stream, 5) == b"END\r\n"
+            ask(stream, b"", END)
 
 
 def reads_steadily(server, rate, until):
@@ -77,8 +65,7 @@ def reads_slowly(server, seconds, until):
         left = times
         while left:
             count = min(left, at_a_time)
-            is_right = read_exactly(stream, count * len(answer)) == count * answer
-            assert is_right
+            assert is_same(read_exactly(stream, count * len(answer)), count * answer)
             left -= count
             time.sleep(seconds)
 
@@ -88,18 +75,14 @@ def comes_late(server):
     time.sleep(2.5)
     with server.connect() as stream:
         time.sleep(0.7)
-        ask(stream, b"get none\r\n", b"END\r\n")
+        ask(stream, b"get none\r\n", END)
 
 
 def is_silent(server):
     """A client that sends nothing is closed, and so is one that got all its answers and then sends nothing."""
-    with server.connect() as silent, server.connect() as served:
-        ask(served, b"get none\r\n", b"END\r\n")
-        for stream in (silent, served):
-            began = time.monotonic()
-            stream.settimeout(10)
-            assert stream.recv(1) == b""
-            assert time.monotonic() - began < 10
+    with server.connect(10) as silent, server.connect(10) as served:
+        ask(served, b"get none\r\n", END)
+        assert silent.recv(1) == served.recv(1) == b""
 
 
 # Of linux/netlink.h, linux/sock_diag.h and linux/inet_diag.h.
@@ -130,29 +113,24 @@ def reads_nothing(server, times):
     with server.connect(receive_buffer=4096) as stream:
         began = time.monotonic()
         threading.Thread(target=send_until_closed, args=(stream, b"get big\r\n" * times), daemon=True).start()
-        while not is_closed(server, stream):
-            assert time.monotonic() - began < 10
-            time.sleep(0.05)
+        assert comes_true(lambda: is_closed(server, stream))
         assert time.monotonic() - began > 1
-
-
-def try_all(serve):
-    server = serve("--workers", "1", "--idle", "1")
-    with server.connect() as stream:
-        ask(stream, b"set big 0 0 8000\r\n" + VALUE + b"\r\n", b"STORED\r\n")
-    until = time.monotonic() + 4.2
-    clients = [Watched(speaks_every, server, seconds, until) for seconds in (0.2, 0.35, 0.45, 0.55, 0.65, 0.75, 0.9)]
-    clients += [Watched(sends_a_byte_every, server, 0.4, until), Watched(reads_slowly, server, 0.3, until)]
-    clients += [Watched(reads_steadily, server, 400_000, until)]
-    clients += [Watched(comes_late, server), Watched(is_silent, server)]
-    clients += [Watched(reads_nothing, server, times) for times in (4_000, 100_000)]
-    return [trouble for trouble in (client.join() for client in clients) if trouble]
 
 
 def test_who_is_silent_or_reads_nothing_is_closed_and_no_one_else(serve):
     """A busy machine may delay a client for as long as a silent one may be silent, so two of three tries must succeed."""
     def attempt():
-        troubles = try_all(serve)
+        server = serve("--workers", "1", "--idle", "1")
+        with server.connect() as stream:
+            ask(stream, put(b"big", VALUE), STORED)
+        until = time.monotonic() + 4.2
+        clients = [(speaks_every, server, seconds, until)
+                   for seconds in (0.2, 0.35, 0.45, 0.55, 0.65, 0.75, 0.9)]
+        clients += [(sends_a_byte_every, server, 0.4, until), (reads_slowly, server, 0.3, until)]
+        clients += [(reads_steadily, server, 400_000, until), (comes_late, server),
+                    (is_silent, server)]
+        clients += [(reads_nothing, server, times) for times in (4_000, 100_000)]
+        troubles = troubles_of(clients)
         return not troubles, troubles
 
     tries.in_two_of_three(attempt)
@@ -162,14 +140,14 @@ def test_who_is_silent_or_reads_nothing_is_closed_and_no_one_else(serve):
 
 # (20 MB)
 TIMES = 2_500
-OWED = b"STORED\r\n" + hit(b"a", VALUE) * TIMES
+OWED = STORED + hit(b"a", VALUE) * TIMES
 
 
 @contextlib.contextmanager
 def owed_much(server):
     """A connection that stored a value and asked for it again and again."""
     with server.connect() as stream:
-        stream.sendall(b"set a 0 0 8000\r\n" + VALUE + b"\r\n" + b"get a\r\n" * TIMES)
+        stream.sendall(put(b"a", VALUE) + b"get a\r\n" * TIMES)
         yield stream
 
 
@@ -181,8 +159,7 @@ def sends_no_more_and_reads_slowly(server):
         while not parts or parts[-1]:
             time.sleep(0.35)
             parts.append(read_exactly(stream, 2 << 20))
-        is_right = b"".join(parts) == OWED
-        assert is_right
+        assert is_same(b"".join(parts), OWED)
 
 
 def takes_nothing_for_long(server):
@@ -193,10 +170,15 @@ def takes_nothing_for_long(server):
 
 
 def test_one_that_reads_slowly_gets_all_that_it_is_owed_and_one_that_takes_nothing_does_not(serve):
-    server = serve("--idle", "1", "--sessions", "2")
-    clients = [Watched(sends_no_more_and_reads_slowly, server), Watched(takes_nothing_for_long, server)]
-    assert [trouble for trouble in (client.join() for client in clients) if trouble] == []
-    assert server.wait() == 0
+    """A process that stands still for longer than the limit reads nothing meanwhile."""
+    def attempt():
+        server = serve("--idle", "1", "--sessions", "2")
+        troubles = troubles_of([(sends_no_more_and_reads_slowly, server),
+                                (takes_nothing_for_long, server)])
+        assert server.wait() == 0
+        return not troubles, troubles
+
+    tries.in_two_of_three(attempt)
 
 
 # ---- when they are closed on a busy machine
@@ -220,11 +202,14 @@ def busy_processors():
 
 
 def notes_how_long_it_stays(server, seconds, found):
+    """Since before it connects, and since it has."""
     time.sleep(seconds)
+    before = time.monotonic()
     with server.connect() as stream:
         began = time.monotonic()
         assert stream.recv(1) == b""
-        found.append(time.monotonic() - began)
+        ended = time.monotonic()
+        found.append((ended - began, ended - before))
 
 
 def test_a_silent_one_is_closed_within_an_eighth_on_a_busy_machine(serve):
@@ -234,9 +219,10 @@ def test_a_silent_one_is_closed_within_an_eighth_on_a_busy_machine(serve):
     def attempt():
         found = []
         with busy_processors():
-            clients = [Watched(notes_how_long_it_stays, server, it * BETWEEN, found) for it in range(TIMED)]
-            troubles = [trouble for trouble in (client.join() for client in clients) if trouble]
+            troubles = troubles_of([(notes_how_long_it_stays, server, it * BETWEEN, found)
+                                    for it in range(TIMED)])
         found.sort()
-        return not troubles and 1 <= found[0] and found[-1 - LATER] < 1.125 + LATE, troubles or found
+        assert all(since_before >= 1 for _, since_before in found)
+        return not troubles and found[-1 - LATER][0] < 1.125 + LATE, troubles or found
 
     tries.in_two_of_three(attempt)

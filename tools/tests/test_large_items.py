@@ -1,19 +1,16 @@
 """Items of up to a segment: values of up to 1 MiB, however they come, what is too large, and what requests hold that stop within their values.
 
-A value that doesn't fit leaves the old one in place, and its session goes on behind it.
+A `set` of a value that doesn't fit takes out the old one, and its session goes on behind it.
 """
 import contextlib
 import time
 
 import pytest
-from asking import ask, hit
+from asking import BAD_BLOCK, DELETED, END, NO_NUMBER, NOT_STORED, STORED, TOO_LARGE, ask, hit, hits
 from replays import given
 from served import read_to_end
 from stats_of import told, wait_for
 
-STORED, NOT_STORED, END = b"STORED\r\n", b"NOT_STORED\r\n", b"END\r\n"
-TOO_LARGE, BAD_BLOCK = b"SERVER_ERROR object too large for cache\r\n", b"CLIENT_ERROR bad data chunk\r\n"
-NO_NUMBER = b"CLIENT_ERROR cannot increment or decrement non-numeric value\r\n"
 SIZES = "--lenient", "--segment-size", "1048576", "--segments", "16", "--max-item-size", "1048512"
 # The longest value at a key of one byte: the item has 24 bytes more than both, rounded up to a multiple of 8.
 LONGEST = 1_048_512 - 24 - 1
@@ -39,8 +36,8 @@ def test_a_large_value_is_stored_read_and_deleted(serve, storage, length):
     with serve(*SIZES, *storage).connect() as stream:
         ask(stream, put(b"set", b"a", value) + b"get a\r\n", STORED + hit(b"a", value, 7))
         ask(stream, put(b"add", b"a", b"x") + put(b"replace", b"a", value[::-1]), NOT_STORED + STORED)
-        ask(stream, b"get a b a\r\n", 2 * hit(b"a", value[::-1], 7)[: -len(END)] + END)
-        ask(stream, b"incr a 1\r\ndelete a\r\nget a\r\n", NO_NUMBER + b"DELETED\r\n" + END)
+        ask(stream, b"get a b a\r\n", hits(b"a", value[::-1], 7, times=2) + END)
+        ask(stream, b"incr a 1\r\ndelete a\r\nget a\r\n", NO_NUMBER + DELETED + END)
         found = told(stream)
         assert [found[name] for name in ("cmd_set", "total_items", "curr_items", "store_too_large")] == ["3", "2", "0", "0"]
 
@@ -54,13 +51,14 @@ def test_a_value_grows_up_to_the_longest(serve, verb):
         ask(stream, put(verb, b"a", b"x") + b"get a\r\n", TOO_LARGE + hit(b"a", whole, 7))
 
 
-# One byte too many: the item doesn't fit, or the block alone is larger than an item, so it is dropped.
+# One byte too many: the item doesn't fit, or the block alone is larger than an item. The largest is dropped as it comes.
 @pytest.mark.parametrize("length", [LONGEST + 1, 1_048_512, 1_048_513, 2_000_000])
-def test_a_value_that_is_too_large_leaves_the_old_one(serve, length):
+def test_a_set_that_is_too_large_takes_out_the_old_value_and_an_add_leaves_it(serve, length):
     value = value_of(length)
     with serve(*SIZES).connect() as stream:
-        ask(stream, put(b"set", b"a", b"old") + put(b"set", b"a", value) + b"get a\r\n", STORED + TOO_LARGE + hit(b"a", b"old", 7))
-        assert told(stream)["store_too_large"] == "1"
+        ask(stream, put(b"set", b"a", b"old") + put(b"add", b"a", value) + b"get a\r\n", STORED + TOO_LARGE + hit(b"a", b"old", 7))
+        ask(stream, put(b"set", b"a", value) + b"get a\r\n", TOO_LARGE + END)
+        assert told(stream)["store_too_large"] == "2"
 
 
 def test_the_block_of_an_item_has_its_end_and_a_dropped_one_any(serve):
@@ -99,9 +97,8 @@ def test_strictly_a_block_has_131072_bytes(program):
 
 def stopped(server, count, length):
     """So many connections, each of which sends the first bytes of a value of 1,000,000, as far as the server takes them."""
-    streams = contextlib.ExitStack()
-    for _ in range(count):
-        stream = streams.enter_context(server.connect())
+    streams = [server.connect() for _ in range(count)]
+    for stream in streams:
         stream.setblocking(False)
         with contextlib.suppress(BlockingIOError):
             sent, left = 0, BEGUN + b"z" * length
@@ -124,49 +121,51 @@ def kept(stream):
 def test_three_hundred_connections_stop_within_their_values(serve):
     """Those that came first have room. The others are read no further than their first pieces, and all stay open."""
     server = serve(*SIZES, "--workers", "1")
-    with server.connect() as stream, stopped(server, 300, 524_288) as _:
-        assert HAVE_ROOM * 524_288 < kept(stream) < HAVE_ROOM * 524_288 + 300 * 65_536
-        value = value_of(131_072)
-        ask(stream, put(b"set", b"b", value) + b"get b\r\n", STORED + hit(b"b", value, 7))
-        assert told(stream)["curr_connections"] == "301"
-        assert server.kilobytes("VmRSS") < 128 * 1024
-    with server.connect() as stream:
-        # (nothing is left of them, and there is room)
-        wait_for(stream, curr_connections=1, input_bytes=0)
-        ask(stream, put(b"set", b"b", value_of(LONGEST)) + b"get b\r\n", STORED + hit(b"b", value_of(LONGEST), 7))
+    stream = server.connect()
+    streams = stopped(server, 300, 524_288)
+    assert HAVE_ROOM * 524_288 < kept(stream) < HAVE_ROOM * 524_288 + 300 * 65_536
+    value = value_of(131_072)
+    ask(stream, put(b"set", b"b", value) + b"get b\r\n", STORED + hit(b"b", value, 7))
+    assert told(stream)["curr_connections"] == "301"
+    assert server.kilobytes("VmRSS") < 128 * 1024
+    for it in streams:
+        it.close()
+    # (nothing is left of them, and there is room)
+    wait_for(stream, curr_connections=1, input_bytes=0)
+    ask(stream, put(b"set", b"b", value_of(LONGEST)) + b"get b\r\n", STORED + hit(b"b", value_of(LONGEST), 7))
 
 
 def test_who_stops_while_others_wait_is_closed(serve):
     """A client waits with a large value behind clients that have stopped within theirs: these are closed after ten seconds."""
-    server = serve(*SIZES, "--workers", "1")
-    with stopped(server, HAVE_ROOM + 1, 524_288) as _, server.connect() as stream, server.connect() as other:
-        assert kept(other) < HAVE_ROOM * 524_288 + 65_536
-        before = time.monotonic()
-        ask(stream, put(b"set", b"b", value_of(LONGEST)) + b"get b\r\n", STORED + hit(b"b", value_of(LONGEST), 7))
-        assert 8 < time.monotonic() - before < 20
-        assert int(told(other)["closed_unread"]) >= 2
+    server, before = serve(*SIZES, "--workers", "1"), time.monotonic()
+    stopped(server, HAVE_ROOM + 1, 524_288)
+    stream, other = server.connect(), server.connect()
+    assert kept(other) < HAVE_ROOM * 524_288 + 65_536
+    asked = time.monotonic()
+    ask(stream, put(b"set", b"b", value_of(LONGEST)) + b"get b\r\n", STORED + hit(b"b", value_of(LONGEST), 7))
+    assert time.monotonic() - before > 9 and time.monotonic() - asked < 20
+    assert int(told(other)["closed_unread"]) >= 2
 
 
 def test_who_sends_slowly_is_waited_for(serve):
     """80 clients send their values within twelve seconds each. More than have room do so at once, and all are stored."""
     server = serve(*SIZES, "--workers", "1")
     value = value_of(1_000_000)
-    with contextlib.ExitStack() as streams:
-        begun = [streams.enter_context(server.connect()) for _ in range(HAVE_ROOM + 14)]
-        left = {stream: put(b"set", b"a", value) for stream in begun}
-        for stream in begun:
-            stream.setblocking(False)
-        while left:
-            for stream in list(left):
-                with contextlib.suppress(BlockingIOError):
-                    left[stream] = left[stream][stream.send(left[stream][:20_000]) :]
-                if not left[stream]:
-                    del left[stream]
-            time.sleep(0.24)
-        for stream in begun:
-            stream.setblocking(True)
-            ask(stream, b"get a\r\n", STORED + hit(b"a", value, 7))
-        assert told(begun[0])["closed_unread"] == "0"
+    begun = [server.connect() for _ in range(HAVE_ROOM + 14)]
+    left = {stream: put(b"set", b"a", value) for stream in begun}
+    for stream in begun:
+        stream.setblocking(False)
+    while left:
+        for stream in list(left):
+            with contextlib.suppress(BlockingIOError):
+                left[stream] = left[stream][stream.send(left[stream][:20_000]) :]
+            if not left[stream]:
+                del left[stream]
+        time.sleep(0.24)
+    for stream in begun:
+        stream.setblocking(True)
+        ask(stream, b"get a\r\n", STORED + hit(b"a", value, 7))
+    assert told(begun[0])["closed_unread"] == "0"
 
 
 def test_values_that_have_only_begun_take_little_room(serve):
@@ -175,9 +174,9 @@ def test_values_that_have_only_begun_take_little_room(serve):
     with server.connect() as stream:
         ask(stream, b"get a\r\n", END)
         before = server.kilobytes("VmData")
-        with stopped(server, 400, 1_000) as _:
-            assert kept(stream) > 400 * 1_000
-            assert server.kilobytes("VmData") - before < 400 * 300
+        stopped(server, 400, 1_000)
+        assert kept(stream) > 400 * 1_000
+        assert server.kilobytes("VmData") - before < 400 * 300
 
 
 def test_a_block_that_no_item_may_have_takes_no_memory(serve):
@@ -186,8 +185,7 @@ def test_a_block_that_no_item_may_have_takes_no_memory(serve):
     with server.connect() as stream:
         ask(stream, b"get a\r\n", END)
         before = server.kilobytes("VmRSS")
-        with contextlib.ExitStack() as streams:
-            for _ in range(200):
-                streams.enter_context(server.connect()).sendall(b"set a 0 0 131072\r\n" + b"z" * 120_000)
-            assert kept(stream) > 200 * 120_000
-            assert server.kilobytes("VmRSS") - before < 8192
+        for _ in range(200):
+            server.connect().sendall(b"set a 0 0 131072\r\n" + b"z" * 120_000)
+        assert kept(stream) > 200 * 120_000
+        assert server.kilobytes("VmRSS") - before < 8192

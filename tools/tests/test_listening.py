@@ -11,14 +11,16 @@ import time
 
 import pytest
 import served
-from asking import SET_AND_GET, SET_AND_GET_ANSWER, ask, ask_set_and_get
+import tries
+from asking import END, SET_AND_GET, SET_AND_GET_ANSWER, ask, ask_set_and_get
 from served import read_to_end
+from stats_of import wait_for
 
 
-def ended(program, *words, **streams):
+def ended(program, *words, stdout=subprocess.PIPE, **how):
     """The exit status of `segcached serve` with these words, and what it wrote on both outputs."""
-    pipes = {"stdout": subprocess.PIPE, "stderr": subprocess.PIPE}
-    done = subprocess.run([program, "serve", *words], timeout=20, **{**pipes, **streams})
+    words = [program, "serve", *words]
+    done = subprocess.run(words, timeout=20, stdout=stdout, stderr=subprocess.PIPE, **how)
     return done.returncode, done.stdout, done.stderr
 
 
@@ -47,9 +49,9 @@ def test_it_prints_its_real_port_and_ends_after_its_sessions(serve):
 @pytest.mark.parametrize("words, in_force", [
     ("", "--workers 2 --segment-size 65536 --segments 64"),
     ("--segments 9 --quiet --lenient --spin 0 --storage workers --update-in-place --exact-ttls --idle 60 --sessions 3 --connections 65536 "
-     "--segment-size 4096 --workers 3",
-     "--workers 3 --segment-size 4096 --segments 9 --connections 65536 --sessions 3 --idle 60 --spin 0 --storage workers --quiet "
-     "--exact-ttls --lenient --update-in-place"),
+     "--output-memory 16777216 --segment-size 4096 --workers 3",
+     "--workers 3 --segment-size 4096 --segments 9 --connections 65536 --output-memory 16777216 --sessions 3 --idle 60 --spin 0 "
+     "--storage workers --quiet --exact-ttls --lenient --update-in-place"),
 ], ids=["the least options", "all options"])
 def test_it_says_on_standard_error_first_which_options_are_in_force(serve, words, in_force):
     errors = serve(*words.split()).process.stderr
@@ -62,30 +64,31 @@ def test_with_few_descriptors_it_serves_all_of_its_sessions_and_then_ends(serve)
     server = serve("--workers", "1", "--sessions", "200", limits={resource.RLIMIT_NOFILE: 40})
     for _ in range(4):
         # (more than there are descriptors for: the later ones are accepted once the first ones have gone)
-        streams = [server.connect() for _ in range(50)]
-        for stream in streams:
-            stream.sendall(b"get a\r\nquit\r\n")
-        for stream in streams:
-            assert read_to_end(stream) == b"END\r\n"
+        for stream in opened(server, 50, b"get a\r\nquit\r\n"):
+            assert read_to_end(stream) == END
             stream.close()
     assert server.wait() == 0
 
 
+def opened(server, count, request=b""):
+    """This many connections, each of which has sent the request."""
+    streams = [server.connect() for _ in range(count)]
+    for stream in streams:
+        stream.sendall(request)
+    return streams
+
+
 def test_those_that_wait_for_a_full_worker_are_served_after_the_last_one_was_accepted(serve):
     server = serve("--workers", "1", "--sessions", "1060")
-    first = [server.connect() for _ in range(1024)]
+    first = opened(server, 1024, b"get a\r\n")
     for stream in first:
-        stream.sendall(b"get a\r\n")
-    for stream in first:
-        assert stream.recv(5) == b"END\r\n"
-    waiting = [server.connect() for _ in range(36)]
-    for stream in waiting:
-        stream.sendall(b"get a\r\nquit\r\n")
+        ask(stream, b"", END)
+    waiting = opened(server, 36, b"get a\r\nquit\r\n")
     time.sleep(0.3)
     for stream in first:
         stream.close()
     for stream in waiting:
-        assert read_to_end(stream) == b"END\r\n"
+        assert read_to_end(stream) == END
         stream.close()
     assert server.wait() == 0
 
@@ -95,16 +98,20 @@ TOO_MANY = b"ERROR Too many open connections\r\n"
 SERVED, WAITING, PROBES = 1024, 64, 4
 
 
+PORT = "127.0.0.1:0"
+# For `full`: a lenient server at a port, and one at a path.
+AT_PORT_OR_PATH = pytest.mark.parametrize("full", [(PORT, "--lenient"), ("unix:{}/cache", "--lenient")], ids=["port", "path"], indirect=True)
+
+
 @pytest.fixture
-def full(serve):
-    """A server whose worker serves all that it can, these connections, and how to open more."""
-    server = serve("--lenient", "--workers", "1")
-    with contextlib.ExitStack() as streams:
-        connect = lambda: streams.enter_context(server.connect())
-        opened = [connect() for _ in range(SERVED)]
-        for stream in opened:
-            ask(stream, b"get a\r\n", b"END\r\n")
-        yield server, opened, connect
+def full(serve, request, tmp_path):
+    """A server whose worker serves all that it can, and these connections."""
+    listen, *words = getattr(request, "param", (PORT, "--lenient"))
+    server = serve("--workers", "1", *words, listen=listen.format(tmp_path))
+    streams = opened(server, SERVED)
+    for stream in streams:
+        ask(stream, b"get a\r\n", END)
+    return server, streams
 
 
 def are_silent(streams):
@@ -115,76 +122,86 @@ def are_silent(streams):
     return not poll.poll(300)
 
 
+@pytest.mark.parametrize("full", [(PORT, "--lenient"), (PORT,)], ids=["lenient", "strict"], indirect=True)
 def test_one_for_which_there_is_no_room_is_told_so(full):
     """Also one that has sent a request already. Those that wait are served in their turn."""
-    _, opened, connect = full
-    waiting = [connect() for _ in range(WAITING)]
-    refused = [connect() for _ in range(10)]
-    for stream in refused[5:]:
-        stream.sendall(b"get a\r\n" * 100)
-    began = time.monotonic()
-    assert [read_to_end(stream) for stream in refused] == [TOO_MANY] * 10
-    assert time.monotonic() - began < 3
+    server, streams = full
+    waiting = opened(server, WAITING)
+
+    def time_until_refused():
+        refused = opened(server, 5) + opened(server, 5, b"get a\r\n" * 100)
+        began = time.monotonic()
+        assert [read_to_end(stream) for stream in refused] == [TOO_MANY] * 10
+        return time.monotonic() - began
+
+    tries.all_in_time(time_until_refused, 3)
     for stream in waiting:
         stream.sendall(b"get a\r\n")
     assert are_silent(waiting)
-    for stream in opened[:WAITING]:
+    ask_set_and_get(streams[WAITING], b"b")
+    for stream in streams[:WAITING]:
         stream.close()
     for stream in waiting:
-        assert stream.recv(5) == b"END\r\n"
+        ask(stream, b"", END)
 
 
+@AT_PORT_OR_PATH
 @pytest.mark.parametrize("request_line, answer", [
     (b"get health\r\n", b"END\r\n"), (b"version\r\n", b"VERSION "), (b"stats\r\n", b"STAT "),
 ], ids=["get health", "version", "stats"])
 def test_probes_get_in_while_it_is_full(full, request_line, answer):
     """Once as many have come as there are places for, a further one gets in when one of these has gone."""
-    *_, connect = full
     # (they connect, and ask later)
-    probes = [connect() for _ in range(PROBES + 1)]
+    *probes, last = opened(full[0], PROBES + 1)
     time.sleep(0.2)
-    for stream in probes[:PROBES]:
-        stream.sendall(request_line)
-        assert stream.recv(len(answer)) == answer
-    probes[PROBES].sendall(request_line)
-    assert are_silent([probes[PROBES]])
+    for stream in probes:
+        ask(stream, request_line, answer)
+    last.sendall(request_line)
+    assert are_silent([last])
     probes[0].close()
-    assert probes[PROBES].recv(len(answer)) == answer
+    ask(last, b"", answer)
+
+
+def test_3000_connections_of_one_worker_are_served(serve):
+    server = serve("--lenient", "--workers", "1", "--connections", "4096")
+    streams = opened(server, 3000)
+    for stream in streams:
+        ask(stream, b"get a\r\n", END)
+    for number in (0, 1500, 2999):
+        ask_set_and_get(streams[number], b"key-%d" % number)
+    wait_for(streams[0], curr_connections=3000, max_connections=4096, accepting_conns=1)
+    assert are_silent(streams)
 
 
 @pytest.mark.parametrize("connections, workers", [(3, 1), (3, 2), (1500, 1)])
 def test_a_worker_serves_as_many_connections_as_it_is_told(serve, connections, workers):
     server = serve("--connections", str(connections), "--workers", str(workers))
-    with contextlib.ExitStack() as streams:
-        opened = [streams.enter_context(server.connect()) for _ in range(connections * workers)]
-        for stream in opened:
-            ask(stream, b"get a\r\n", b"END\r\n")
-        with server.connect() as waiting:
-            waiting.sendall(b"get a\r\n")
-            assert are_silent([waiting])
-            opened[-1].close()
-            assert waiting.recv(5) == b"END\r\n"
+    streams = opened(server, connections * workers)
+    for stream in streams:
+        ask(stream, b"get a\r\n", END)
+    waiting, = opened(server, 1, b"get a\r\n")
+    assert are_silent([waiting])
+    streams[-1].close()
+    ask(waiting, b"", END)
 
 
+@AT_PORT_OR_PATH
 def test_another_request_gets_in_no_sooner(full):
-    *_, connect = full
-    for _ in range(WAITING):
-        connect()
-    stream = connect()
-    stream.sendall(b"get healt\r\nstats\r\nget health\r\n")
+    server, _ = full
+    opened(server, WAITING)
+    stream, = opened(server, 1, b"get healt\r\nstats\r\nget health\r\n")
     assert read_to_end(stream) == TOO_MANY
 
 
+@AT_PORT_OR_PATH
 def test_the_probe_passes_a_full_server(full):
     """Also while connections beyond those that wait come without end."""
-    server, _, connect = full
-    probe = [f"{served.TOP}/packaging/examples/probe.sh", "127.0.0.1", str(server.port)]
-    for _ in range(WAITING):
-        connect()
-    assert subprocess.run(probe, timeout=20).returncode == 0
-    for _ in range(300):
-        connect()
-    assert subprocess.run(probe, timeout=20).returncode == 0
+    server, _ = full
+    where = [f"unix:{server.path}"] if server.path else ["127.0.0.1", str(server.port)]
+    probe = [f"{served.TOP}/packaging/examples/probe.sh", *where]
+    for count in (WAITING, 300):
+        opened(server, count)
+        assert subprocess.run(probe, timeout=20).returncode == 0
 
 
 def test_standard_error_that_nobody_reads_stops_nothing(program):
@@ -197,12 +214,12 @@ def test_standard_error_that_nobody_reads_stops_nothing(program):
     os.set_blocking(writing, True)
     with served.Server(program, limits={resource.RLIMIT_NOFILE: 40}, stderr=writing) as server:
         for _ in range(2):
-            streams = [server.connect() for _ in range(60)]
+            streams = opened(server, 60)
             time.sleep(0.2)
             for stream in streams:
                 stream.close()
         with server.connect() as stream:
-            ask(stream, b"get a\r\n", b"END\r\n")
+            ask(stream, b"get a\r\n", END)
     for end in (reading, writing):
         os.close(end)
 
@@ -215,29 +232,26 @@ def test_it_serves_over_ipv6(serve):
     assert server.wait() == 0
 
 
-@pytest.mark.parametrize("address", [
+NO_ADDRESSES = (
     "nothing", "localhost:0", "127.0.0.1", "127.0.0.1:", "127.0.0.1:x", "127.0.0.1:65536", "127.0.0.256:0",
-    "127.0.0.1:0 ", ":0", "[::1:0", "",
-])
-def test_what_is_no_address_with_a_port_is_refused(program, address):
-    assert ended(program, "--listen", address) == cannot_listen(address, NO_ADDRESS)
-
-
+    "127.0.0.1:0 ", ":0", "[::1:0", "", "127.0.0.1\n:0")
 # (the first is of a network for examples, which no machine has)
-@pytest.mark.parametrize("address", ["192.0.2.1:0", "[2001:db8::1]:0"])
-def test_an_address_of_another_machine_is_refused(program, address):
-    assert ended(program, "--listen", address) == cannot_listen(address, OTHER_MACHINE)
+OF_OTHERS = "192.0.2.1:0", "[2001:db8::1]:0"
 
 
-def test_a_port_that_another_server_has_is_refused(program, serve):
-    address = f"127.0.0.1:{serve().port}"
-    assert ended(program, "--listen", address) == cannot_listen(address, TAKEN)
+@pytest.mark.parametrize("address, cause", [
+    *((it, NO_ADDRESS) for it in NO_ADDRESSES), *((it, OTHER_MACHINE) for it in OF_OTHERS)])
+def test_what_is_no_address_with_a_port_or_of_another_machine_is_refused(program, address, cause):
+    """A line feed is shown as two characters."""
+    shown = address.replace("\n", "\\n")
+    assert ended(program, "--listen", address) == cannot_listen(shown, cause)
 
 
-def test_a_port_that_another_program_has_is_refused(program):
+def test_a_port_that_another_server_or_program_has_is_refused(program, serve):
     with socket.create_server(("127.0.0.1", 0)) as other:
-        address = f"127.0.0.1:{other.getsockname()[1]}"
-        assert ended(program, "--listen", address) == cannot_listen(address, TAKEN)
+        for port in (serve().port, other.getsockname()[1]):
+            address = f"127.0.0.1:{port}"
+            assert ended(program, "--listen", address) == cannot_listen(address, TAKEN)
 
 
 PR_CAPBSET_DROP, CAP_NET_BIND_SERVICE = 24, 10
@@ -250,9 +264,8 @@ def without_low_ports():
 
 
 def test_a_port_that_it_may_not_use_is_refused(program):
-    with open("/proc/sys/net/ipv4/ip_unprivileged_port_start", encoding="ascii") as file:
-        if int(file.read()) < 2:
-            pytest.skip("anybody may use any port here")
+    if int(served.read("/proc/sys/net/ipv4/ip_unprivileged_port_start")) < 2:
+        pytest.skip("anybody may use any port here")
     found = ended(program, "--listen", "127.0.0.1:1", preexec_fn=without_low_ports)
     assert found == cannot_listen("127.0.0.1:1", DENIED)
 
@@ -264,18 +277,14 @@ def test_without_descriptors_for_all_that_listens_it_is_refused(program, descrip
     assert ended(program, "--listen", "127.0.0.1:0", preexec_fn=limit) == cannot_listen("127.0.0.1:0", FEW_DESCRIPTORS)
 
 
-def test_a_line_feed_in_the_address_is_shown_as_two_characters(program):
-    assert ended(program, "--listen", "127.0.0.1\n:0") == cannot_listen("127.0.0.1\\n:0", NO_ADDRESS)
-
-
 def test_a_bad_geometry_is_told_before_a_bad_address(program):
     for address in ("127.0.0.1:0", "nothing"):
         assert ended(program, "--listen", address, "--segment-size", "5000") == (2, b"", b"fault: bad geometry\n")
 
 
-@pytest.mark.parametrize("sizes", [("4096", "4033"), ("65536", "65473"), ("65536", "1048512")])
-def test_a_segment_that_is_too_small_for_the_largest_item_is_told(program, sizes):
-    segment_size, largest = sizes
+@pytest.mark.parametrize("segment_size, largest",
+                         [("4096", "4033"), ("65536", "65473"), ("65536", "1048512")])
+def test_a_segment_that_is_too_small_for_the_largest_item_is_told(program, segment_size, largest):
     done = ended(program, "--listen", "127.0.0.1:0", "--segment-size", segment_size, "--max-item-size", largest)
     assert done == (2, b"", b"fault: the largest item does not fit a segment\n")
 

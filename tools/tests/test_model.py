@@ -13,7 +13,8 @@ import random
 import replays
 from hypothesis import given, settings
 from hypothesis import strategies as st
-from model import JOINS, LOCAL, STORES, TOO_LARGE, Cache, refused
+from model import JOINS, LOCAL, STORES, TOO_LARGE, Cache, Item, refused
+from stats_of import by_name
 
 FIRST_MOMENT = 1000
 
@@ -27,14 +28,14 @@ def replay_over(program, sent, segment_size, segments, largest, tick, *dialect):
 
 
 def refused_leniently(cache, request):
-    """What is answered to a request whose block is dropped, since it is larger than the largest item; None for others."""
+    """What is answered to a storage command other than `set` whose item is larger than the largest; None for others."""
     verb, *words = request
-    return TOO_LARGE if verb in STORES and len(words[3]) > cache.largest else None
+    return TOO_LARGE if verb in STORES[1:] and Item(words[0], words[3], 0, 0).size > cache.largest else None
 
 
 def spelled(cache, requests, tick, is_lenient):
     """Of each request its bytes and its answer. The clock ticks for those that the cache executes."""
-    pairs, executed = [], 0
+    pairs, executed, cache.is_lenient = [], 0, is_lenient
     for request in requests:
         moment, refusal = FIRST_MOMENT + tick * executed, refused_leniently(cache, request) if is_lenient else refused(request)
         if refusal:
@@ -50,20 +51,13 @@ def with_spaces(sent):
     return [request.replace(b"\r\n", b" " * (at % 3) + b"\r\n", 1) for at, request in enumerate(sent)]
 
 
-def told(given_bytes, at):
-    """What a `stats` was told by the answer that begins there, by names, and where that ends."""
-    end = given_bytes.index(b"END\r\n", at)
-    lines = [line.split(b" ") for line in given_bytes[at:end].split(b"\r\n")[:-1]]
-    assert all(len(it) == 3 and it[0] == b"STAT" for it in lines) and len({it[1] for it in lines}) == len(lines)
-    return {name.decode(): int(value) for _, name, value in lines if value.isdigit()}, end + len(b"END\r\n")
-
-
 def must_be_answered_as(wanted, given_bytes, sent):
     at = 0
     for turn, answer in enumerate(wanted):
         if isinstance(answer, dict):
-            found, at = told(given_bytes, at)
-            assert {name: found.get(name) for name in answer} == answer, f"request {turn}, a stats"
+            end = given_bytes.index(b"END\r\n", at) + len(b"END\r\n")
+            found, at = by_name(given_bytes[at:end]), end
+            assert {name: int(found[name]) for name in answer} == answer, f"request {turn}, a stats"
             continue
         got = given_bytes[at : at + len(answer)]
         assert got == answer, f"request {turn}, {sent[turn][:60]!r}"
@@ -74,9 +68,10 @@ def must_be_answered_as(wanted, given_bytes, sent):
 # ---- long runs
 
 def random_lenient_request(chance, key, ttls):
-    """One of the lines that have no data and that the lenient dialect alone takes; most are touches."""
+    """One of the lines that have no data and that the lenient dialect alone takes; most are touches, half of which show what they touch."""
     others = (b"delete", key, b"0"), (b"version",), (b"verbosity", b"1"), (b"stats",)
-    return chance.choice((*others, *[(b"touch", key, chance.choice(ttls))] * 5))
+    shown = chance.choice((b"gat", b"gats")), chance.choice(ttls), [key, b"key0", key][: chance.randrange(1, 4)]
+    return chance.choice((*others, *[(b"touch", key, chance.choice(ttls)), shown] * 3))
 
 
 def random_request(chance, keys, ttls, longest):
@@ -190,13 +185,15 @@ SIZES = st.sampled_from([
 
 
 def lenient_form(request):
-    """The same request with what the lenient dialect alone takes: in place of each `cas` an `append`, of `replace` a `prepend`, and of `decr` a
-    `touch` that asks for some life."""
+    """The same request with what the lenient dialect alone takes: in place of each `cas` an `append`, of `replace` a `prepend`, of `decr` a
+    `touch` that asks for some life, and of `gets` a `gats` that does."""
     verb, *words = request
     if verb == b"delete":
         return b"delete", *words, b"0"
     if verb in (b"cas", b"replace"):
         return b"append" if verb == b"cas" else b"prepend", *words
+    if verb == b"gets":
+        return b"gats", len(b"".join(words[0])) * 700 % 5000 - 100, *words
     return (b"touch", words[0], words[1] % 5000 - 100) if verb == b"decr" else request
 
 

@@ -13,7 +13,7 @@ import time
 import machine
 import prove
 import pytest
-from served import TOP
+from served import TOP, read
 
 # base is below all; left and right stand on it, top on both; aside stands on base alone.
 CRATES = {"base": [], "left": ["base"], "right": ["base"], "aside": ["base"], "top": ["left", "right"]}
@@ -66,11 +66,9 @@ def repository(tmp_path, monkeypatch):
     (tmp_path / "crates.txt").write_text("# what stands here\nlow:\nhigh: low bytes\nlow_tests: low\n")
     (tmp_path / "HANDLES").write_text("Handles allowed: none.\n")
     for name, root in (("low", "lib.rt"), ("high", "main.rt"), ("low_tests", "lib.rt")):
-        for part in ("src", "wrong", "out"):
-            (tmp_path / "crates" / name / part).mkdir(parents=True)
-        (tmp_path / "crates" / name / "src" / root).write_text(f"// {name}\n")
-        (tmp_path / "crates" / name / "wrong" / "wrong.edit").write_text("file: src/lib.rt\n")
-    (tmp_path / "crates" / "high" / "out" / "high").write_text("a program")
+        prove.write(f"{tmp_path}/crates/{name}/src/{root}", f"// {name}\n")
+        prove.write(f"{tmp_path}/crates/{name}/wrong/wrong.edit", "file: src/lib.rt\n")
+    prove.write(f"{tmp_path}/crates/high/out/high", "a program")
     monkeypatch.setattr(prove, "TOP", str(tmp_path))
     monkeypatch.setattr(prove, "NAME", "high")
     monkeypatch.setattr(prove, "PROGRAM", str(tmp_path / "crates" / "high" / "out" / "high"))
@@ -83,16 +81,17 @@ def test_what_is_kept_is_known(repository):
     assert prove.is_kept()
 
 
-@pytest.mark.parametrize("path", ["low/src/lib.rt", "high/src/main.rt", "high/stdout", "high/out/high"])
-def test_a_change_is_seen(repository, path):
-    (repository / "crates" / path).write_text("changed")
-    assert not prove.is_kept()
+# Files of crates, and whether the program stands on them.
+CHANGED = {
+    "low/src/lib.rt": True, "high/src/main.rt": True, "high/stdout": True, "high/out/high": True,
+    "low/wrong/wrong.edit": False, "low_tests/src/lib.rt": False,
+}
 
 
-@pytest.mark.parametrize("path", ["low/wrong/wrong.edit", "low_tests/src/lib.rt"])
-def test_what_the_program_does_not_stand_on_may_change(repository, path):
+@pytest.mark.parametrize("path", CHANGED)
+def test_a_change_of_what_the_program_stands_on_is_seen(repository, path):
     (repository / "crates" / path).write_text("changed")
-    assert prove.is_kept()
+    assert prove.is_kept() != CHANGED[path]
 
 
 @pytest.mark.parametrize("path", ["high/out/high", "high/out/high.kept"])
@@ -102,10 +101,9 @@ def test_what_is_gone_is_seen(repository, path):
 
 
 def test_a_new_file_and_another_logic_are_seen(repository, monkeypatch):
-    (repository / "crates" / "low" / "specs").mkdir()
-    (repository / "crates" / "low" / "specs" / "More.antt").write_text("")
+    prove.write(more := repository / "crates/low/specs/More.antt", "")
     assert not prove.is_kept()
-    (repository / "crates" / "low" / "specs" / "More.antt").unlink()
+    more.unlink()
     assert prove.is_kept()
     monkeypatch.setattr(machine, "logic", lambda: "another")
     assert not prove.is_kept()
@@ -130,8 +128,7 @@ def unproved(repository, monkeypatch):
     """The small repository with nothing proved, and a kit that isn't one."""
     kit = repository / "kit"
     for path, text in (("bin/rattle", PROVER), ("bin/rattle-link", LINKER), ("bin/rt", f"#!/bin/sh\necho {kit}/START\n")):
-        (kit / path).parent.mkdir(parents=True, exist_ok=True)
-        (kit / path).write_text(text)
+        prove.write(kit / path, text)
         (kit / path).chmod(0o755)
     monkeypatch.setenv("PATH", f"{kit}/bin:{os.environ['PATH']}")
     monkeypatch.setattr(prove, "PROOFS", str(repository / "out" / "proofs"))
@@ -183,8 +180,7 @@ def test_an_interrupt_ends_what_runs_and_keeps_what_is_proved(unproved, capsys):
 
 
 def test_the_readme_names_the_logic():
-    with open(f"{TOP}/README.md", encoding="utf-8") as file:
-        assert f"`{machine.logic()}`" in file.read()
+    assert f"`{machine.logic()}`" in read(f"{TOP}/README.md")
 
 
 def memory_file(folder, gigabytes):

@@ -20,7 +20,6 @@ rt: low proved
 fn high::main: not proved
 logic=not-proved functions=2
 rt: high NOT PROVED
-rt: middle is kept: an earlier run on this machine proved the same files over the same libraries
 2 passed, 1 failed
 """
 
@@ -29,7 +28,6 @@ def test_a_log_says_what_was_proved_of_each_crate_and_not_of_its_tests(tmp_path)
     (tmp_path / "log").write_text(LOG)
     found, last = proved.verdicts_of_log(tmp_path / "log")
     assert found["low"] == "logic=proved functions=7 sum=5f"
-    assert found["middle"].startswith("kept: an earlier run on this machine proved the same files")
     assert "high" not in found
     assert last == "2 passed, 1 failed"
 
@@ -57,10 +55,6 @@ def commit(tmp_path):
     return make
 
 
-def is_newer(one, other):
-    return subprocess.run(["dpkg", "--compare-versions", one, "gt", other], check=False).returncode == 0
-
-
 def test_the_package_of_a_later_commit_is_newer(commit, tmp_path):
     moments = ["2026-11-27T09:59:59+0000", "2026-11-27T10:00:00+0000", "2026-11-27T19:00:01+0900", "2026-11-27T10:30:00+0000", "2026-11-28T00:00:00+0000"]
     commits = [commit(moment) for moment in moments]
@@ -68,5 +62,6 @@ def test_the_package_of_a_later_commit_is_newer(commit, tmp_path):
     changed = proved.package_version("0.6.0", f"{commits[-1]} and changes that aren't committed", tmp_path)
     assert versions[2] == f"0.6.0+20261127.100001.g{commits[2][:7]}"
     versions = ["0.1.0", "0.6.0", *versions, "0.6.1+20250101.000000.g0000000"]
-    assert all(is_newer(later, earlier) for earlier, later in zip(versions, versions[1:]))
+    for earlier, later in zip(versions, versions[1:]):
+        subprocess.run(["dpkg", "--compare-versions", later, "gt", earlier], check=True)
     assert re.fullmatch(rf"0\.6\.0\+[0-9]{{8}}\.[0-9]{{6}}\.g{commits[-1][:7]}\.changed", changed)

@@ -8,10 +8,13 @@ import glob
 import os
 import re
 
-TOP = os.path.dirname(os.path.dirname(os.path.dirname(os.path.abspath(__file__))))
+from served import TOP
+from served import read as read_file
+
 SOURCES = f"{TOP}/crates/net/src"
 
-# The calls of each type that has a raw stream, or makes one. A served stream's bytes are logged by `read` and `write`; `peer` asks the system for an address. Of a new one the first
+# The calls of each type that has a raw stream, or makes one. A served stream's bytes are logged by `read`, `read_ahead` and `write`; `next_piece` hands out what
+# was read; `peer` asks the system for an address. Of a new one the first
 # bytes are looked at, which leaves them there; or it is refused, and closed.
 CALLS = {
     "sockets.rt": {
@@ -19,7 +22,7 @@ CALLS = {
         "NewStream": {"serve", "has_probe", "refuse"},
         "EndedStream": {"of", "drain"},
     },
-    "sockets/logged_stream.rt": {"LoggedStream": {"new", "into_stream", "read", "write", "peer"}},
+    "sockets/logged_stream.rt": {"LoggedStream": {"new", "into_stream", "has_ahead", "read", "read_ahead", "next_piece", "write", "peer"}},
     "sockets/raw.rt": {
         "RawStream": {"watch", "peek", "end_sending", "peer"},
         "Read": {"read"},
@@ -35,8 +38,11 @@ OF_OS = {"set_thread_name"}
 OF_LIBC = {"getpid"}
 USAGE = "serving/src/usage.rt"
 OF_USAGE = ['os::open_read(b"/proc/self/stat")', "libc::read(file, &mut room)", "libc::close(file)"]
-# What it uses of `std::os`: the type of such a number, for standard error; and what a file is, and its mode.
-OF_STD_OS = {"fd::RawFd", "unix::fs::"}
+# What it uses of `std::os`: the type of such a number, for standard error; what a file is, and its mode; and what owns the descriptor of a path's
+# stream while that comes to be of TCP's type.
+OF_STD_OS = {"fd::RawFd", "unix::fs::", "fd::OwnedFd"}
+# (such an owner gives out the number and is made of one, so it stands in one call alone)
+OF_OWNED = ["use std::os::fd::OwnedFd", "Ok(RawStream::Unix(TcpStream::from(OwnedFd::from(stream))))"]
 
 # Functions of these files: the one accepts a stream, the other clears a path.
 FUNCTIONS = {"sockets.rt": {"accept_in_turn"}, "sockets/raw.rt": {"clear_path"}}
@@ -45,8 +51,7 @@ PRIVATE = {"sockets/logged_stream.rt": {"new", "into_stream"}, "sockets/raw.rt":
 
 
 def read(path):
-    with open(path, encoding="utf-8") as file:
-        return re.sub(r"//.*", "", file.read())
+    return re.sub(r"//.*", "", read_file(path))
 
 
 def sources():
@@ -88,13 +93,15 @@ def test_they_have_these_calls_alone():
 
 
 def test_no_safe_call_takes_a_descriptors_number():
-    with open(f"{TOP}/crates.txt", encoding="utf-8") as file:
-        libraries = {word for line in file for word in line.partition("#")[0].partition(":")[2].split()}
+    lines = re.sub("#.*", "", read_file(f"{TOP}/crates.txt")).splitlines()
+    libraries = {word for line in lines for word in line.partition(":")[2].split()}
     assert "os" in libraries and not libraries & BY_NUMBER
     others = {name: text for name, text in sources().items() if name != USAGE}
     uses = [(name, *it) for name, text in others.items() for it in re.findall(r"(std::|)\bos\b(?:::([\w:]+))?", text)]
     assert {it[1:] for it in uses} == {*(("", it) for it in OF_OS), *(("std::", it) for it in OF_STD_OS)}, uses
     assert {it for text in others.values() for it in re.findall(r"\blibc\b(?:::([\w:]+))?", text)} == OF_LIBC
+    owned = {name: re.findall(r"\b.*OwnedFd\b.*?(?=;|$)", text, re.MULTILINE) for name, text in others.items() if "OwnedFd" in text}
+    assert owned == {"net/src/sockets/raw.rt": OF_OWNED}
 
 
 def test_one_file_reads_by_the_number_of_what_it_has_opened():

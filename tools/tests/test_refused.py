@@ -7,6 +7,7 @@ import pytest
 from served import TOP
 
 REFUSED_GROWTH = f"{TOP}/crates/refused_growth"
+BUILT = f"{REFUSED_GROWTH}/out/refused_growth"
 SCRIPT = f"{TOP}/crates/segcached/data/script"
 SESSIONS = b"set a 0 0 1\r\nx\r\nget a\r\n", b"set b 0 0 1\r\ny\r\nget b\r\n"
 
@@ -41,25 +42,18 @@ def two_workers(tmp_path):
     return ["replay", f"{tmp_path}/two_workers", "--workers", "2"]
 
 
-def test_a_refused_request_for_memory_changes_nothing_that_is_written(refuse, say):
-    """Of refused_growth; what it writes stands in its file stdout."""
-    built = f"{REFUSED_GROWTH}/out/refused_growth"
-    assert os.access(built, os.X_OK), "it isn't built: (cd crates/refused_growth && rt run)"
+@pytest.mark.parametrize("kind", ["REFUSE_NTH", "REFUSE_THREAD"], ids=["memory", "threads"])
+def test_what_is_refused_changes_nothing_that_is_written(refuse, say, kind):
+    """Of refused_growth; what it writes stands in its file stdout. If a thread is refused none of
+    its group begins, of which ports and clocks count how often they are asked; it runs a group of
+    three threads twice."""
+    assert os.access(BUILT, os.X_OK), "it isn't built: (cd crates/refused_growth && rt run)"
     with open(f"{REFUSED_GROWTH}/stdout", "rb") as file:
         wanted = file.read()
-    for number, _, ran in refuse("REFUSE_NTH", built):
+    for number, _, ran in refuse(kind, BUILT):
         assert (ran.returncode, ran.stdout) == (0, wanted), f"request {number}"
-    say(f"{number - 1} requests for memory, each refused in turn")
-    assert number > 1
-
-
-def test_if_a_thread_is_refused_none_of_its_group_begins(refuse):
-    """Of refused_growth, whose ports and clocks count how often they are asked. It runs a group of three threads twice."""
-    with open(f"{REFUSED_GROWTH}/stdout", "rb") as file:
-        wanted = file.read()
-    for number, _, ran in refuse("REFUSE_THREAD", f"{REFUSED_GROWTH}/out/refused_growth"):
-        assert (ran.returncode, ran.stdout) == (0, wanted), f"thread {number}"
-    assert number - 1 == 6
+    say(f"{number - 1} requests, each refused in turn")
+    assert number > 1 if kind == "REFUSE_NTH" else number == 7
 
 
 def beginnings(lines):

@@ -2,14 +2,11 @@
 
 All values stand here as they were worked out by hand from the protocol. The rows of evictions stand in test_evictions.py.
 """
-from asking import hit
+import pytest
+from asking import BAD_LINE, END, ERROR, STORED, TOO_LARGE, TOO_LONG, hit, hits, put
 from model import VERSION
 from replays import all_given, given
 
-BAD_LINE = b"CLIENT_ERROR bad command line format\r\n"
-TOO_LONG = b"CLIENT_ERROR line too long\r\n"
-TOO_LARGE = b"SERVER_ERROR object too large for cache\r\n"
-STORED, ERROR, END = b"STORED\r\n", b"ERROR\r\n", b"END\r\n"
 HIT = b"VALUE a 0 1\r\nx\r\nEND\r\n"
 
 # What a session sends, and what it is given.
@@ -78,12 +75,6 @@ MOMENTS = {
     },
 }
 
-
-def test_moments_of_the_clock(program):
-    for words, rows in MOMENTS.items():
-        assert all_given(program, words, rows) == rows, words
-
-
 FOUR_SETS = b"set a 0 16 1\r\nw\r\nset b 0 16 1\r\nx\r\nset c 0 16 1\r\ny\r\nset d 0 16 1\r\nz\r\n"
 FOUR_HITS = b"VALUE a 0 1\r\nw\r\nVALUE b 0 1\r\nx\r\nVALUE c 0 1\r\ny\r\nVALUE d 0 1\r\nz\r\nEND\r\n"
 LAST_HIT = b"VALUE d 0 1\r\nz\r\nEND\r\n"
@@ -110,12 +101,6 @@ LIVES = {
     "--now 1003 --evict least-read": {b"set n 0 7 1\r\nx\r\nget n\r\n": STORED + HIT_OF_N},
 }
 
-
-def test_lives_end_with_their_segment(program):
-    for words, rows in LIVES.items():
-        assert all_given(program, words, rows) == rows, words
-
-
 LONG_KEY = b"k" * 250
 LENGTHS = {
     "": {
@@ -133,8 +118,10 @@ LENGTHS = {
 }
 
 
-def test_lengths_at_their_limits(program):
-    for words, rows in LENGTHS.items():
+@pytest.mark.parametrize("rows_by_words", [MOMENTS, LIVES, LENGTHS],
+                         ids=["moments", "lives", "lengths"])
+def test_moments_of_the_clock_ends_of_lives_and_lengths_at_their_limits(program, rows_by_words):
+    for words, rows in rows_by_words.items():
         assert all_given(program, words, rows) == rows, words
 
 
@@ -175,6 +162,10 @@ COMMANDS = {
     b"touch a 60\r\nget a\r\n": (b"TOUCHED\r\n" + HIT, ERROR + HIT),
     b"touch a -1\r\nget a\r\n": (b"TOUCHED\r\nEND\r\n", ERROR + HIT),
     b"touch a 60 noreply\r\ntouch b 60\r\n": (b"NOT_FOUND\r\n", ERROR + ERROR),
+    b"gat 60 a b a\r\n": (b"VALUE a 0 1\r\nx\r\nVALUE a 0 1\r\nx\r\nEND\r\n", ERROR),
+    b"gats -1 b a\r\nget a\r\n": (b"VALUE a 0 1 1\r\nx\r\nEND\r\nEND\r\n", ERROR + HIT),
+    b"gat 60 b noreply\r\n": (END, ERROR),
+    b"gat 60\r\ngats\r\ngat a 60\r\n": (BAD_LINE * 3, ERROR * 3),
     b"append a 7 -1 1\r\ny\r\ngets a\r\n": (
         b"STORED\r\nVALUE a 0 2 2\r\nxy\r\nEND\r\n", b"ERROR\r\nERROR\r\nVALUE a 0 1 1\r\nx\r\nEND\r\n"),
     b"prepend a 0 0 5\r\nget b\r\nget a\r\n": (b"STORED\r\nVALUE a 0 6\r\nget bx\r\nEND\r\n", ERROR + END + HIT),
@@ -199,56 +190,31 @@ def test_commands_of_the_lenient_dialect(program):
     assert {sent: both_given_after_a_set(program, sent) for sent in COMMANDS} == COMMANDS
 
 
-# What a session asks: 16 requests, and then a `stats`.
+# What a session asks: 17 requests, and then a `stats`.
+QUIET = b" noreply"
 COUNTED = [
-    b"set a 0 0 1\r\nx\r\n",
-    b"set a 0 0 1 noreply\r\ny\r\n",
-    b"add a 0 0 1 noreply\r\nz\r\n",
-    b"cas a 0 0 1 1 noreply\r\nz\r\n",
-    b"cas b 0 0 1 1 noreply\r\nz\r\n",
-    b"cas a 0 0 1 2 noreply\r\n5\r\n",
-    b"get a b a\r\n",
-    b"incr a 1 noreply\r\n",
-    b"incr b 1 noreply\r\n",
-    b"decr a 1 noreply\r\n",
-    b"decr b 1 noreply\r\n",
-    b"touch a 60 noreply\r\n",
-    b"touch b 60 noreply\r\n",
-    b"delete a noreply\r\n",
-    b"delete a noreply\r\n",
-    b"flush_all noreply\r\n",
+    put(b"a", b"x"), put(b"a", b"y", words=QUIET), put(b"a", b"z", b"add", words=QUIET),
+    put(b"a", b"z", b"cas", words=b" 1 noreply"), put(b"b", b"z", b"cas", words=b" 1 noreply"),
+    put(b"a", b"5", b"cas", words=b" 2 noreply"), b"get a b a\r\n",
+    *(b"%b noreply\r\n" % it for it in (
+        b"incr a 1", b"incr b 1", b"decr a 1", b"decr b 1", b"touch a 60", b"touch b 60")),
+    b"gat 60 b a b\r\n",
+    *(b"%b noreply\r\n" % it for it in (
+        b"delete a",
+        b"delete a", b"flush_all")),
     b"stats\r\n",
 ]
-
-# What it is given, up to the first gauge, counted by hand.
-COUNTS = [
-    b"STORED\r\n",
-    b"VALUE a 0 1\r\n5\r\nVALUE a 0 1\r\n5\r\nEND\r\n",
-    b"STAT cmd_get 3\r\n",
-    b"STAT cmd_set 6\r\n",
-    b"STAT cmd_touch 2\r\n",
-    b"STAT cmd_flush 1\r\n",
-    b"STAT total_items 3\r\n",
-    b"STAT cas_badval 1\r\n",
-    b"STAT out_of_memory 0\r\n",
-    b"STAT get_hits 2\r\n",
-    b"STAT get_misses 1\r\n",
-    b"STAT delete_hits 1\r\n",
-    b"STAT delete_misses 1\r\n",
-    b"STAT incr_hits 1\r\n",
-    b"STAT incr_misses 1\r\n",
-    b"STAT decr_hits 1\r\n",
-    b"STAT decr_misses 1\r\n",
-    b"STAT touch_hits 1\r\n",
-    b"STAT touch_misses 1\r\n",
-    b"STAT cas_hits 1\r\n",
-    b"STAT cas_misses 1\r\n",
-    b"STAT version ",
-]
+# What it is told, up to the first gauge, counted by hand.
+COUNTS = b"""cmd_get 3, cmd_set 6, cmd_touch 5, cmd_flush 1, total_items 3, cas_badval 1,
+ out_of_memory 0, get_hits 2, get_misses 1, delete_hits 1, delete_misses 1, incr_hits 1,
+ incr_misses 1, decr_hits 1, decr_misses 1, touch_hits 2, touch_misses 3, cas_hits 1,
+ cas_misses 1, version """
 
 
 def test_counts_of_a_stats(program):
-    wanted = b"".join(COUNTS)
+    counts = b"\r\n".join(b"STAT " + it.lstrip() for it in COUNTS.split(b","))
+    wanted = STORED + hits(b"a", b"5", times=2) + END + hits(b"a", b"5") + END + counts
+    assert len(COUNTED) == 18
     assert given(program, "--lenient", b"".join(COUNTED))[: len(wanted)] == wanted
 
 
@@ -268,8 +234,8 @@ def test_the_longest_line(program):
 # A line for a block, how many bytes of it are sent, and what a session is then given leniently that asks for `a` at its end. Strictly each of
 # these lines ends it.
 BLOCKS = {
-    (b"set a 0 0 131073\r\n", 131_075): TOO_LARGE + HIT,
-    (b"set a 0 0 200000 noreply\r\n", 200_002): HIT,
+    (b"set a 0 0 131073\r\n", 131_075): TOO_LARGE + END,
+    (b"set a 0 0 200000 noreply\r\n", 200_002): END,
     (b"replace a 0 0 300000\r\n", 300_002): TOO_LARGE + HIT,
     (b"set a 0 0 8388609\r\n", 0): TOO_LARGE,
 }
@@ -284,8 +250,7 @@ def test_a_get_of_1000_keys(program):
     """Each other one is stored. Those that are there are shown in order."""
     keys = [b"key-of-24-bytes%d" % (number + 100_000_000) for number in range(1000)]
     assert {len(key) for key in keys} == {24}
-    sets = b"".join(b"set %b 0 0 1\r\nx\r\n" % key for key in keys[::2])
-    hits = b"".join(b"VALUE %b 0 1\r\nx\r\n" % key for key in keys[::2])
+    sets, shown = (b"".join(it(key, b"x") for key in keys[::2]) for it in (put, hits))
     leniently, strictly = both_given(program, sets + b"get " + b" ".join(keys) + b"\r\n")
-    assert leniently == STORED * 500 + hits + END
+    assert leniently == STORED * 500 + shown + END
     assert strictly == STORED * 500 + TOO_LONG

@@ -1,10 +1,10 @@
 """tools/script_of.py beside the program: scripts of text and of a recording are answered as the protocol says."""
-import contextlib
 import signal
 import socket
 import subprocess
 import sys
 
+from replays import printed
 from served import TOP, read_to_end
 
 TOOL = [sys.executable, f"{TOP}/tools/script_of.py"]
@@ -19,23 +19,17 @@ def run(words, data=None):
     return subprocess.run(words, input=data, capture_output=True, check=True, timeout=60).stdout
 
 
-def replay(program, script, folder):
-    path = folder / "script"
-    path.write_bytes(script)
-    return run([program, "replay", str(path)])
-
-
-def test_text_becomes_a_script_and_its_answers_are_shown_as_text(program, tmp_path):
+def test_text_becomes_a_script_and_its_answers_are_shown_as_text(program):
     script = run([*TOOL, "text", "-"], b"set a 0 0 1\nx\r\nget a\n")
     assert script == b"open 0 1\nsend 0 1 73657420612030203020310d0a780d0a67657420610d0a\n"
-    shown = run([*TOOL, "show"], replay(program, script, tmp_path))
+    shown = run([*TOOL, "show"], printed(program, "", script))
     assert shown == b"worker 0, session 1:\n    STORED\\r\\n\n    VALUE a 0 1\\r\\n\n    x\\r\\n\n    END\\r\\n\n"
 
 
 def test_bytes_are_sent_as_they_are(program, tmp_path):
     (tmp_path / "raw").write_bytes(REQUESTS)
     script = run([*TOOL, "text", "--bytes", str(tmp_path / "raw")])
-    assert replay(program, script, tmp_path) == b"0 1 %b\n" % ANSWERS.hex().encode()
+    assert printed(program, "", script) == b"0 1 %b\n" % ANSWERS.hex().encode()
 
 
 def test_sessions_go_to_the_workers_in_turn(tmp_path):
@@ -44,30 +38,27 @@ def test_sessions_go_to_the_workers_in_turn(tmp_path):
     assert [line.split()[1:3] for line in two.splitlines() if line.startswith(b"open")] == [[b"0", b"1"], [b"1", b"2"]]
 
 
-@contextlib.contextmanager
-def recording(server, answers):
-    """A recorder in front of the server, and its port."""
-    words = [*TOOL, "record", "--to", f"127.0.0.1:{server.port}", "--answers", str(answers)]
-    with subprocess.Popen(words, stdout=subprocess.PIPE, stderr=subprocess.PIPE) as recorder:
+def said_by_proxy(server, words, sessions):
+    """What the tool prints as a proxy in front of a server, through which these sessions go, each
+    with its answers."""
+    words = [*TOOL, *words, "--to", f"127.0.0.1:{server.port}"]
+    with subprocess.Popen(words, stdout=subprocess.PIPE, stderr=subprocess.PIPE) as proxy:
+        port = int(proxy.stderr.readline().rpartition(b":")[2])
         try:
-            yield recorder, int(recorder.stderr.readline().rpartition(b":")[2])
+            for requests, answers in sessions:
+                with socket.create_connection(("127.0.0.1", port), 30) as peer:
+                    peer.sendall(requests)
+                    peer.shutdown(socket.SHUT_WR)
+                    assert read_to_end(peer) == answers
+            proxy.send_signal(signal.SIGINT)
+            return proxy.communicate(timeout=60)[0]
         finally:
-            recorder.kill()
-
-
-def asked(port, requests):
-    with socket.create_connection(("127.0.0.1", port), 30) as peer:
-        peer.sendall(requests)
-        peer.shutdown(socket.SHUT_WR)
-        return read_to_end(peer)
+            proxy.kill()
 
 
 def test_a_recording_that_is_replayed_is_answered_as_it_was(program, serve, tmp_path):
-    with recording(serve("--workers", "1"), tmp_path / "answers") as (recorder, port):
-        assert asked(port, REQUESTS) == ANSWERS
-        assert asked(port, LATER_REQUESTS) == LATER_ANSWERS
-        recorder.send_signal(signal.SIGINT)
-        script, _ = recorder.communicate(timeout=60)
-    printed = replay(program, script, tmp_path)
-    assert printed == b"0 1 %b\n0 2 %b\n" % (ANSWERS.hex().encode(), LATER_ANSWERS.hex().encode())
-    assert printed == (tmp_path / "answers").read_bytes()
+    script = said_by_proxy(serve("--workers", "1"),
+                           ["record", "--answers", str(tmp_path / "answers")],
+                           [(REQUESTS, ANSWERS), (LATER_REQUESTS, LATER_ANSWERS)])
+    answers = b"0 1 %b\n0 2 %b\n" % (ANSWERS.hex().encode(), LATER_ANSWERS.hex().encode())
+    assert printed(program, "", script) == answers == (tmp_path / "answers").read_bytes()

@@ -15,20 +15,11 @@ def fault(text):
 
 FAULTS = {
     b"line 1: not a script line": [
-        b"open 0 1 \n",
-        b"open 0 0\n",
-        b"open 00 1\n",
-        b"open 10000000000 1\n",
-        b"open 0 18446744073709551616\n",
-        b"open 0 1\r\n",
-        b"close 0 1\n",
+        b"open 0 1 \n", b"open 0 0\n", b"open 00 1\n", b"open 10000000000 1\n",
+        b"open 0 18446744073709551616\n", b"open 0 1\r\n", b"close 0 1\n",
     ],
     b"line 2: not a script line": [
-        b"open 0 1\n\nopen 0 1",
-        b"open 0 1\nsend 0 1 6\n",
-        b"open 0 1\nsend 0 1 \n",
-        b"open 0 1\nsend 0 1 6g\n",
-    ],
+        b"open 0 1\n\nopen 0 1", *(b"open 0 1\nsend 0 1 %b\n" % it for it in (b"6", b"", b"6g"))],
     b"line 1: worker out of range": [b"open 1 1\n", b"send 9999999999 1 61\n"],
     b"line 2: session number not above the last": [b"open 0 2\nopen 0 2\n"],
     b"line 3: session number not above the last": [b"open 0 2\ngone 0 2\nopen 0 1\n"],
@@ -61,9 +52,9 @@ def test_output_that_cannot_be_written_is_a_fault(program):
 
 def test_a_geometry_that_is_none_is_a_fault(program):
     assert ended(program, "--segment-size", "5000") == fault(b"bad geometry")
-    for sizes in ("4096", "4033"), ("65536", "65473"):
-        words = "--segment-size", sizes[0], "--max-item-size", sizes[1]
-        assert ended(program, *words) == fault(b"the largest item does not fit a segment")
+    for size, largest in ("4096", "4033"), ("65536", "65473"):
+        found = ended(program, "--segment-size", size, "--max-item-size", largest)
+        assert found == fault(b"the largest item does not fit a segment")
     assert ended(program, "--segment-size", "4096", "--max-item-size", "4032")[0] == 0
 
 

@@ -4,8 +4,9 @@ import threading
 import time
 
 import pytest
-from asking import SET_AND_GET, SET_AND_GET_ANSWER, ask, ask_set_and_get, hit
-from served import read_exactly, read_to_end, reset
+from asking import (
+    END, SET_AND_GET, SET_AND_GET_ANSWER, STORED, ask, ask_set_and_get, hit, is_same, put)
+from served import read_exactly, read_to_end, reset, together
 
 
 def pipeline(stream, request, times):
@@ -31,34 +32,7 @@ def test_a_burst_of_a_thousand_is_served(serve, workers, storage):
         key = b"key%d" % number
         stream.sendall(SET_AND_GET % (key, key))
     for number, stream in enumerate(streams):
-        answer = SET_AND_GET_ANSWER % (b"key%d" % number)
-        assert read_exactly(stream, len(answer)) == answer
-    for stream in streams:
-        stream.close()
-
-
-def test_the_next_session_waits_until_one_of_1024_ends(serve):
-    server = serve("--workers", "1")
-    streams = [server.connect() for _ in range(1024)]
-    for number, stream in enumerate(streams):
-        ask_set_and_get(stream, b"key%d" % number)
-    late = server.connect()
-    late.sendall(b"get key7\r\n")
-    late.settimeout(0.3)
-    with pytest.raises(TimeoutError):
-        late.recv(100)
-    streams[5].close()
-    late.settimeout(20)
-    answer = hit(b"key7", b"x")
-    assert read_exactly(late, len(answer)) == answer
-    ask_set_and_get(streams[6], b"key6")
-    # 64 wait for the worker; the next one is told that there are too many, and closed after a while.
-    waiting = [server.connect() for _ in range(64)]
-    too_many = server.connect()
-    began = time.monotonic()
-    assert read_to_end(too_many) == b"ERROR Too many open connections\r\n"
-    assert time.monotonic() - began < 10
-    for stream in [*waiting, *streams, late, too_many]:
+        ask(stream, b"", SET_AND_GET_ANSWER % (b"key%d" % number))
         stream.close()
 
 
@@ -70,51 +44,40 @@ def test_a_request_may_come_one_byte_at_a_time(serve):
         for byte in SET_AND_GET % (b"a", b"a"):
             stream.sendall(bytes([byte]))
             time.sleep(0.002)
-        answer = SET_AND_GET_ANSWER % b"a"
-        assert read_exactly(stream, len(answer)) == answer
+        ask(stream, b"", SET_AND_GET_ANSWER % b"a")
 
 
 def test_sixty_thousand_in_a_pipeline_are_answered_where_the_reader_stops_meanwhile(serve, storage):
     times = 60_000
     with serve("--workers", "1", *storage).connect(receive_buffer=8192) as stream:
-        ask(stream, b"set a 0 0 100\r\n" + b"v" * 100 + b"\r\n", b"STORED\r\n")
+        ask(stream, put(b"a", b"v" * 100), STORED)
         answer = hit(b"a", b"v" * 100)
         sender = pipeline(stream, b"get a\r\n", times)
         assert read_exactly(stream, 100 * len(answer)) == 100 * answer
         time.sleep(1)
-        is_right = read_exactly(stream, (times - 100) * len(answer)) == (times - 100) * answer
-        assert is_right
+        assert is_same(read_exactly(stream, (times - 100) * len(answer)), (times - 100) * answer)
         sender.join()
 
 
 def slowest_of_ten_clients(server):
     """The longest wait of ten clients for one of 200 answers each."""
-    slowest, failures = [], []
+    def slowest(number):
+        took = []
+        with server.connect() as stream:
+            for turn in range(200):
+                began = time.monotonic()
+                ask_set_and_get(stream, b"k%d-%d" % (number, turn))
+                took.append(time.monotonic() - began)
+        return max(took)
 
-    def busy(number):
-        try:
-            with server.connect() as stream:
-                for turn in range(200):
-                    began = time.monotonic()
-                    ask_set_and_get(stream, b"k%d-%d" % (number, turn))
-                    slowest.append(time.monotonic() - began)
-        except (AssertionError, OSError) as failure:
-            failures.append(failure)
-
-    clients = [threading.Thread(target=busy, args=(number,)) for number in range(10)]
-    for client in clients:
-        client.start()
-    for client in clients:
-        client.join()
-    assert failures == [] and len(slowest) == 2000
-    return max(slowest)
+    return max(together(lambda number=number: slowest(number) for number in range(10)))
 
 
 def test_a_stalled_reader_costs_others_nothing_and_is_served_later(serve):
     times, value = 20_000, b"v" * 7000
     server = serve("--workers", "1")
     with server.connect(receive_buffer=4096) as stalled:
-        ask(stalled, b"set big 0 0 7000\r\n" + value + b"\r\n", b"STORED\r\n")
+        ask(stalled, put(b"big", value), STORED)
         sender = pipeline(stalled, b"get big\r\n", times)
         time.sleep(0.5)
         assert slowest_of_ten_clients(server) < 10
@@ -122,15 +85,12 @@ def test_a_stalled_reader_costs_others_nothing_and_is_served_later(serve):
         assert server.kilobytes("VmRSS") < 80_000
         answers = 100 * hit(b"big", value)
         for _ in range(times // 100):
-            is_right = read_exactly(stalled, len(answers)) == answers
-            assert is_right
+            assert is_same(read_exactly(stalled, len(answers)), answers)
         sender.join()
 
 
 @pytest.mark.parametrize("request_bytes, answer", [
-    (b"get a\r\n", b"END\r\n"),
-    (b"get a\r\n" * 20_000, b"END\r\n" * 20_000),
-    (b"get a", b""),
+    (b"get a\r\n", END), (b"get a\r\n" * 20_000, END * 20_000), (b"get a", b""),
 ], ids=["one request", "20,000 requests", "half a request"])
 def test_answers_come_after_the_peer_has_closed_its_half(serve, request_bytes, answer):
     server = serve("--workers", "1", "--sessions", "1")

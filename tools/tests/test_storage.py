@@ -3,6 +3,7 @@ import concurrent.futures
 import random
 import time
 
+import pytest
 import replays
 from asking import ask
 
@@ -24,12 +25,9 @@ def random_request(chance, prefix, is_alone):
     return chance.choice((
         b"get %b\r\n" % key,
         b"%b %b %b1 %b2\r\n" % (shows, key, prefix, prefix),
-        b"set %b%b\r\n%b\r\n" % (put, quiet, value),
-        b"set %b%b\r\n%b\r\n" % (put, quiet, value),
-        b"add %b%b\r\n%b\r\n" % (put, quiet, value),
-        b"replace %b%b\r\n%b\r\n" % (put, quiet, value),
+        *(b"%b %b%b\r\n%b\r\n" % (verb, put, quiet, value)
+          for verb in b"set set add replace append".split()),
         b"cas %b %d%b\r\n%b\r\n" % (put, chance.randrange(40) if is_alone else 2**40, quiet, value),
-        b"append %b%b\r\n%b\r\n" % (put, quiet, value),
         b"delete %b%b\r\n" % (key, quiet),
         b"incr %b %d%b\r\n" % (key, chance.randrange(2**40), quiet),
         b"touch %b 30%b\r\n" % (key, quiet),
@@ -38,12 +36,15 @@ def random_request(chance, prefix, is_alone):
     ))
 
 
-def random_script(number):
+CHOICES = "", "--lenient ", "--update-in-place ", "--exact-ttls ", "--evict least-read ", "--accept 7 "
+
+
+def random_script(number, choices=CHOICES):
     """Words and a script that prints the same in each run: each worker has one session, whose requests stand in one order, and those of
     several workers are for keys of their own, in a store that forgets none."""
     chance = random.Random(number)
     workers = chance.choice((1, 1, 2, 3))
-    words = f"--workers {workers} " + chance.choice(("", "--lenient ", "--update-in-place ", "--exact-ttls ", "--evict least-read ", "--accept 7 "))
+    words = f"--workers {workers} " + chance.choice(choices)
     words += chance.choice(SIZES) if workers == 1 else "--segment-size 65536 --segments 64"
     lines = []
     for worker in range(workers):
@@ -68,6 +69,21 @@ def test_random_scripts_are_answered_alike(program, say):
     with concurrent.futures.ThreadPoolExecutor(8) as threads:
         different = [number for number, it in enumerate(threads.map(lambda it: differs(program, it), range(SCRIPTS))) if it]
     say(f"{SCRIPTS:,} scripts")
+    assert different == []
+
+
+def test_random_scripts_are_answered_as_by_another_build(program, request):
+    """20,000 of them, with the default options, if it is named by `--against`."""
+    other = request.config.getoption("--against")
+    if not other:
+        pytest.skip("asked for by --against alone")
+
+    def is_same(number):
+        words, script = random_script(number, [""])
+        return len({replays.ended(it, *words.split(), script=script) for it in (program, other)}) == 1
+
+    with concurrent.futures.ThreadPoolExecutor(8) as threads:
+        different = [number for number, it in enumerate(threads.map(is_same, range(20_000))) if not it]
     assert different == []
 
 

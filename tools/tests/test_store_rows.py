@@ -4,24 +4,21 @@ The answers are worked out from the protocol and from the rules of segments (doc
 longer ones.
 """
 import itertools
+import random
 
+import asking
 import pytest
+from asking import DELETED, END, NOT_FOUND, NOT_STORED, OUT_OF_MEMORY, STORED, TOO_LARGE, TOUCHED
+from asking import hits as hit
 from replays import given
 
 SMALL = "--segment-size", 4096, "--segments", 8
 PIECE = 16_384
 LENIENT, IN_PLACE = "--lenient", "--update-in-place"
-STORED, TOUCHED, END, NOT_FOUND = b"STORED\r\n", b"TOUCHED\r\n", b"END\r\n", b"NOT_FOUND\r\n"
-TOO_LARGE = b"SERVER_ERROR object too large for cache\r\n"
-OUT_OF_MEMORY = b"SERVER_ERROR out of memory\r\n"
 
 
 def put(key, exptime, value, flags=0):
-    return b"set %b %d %d %d\r\n%b\r\n" % (key, flags, exptime, len(value), value)
-
-
-def hit(key, value, flags=0, cas=None):
-    return b"VALUE %b %d %d%b\r\n%b\r\n" % (key, flags, len(value), b"" if cas is None else b" %d" % cas, value)
+    return asking.put(key, value, flags=flags, exptime=exptime)
 
 
 def must_answer(program, rows, *words):
@@ -50,24 +47,17 @@ def must_answer_at(program, rows, *words):
 COMMANDS = {
     "no number there": [(b"incr a 1\r\n", NOT_FOUND), (b"decr a 1\r\n", NOT_FOUND)],
     "add and replace": [
-        (b"add a 0 0 1\r\nx\r\n", STORED),
-        (b"add a 0 0 1\r\ny\r\n", b"NOT_STORED\r\n"),
-        (b"replace b 0 0 1\r\ny\r\n", b"NOT_STORED\r\n"),
-        (b"replace a 7 0 1\r\nz\r\n", STORED),
+        (b"add a 0 0 1\r\nx\r\n", STORED), (b"add a 0 0 1\r\ny\r\n", NOT_STORED),
+        (b"replace b 0 0 1\r\ny\r\n", NOT_STORED), (b"replace a 7 0 1\r\nz\r\n", STORED),
         (b"get a a\r\n", 2 * hit(b"a", b"z", 7) + END),
     ],
     "delete": [
-        (b"set a 0 0 1\r\nx\r\n", STORED),
-        (b"delete a\r\n", b"DELETED\r\n"),
-        (b"delete a\r\n", NOT_FOUND),
+        (b"set a 0 0 1\r\nx\r\n", STORED), (b"delete a\r\n", DELETED), (b"delete a\r\n", NOT_FOUND),
         (b"get a\r\n", END),
     ],
     "flush": [
-        (b"set a 0 0 1\r\nx\r\n", STORED),
-        (b"flush_all\r\n", b"OK\r\n"),
-        (b"get a\r\n", END),
-        (b"set a 0 0 1\r\ny\r\n", STORED),
-        (b"gets a\r\n", hit(b"a", b"y", cas=2) + END),
+        (b"set a 0 0 1\r\nx\r\n", STORED), (b"flush_all\r\n", b"OK\r\n"), (b"get a\r\n", END),
+        (b"set a 0 0 1\r\ny\r\n", STORED), (b"gets a\r\n", hit(b"a", b"y", cas=2) + END),
     ],
 }
 
@@ -109,64 +99,50 @@ def test_a_counter_that_counts_each_second_ends_with_its_segment(program, words,
 @pytest.mark.parametrize("words, seconds", [([IN_PLACE], 56), ([], 8)], ids=["in place", "anew"])
 def test_an_item_that_is_joined_with_nothing_each_second_ends_with_its_segment(program, words, seconds):
     append = b"append a 0 0 0\r\n\r\n"
-    rows = [(put(b"a", 60, b"x"), STORED), *[(append, STORED)] * (seconds - 1), (append, b"NOT_STORED\r\n")]
+    rows = [(put(b"a", 60, b"x"), STORED), *[(append, STORED)] * (seconds - 1),
+            (append, NOT_STORED)]
     must_answer(program, rows, "--tick", 1, LENIENT, *words)
 
 
 def test_a_value_is_joined_up_to_the_limit_of_an_item(program):
     """With segments of 65,536 bytes an item has at most 8,192: a value of 8,167 bytes at a key of one."""
     must_answer(program, [
-        (put(b"a", 0, b"x" * 8166), STORED),
-        (b"append a 0 0 1\r\ny\r\n", STORED),
-        (b"append a 0 0 1\r\nz\r\n", TOO_LARGE),
-        (b"prepend a 0 0 1\r\nz\r\n", TOO_LARGE),
-        (b"append a 0 0 0\r\n\r\n", STORED),
-        (b"get a\r\n", hit(b"a", b"x" * 8166 + b"y") + END),
+        (put(b"a", 0, b"x" * 8166), STORED), (b"append a 0 0 1\r\ny\r\n", STORED),
+        (b"append a 0 0 1\r\nz\r\n", TOO_LARGE), (b"prepend a 0 0 1\r\nz\r\n", TOO_LARGE),
+        (b"append a 0 0 0\r\n\r\n", STORED), (b"get a\r\n", hit(b"a", b"x" * 8166 + b"y") + END),
     ], LENIENT)
 
 
 # ---- touches
 
 SHOWN = hit(b"a", b"x") + END
+A_MINUTE, A_MINUTE_MORE = b"set a 0 60 1\r\nx\r\n", b"touch a 60\r\n"
 TOUCHES = {
     "an item of 60 seconds ends at 1,056, and may stay until 1,072 is asked for": [
-        (1000, b"set a 7 60 1\r\nx\r\n", STORED),
-        (1001, b"touch a 60\r\n", TOUCHED),
-        (1011, b"touch a 60\r\n", TOUCHED),
-        (1055, b"gets a\r\n", hit(b"a", b"x", 7, 1) + END),
-        (1056, b"get a\r\n", END),
+        (1000, b"set a 7 60 1\r\nx\r\n", STORED), (1001, A_MINUTE_MORE, TOUCHED),
+        (1011, A_MINUTE_MORE, TOUCHED),
+        (1055, b"gets a\r\n", hit(b"a", b"x", 7, 1) + END), (1056, b"get a\r\n", END),
     ],
     "written anew at 1,012 it ends at 1,068": [
-        (1000, b"set a 7 60 1\r\nx\r\n", STORED),
-        (1012, b"touch a 60\r\n", TOUCHED),
-        (1067, b"gets a\r\n", hit(b"a", b"x", 7, 1) + END),
-        (1068, b"get a\r\n", END),
+        (1000, b"set a 7 60 1\r\nx\r\n", STORED), (1012, A_MINUTE_MORE, TOUCHED),
+        (1067, b"gets a\r\n", hit(b"a", b"x", 7, 1) + END), (1068, b"get a\r\n", END),
     ],
     "an item of 1,440 seconds may stay while at most 180 of them are missing": [
-        (1000, b"set a 0 1440 1\r\nx\r\n", STORED),
-        (1180, b"touch a 1440\r\n", TOUCHED),
-        (2439, b"get a\r\n", SHOWN),
-        (2440, b"get a\r\n", END),
-        (3000, b"set a 0 1440 1\r\nx\r\n", STORED),
-        (3181, b"touch a 1440\r\n", TOUCHED),
-        (4620, b"get a\r\n", SHOWN),
-        (4621, b"get a\r\n", END),
+        (1000, b"set a 0 1440 1\r\nx\r\n", STORED), (1180, b"touch a 1440\r\n", TOUCHED),
+        (2439, b"get a\r\n", SHOWN), (2440, b"get a\r\n", END),
+        (3000, b"set a 0 1440 1\r\nx\r\n", STORED), (3181, b"touch a 1440\r\n", TOUCHED),
+        (4620, b"get a\r\n", SHOWN), (4621, b"get a\r\n", END),
     ],
     "an item that is to end sooner doesn't stay": [
-        (1000, b"set a 0 60 1\r\nx\r\n", STORED),
-        (1001, b"touch a 9\r\n", TOUCHED),
-        (1008, b"get a\r\n", SHOWN),
+        (1000, A_MINUTE, STORED), (1001, b"touch a 9\r\n", TOUCHED), (1008, b"get a\r\n", SHOWN),
         (1009, b"get a\r\n", END),
     ],
     "nor is it touched after its new end": [
-        (1000, b"set a 0 60 1\r\nx\r\n", STORED),
-        (1001, b"touch a 9\r\n", TOUCHED),
-        (1008, b"get a\r\n", SHOWN),
-        (1009, b"touch a 60\r\n", NOT_FOUND),
+        (1000, A_MINUTE, STORED), (1001, b"touch a 9\r\n", TOUCHED), (1008, b"get a\r\n", SHOWN),
+        (1009, A_MINUTE_MORE, NOT_FOUND),
     ],
     "one that is to have no deadline doesn't stay, until it is to end at once": [
-        (1010, b"set a 0 60 1\r\nx\r\n", STORED),
-        (1011, b"touch a 0\r\n", TOUCHED),
+        (1010, A_MINUTE, STORED), (1011, b"touch a 0\r\n", TOUCHED),
         (9999, b"touch a -1\r\n", TOUCHED),
         (10000, b"get a\r\n", END),
     ],
@@ -217,22 +193,6 @@ def test_where_segments_are_filled_worst_one_item_too_many_forgets_the_oldest(pr
     must_answer(program, rows, *SMALL)
 
 
-def random_numbers(state):
-    """Numbers that look random, the same ones each time: a xorshift generator. Each is below what is sent in."""
-    below = yield
-    while True:
-        state ^= state << 13 & 0xFFFF_FFFF_FFFF_FFFF
-        state ^= state >> 7
-        state ^= state << 17 & 0xFFFF_FFFF_FFFF_FFFF
-        below = yield state % below
-
-
-def random_below(seed):
-    numbers = random_numbers(seed)
-    next(numbers)
-    return numbers.send
-
-
 def random_rows(below, longest, left):
     """Random values of at most a length are written, over others too, and deleted, as long as what is written is within what is left; then all that is
     there is found."""
@@ -240,7 +200,7 @@ def random_rows(below, longest, left):
     for letter in itertools.islice(itertools.cycle(range(ord("a"), ord("z") + 1)), 5000):
         number = below(len(there))
         if below(8) == 0:
-            yield b"delete %b\r\n" % key(number), NOT_FOUND if there[number] is None else b"DELETED\r\n"
+            yield b"delete %b\r\n" % key(number), NOT_FOUND if there[number] is None else DELETED
             there[number] = None
             continue
         value = bytes([letter]) * below(longest + 1)
@@ -259,7 +219,7 @@ def random_rows(below, longest, left):
 ])
 def test_all_that_is_written_within_the_bound_is_found(program, segment_size, segments, longest, largest):
     bound = (segments - 1) * (segment_size - (largest or segment_size // 8))
-    rows = random_rows(random_below(segment_size ^ longest ^ 88_172_645_463_325_252), longest, bound)
+    rows = random_rows(random.Random(segment_size ^ longest).randrange, longest, bound)
     limit = ["--max-item-size", largest] if largest else []
     # (strictly a data block has 131,072 bytes at most)
     must_answer(program, rows, "--segment-size", segment_size, "--segments", segments, *limit, *["--lenient"] * (longest > 131_072))
@@ -275,7 +235,7 @@ def rows_in_turn(below, keys, turns):
 
     for turn in range(turns):
         number = below(keys)
-        yield b"delete key%d\r\n" % number, NOT_FOUND if there[number] is None else b"DELETED\r\n"
+        yield b"delete key%d\r\n" % number, NOT_FOUND if there[number] is None else DELETED
         there[number] = None
         number = below(keys)
         there[number] = b"%d" % turn
@@ -286,7 +246,8 @@ def rows_in_turn(below, keys, turns):
 
 def test_keys_that_are_deleted_and_written_in_turn_are_found(program):
     """What is written takes less than the bound below which nothing is forgotten."""
-    must_answer(program, rows_in_turn(random_below(2_463_534_242), 10_000, 30_000), "--segment-size", 1_048_576, "--segments", 8)
+    must_answer(program, rows_in_turn(random.Random(1).randrange, 10_000, 30_000), "--segment-size",
+                1_048_576, "--segments", 8)
 
 
 # ---- how much one reply shows

@@ -31,19 +31,11 @@ def values(count):
 
 # ---- clients that spread keys by themselves
 
-class PymemcacheHash:
+def pymemcache_hash(ports):
     """pymemcache's HashClient: rendezvous hashing; `ignore_exc` makes a cache that is gone a miss."""
-
-    def __init__(self, ports):
-        servers = [("127.0.0.1", port) for port in ports]
-        waits = {"retry_attempts": 0, "dead_timeout": 60, "timeout": 10, "connect_timeout": 10}
-        self.client = HashClient(servers, ignore_exc=True, **waits)
-
-    def set(self, key, value):
-        return self.client.set(key, value, noreply=False)
-
-    def get(self, key):
-        return self.client.get(key)
+    waits = {"retry_attempts": 0, "dead_timeout": 60, "timeout": 10, "connect_timeout": 10}
+    servers = [("127.0.0.1", port) for port in ports]
+    return HashClient(servers, ignore_exc=True, default_noreply=False, **waits)
 
 
 class LibmemcachedKetama:
@@ -68,7 +60,7 @@ class LibmemcachedKetama:
         return call()
 
 
-@pytest.mark.parametrize("spread", [PymemcacheHash, LibmemcachedKetama])
+@pytest.mark.parametrize("spread", [pymemcache_hash, LibmemcachedKetama])
 def test_a_client_that_spreads_keys_loses_those_of_a_stopped_cache_alone(caches, say, spread):
     wanted, ports = values(3000), [cache.port for cache in caches]
     client = spread(ports[:3])
@@ -94,8 +86,7 @@ def test_a_client_that_spreads_keys_loses_those_of_a_stopped_cache_alone(caches,
 @contextlib.contextmanager
 def twemproxy(ports, folder):
     """`nutcracker` in front of these ports, by the example's configuration with ports in place of its own."""
-    with open(f"{served.TOP}/packaging/examples/twemproxy/three_caches.yml", encoding="utf-8") as file:
-        text = file.read()
+    text = served.read(f"{served.TOP}/packaging/examples/twemproxy/three_caches.yml")
     for written, port in zip((11311, 11312, 11313), ports):
         text = text.replace(f"127.0.0.1:{written}", f"127.0.0.1:{port}")
     own = served.free_port()

@@ -1,12 +1,12 @@
 """The lines of docs/INSTALL.md for stunnel, as its unit runs them: TLS in front of a served program."""
 import os
 import re
-import socket
 import ssl
 import subprocess
 
 import pytest
 import served
+from asking import SET_AND_GET, SET_AND_GET_ANSWER
 
 NAME = "cache.example"
 
@@ -23,18 +23,18 @@ def stunnel():
 
 def lines_of(page, language, word):
     """The block of this language in a page that has this word."""
-    with open(f"{served.TOP}/docs/{page}.md", encoding="utf-8") as file:
-        blocks = re.findall(rf"^ *```{language}\n(.*?)^ *```", file.read(), re.MULTILINE | re.DOTALL)
+    text = served.read(f"{served.TOP}/docs/{page}.md")
+    blocks = re.findall(rf"^ *```{language}\n(.*?)^ *```", text, re.MULTILINE | re.DOTALL)
     return "\n".join(line.strip() for line in next(it for it in blocks if word in it).splitlines()) + "\n"
 
 
 def test_a_client_over_tls_is_answered(program, stunnel, tmp_path):
     port = served.free_port()
     os.chmod(tmp_path, 0o755)
-    subprocess.run(["sh", "-e", "-c", lines_of("INSTALL", "sh", "openssl").replace("/etc/stunnel", str(tmp_path))],
-                   check=True, capture_output=True)
+    making, written = (lines_of("INSTALL", *it).replace("/etc/stunnel", str(tmp_path))
+                       for it in (("sh", "openssl"), ("text", "[segcached]")))
+    subprocess.run(["sh", "-e", "-c", making], check=True, capture_output=True)
     with served.Server(program) as server:
-        written = lines_of("INSTALL", "text", "[segcached]").replace("/etc/stunnel", str(tmp_path))
         written = re.sub(r"accept = .*", f"accept = 127.0.0.1:{port}", written)
         written = re.sub(r"connect = .*", f"connect = 127.0.0.1:{server.port}", written)
         if os.getuid():
@@ -42,9 +42,8 @@ def test_a_client_over_tls_is_answered(program, stunnel, tmp_path):
         (tmp_path / "segcached.conf").write_text(written, encoding="ascii")
         with served.OnPort(port, [stunnel, str(tmp_path / "segcached.conf")]) as tunnel:
             context = ssl.create_default_context(cafile=str(tmp_path / "segcached.crt"))
-            with socket.create_connection(("127.0.0.1", port), 20) as plain:
-                with context.wrap_socket(plain, server_hostname=NAME) as stream:
-                    stream.sendall(b"set a 0 0 1\r\nx\r\nget a\r\nquit\r\n")
-                    assert served.read_to_end(stream) == b"STORED\r\nVALUE a 0 1\r\nx\r\nEND\r\n"
+            with context.wrap_socket(tunnel.connect(), server_hostname=NAME) as stream:
+                stream.sendall(SET_AND_GET % (b"a", b"a") + b"quit\r\n")
+                assert served.read_to_end(stream) == SET_AND_GET_ANSWER % b"a"
             # (the unit takes it as ended if it goes on in the background)
             assert tunnel.process.poll() is None

@@ -1,44 +1,61 @@
 """Items of a served program expire by seconds of its clock. (All waits are in three tests, of twelve seconds, three and five.)"""
-import threading
 import time
 
 import pytest
-from asking import ask, hit
-
-
-def test_items_are_hits_until_they_expire_and_then_misses(serve):
-    # The server counts whole seconds from its start, so it starts early in a second of Unix time. (An item
-    # of up to 7 seconds may expire after one: it is written early in a second of the server, too.)
-    time.sleep(1.05 - time.time() % 1)
-    with serve("--workers", "1").connect() as stream:
-        time.sleep(1.3 - time.time() % 1)
-        began = time.time()
-        second = int(began)
-        # By key: the exptime, and when it is still a hit. A TTL is rounded down, here to 8 or 56 seconds.
-        entries = {
-            b"of-3-unix": (second + 3, 0), b"of-10": (10, 4), b"of-10-unix": (second + 10, 4),
-            b"of-60": (60, 11), b"of-60-unix": (second + 60, 11), b"lasting": (0, 11),
-            b"over": (-1, -1), b"over-unix": (second - 1, -1),
-        }
-        for key, (exptime, until) in entries.items():
-            answer = hit(key, b"x") if until >= 0 else b"END\r\n"
-            ask(stream, b"set %b 0 %d 1\r\nx\r\nget %b\r\n" % (key, exptime, key), b"STORED\r\n" + answer)
-        for after in (4, 11):
-            time.sleep(max(0, began + after - time.time()))
-            for key, (_, until) in entries.items():
-                ask(stream, b"get %b\r\n" % key, hit(key, b"x") if until >= after else b"END\r\n")
+from asking import END, STORED, ask, hit, put
+from served import read_exactly, together
 
 
 def serve_early_in_a_second(serve):
     """A server whose clock began early in a second of Unix time, so that its own seconds begin early in those."""
     for _ in range(20):
         time.sleep(1.02 - time.time() % 1)
+        second = int(time.time())
         server = serve("--workers", "1")
         with server.connect() as stream:
             ask(stream, b"get none\r\n", b"END\r\n")
-        if time.time() % 1 < 0.3:
+        if time.time() < second + 0.3:
             return server
     return pytest.fail("no server began to serve within a third of a second")
+
+
+def stored_within_a_second(serve):
+    """A client that has stored items within a second of the server and of Unix time; what is known
+    of each key: a moment before which it is there, and one from which it isn't. A TTL is rounded
+    down, here to 8 or 56 seconds, and one of up to 7 ends with the second."""
+    for _ in range(10):
+        stream = serve_early_in_a_second(serve).connect()
+        time.sleep(1.4 - time.time() % 1)
+        second = int(time.time())
+        entries = {
+            b"of-3-unix": (second + 3, 1, 3), b"of-10": (10, 8, 11),
+            b"of-10-unix": (second + 10, 8, 11), b"of-60": (60, 48, 61),
+            b"of-60-unix": (second + 60, 48, 61), b"lasting": (0, 1000, 1000),
+            b"over": (-1, 0, 0), b"over-unix": (second - 1, 0, 0),
+        }
+        for key, (exptime, *_) in entries.items():
+            ask(stream, put(key, b"x", exptime=exptime), STORED)
+        if time.time() < second + 0.9:
+            return stream, {key: (second + least, second + most)
+                            for key, (_, least, most) in entries.items()}
+    return pytest.fail("no items were stored within half a second")
+
+
+def test_items_are_hits_until_they_expire_and_then_misses(serve):
+    """(Where this process stood still an answer may come too late to show a hit.)"""
+    stream, entries = stored_within_a_second(serve)
+    began = time.time()
+    for after in (0, 4, 11):
+        time.sleep(max(0, began + after - time.time()))
+        for key, (there_before, gone_from) in entries.items():
+            asked, found = time.time(), hit(key, b"x")
+            stream.sendall(b"get %b\r\n" % key)
+            got = read_exactly(stream, len(END))
+            if got != END:
+                got += read_exactly(stream, len(found) - len(got))
+            assert got in (found, END)
+            assert got == found or time.time() >= there_before, (key, after)
+            assert got == END or asked < gone_from, (key, after)
 
 
 def test_the_clock_is_neither_late_nor_early(serve):
@@ -55,33 +72,30 @@ def test_the_clock_is_neither_late_nor_early(serve):
         assert stream.recv(100) == b"STORED\r\n" + hit(b"soon", b"x") or time.time() >= second + 1
 
 
-def look_for_late_ones(server, rate, late):
-    """A client with this rate of requests a second, sets and gets in turn, and in the middle two of one kind: notes its rate for each item that
-    it sees after it expired. An item of up to 7 seconds expires within one."""
-    sets, ticks = [], 5 * rate
+def late_ones(rate, server):
+    """A client with this rate of requests a second, sets and gets in turn, and in the middle two of
+    one kind: how many items it sees after they expired. An item of up to 7 seconds expires within
+    one."""
+    sets, ticks, late = [], 5 * rate, 0
     with server.connect() as stream:
         for tick in range(ticks):
             key = b"tick-%d" % tick
             if (tick + (tick >= ticks // 2)) % 2 == 0:
-                ask(stream, b"set %b 0 7 1\r\nx\r\n" % key, b"STORED\r\n")
+                ask(stream, put(key, b"x", exptime=7), STORED)
                 sets.append((time.monotonic(), key))
             else:
                 over = [key for at, key in sets if time.monotonic() - at >= 1]
                 if over:
                     stream.sendall(b"get %b\r\n" % over[-1])
-                    if stream.recv(100) != b"END\r\n":
-                        late.append(rate)
+                    late += stream.recv(100) != END
                 else:
-                    ask(stream, b"get none\r\n", b"END\r\n")
+                    ask(stream, b"get none\r\n", END)
             time.sleep(1.03 / rate)
+    return late
 
 
 def test_an_item_expires_however_few_requests_come(serve):
     """A clock that is read at each eighth request alone shows it for eight seconds more at one request a second, and for one at seven."""
-    late, servers = [], {rate: serve("--workers", "1") for rate in range(1, 8)}
-    threads = [threading.Thread(target=look_for_late_ones, args=(server, rate, late)) for rate, server in servers.items()]
-    for thread in threads:
-        thread.start()
-    for thread in threads:
-        thread.join()
-    assert late == []
+    servers = {rate: serve("--workers", "1") for rate in range(1, 8)}
+    late = together(lambda it=it: late_ones(*it) for it in servers.items())
+    assert late == [0] * 7

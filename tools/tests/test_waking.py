@@ -3,7 +3,7 @@ import re
 import subprocess
 
 import pytest
-from served import TOP
+from served import TOP, read
 
 MODEL = f"{TOP}/models/waking.pml"
 # Two workers over ports that are no sockets; two that execute requests; one worker over sockets, with a listener and a client.
@@ -13,30 +13,18 @@ SOCKETS = ("-DWORKERS=1", "-DREQUESTS=3", "-DSOCKETS")
 SLEEPS = "invalid end state"
 TELLS_LATE = "assertion violated (untold<2)"
 UNSERVED = "assertion violated (posted[at]==done[at])"
-# Each wrong protocol, where it is tried, and what spin says of it.
-WRONG = {
-    "NO_SECOND_LOOK": (LANES, SLEEPS),
-    "WAKE_BEFORE_STORE": (LANES, SLEEPS),
-    "NO_UNPARK": (LANES, SLEEPS),
-    "PARKS_OVER_A_WAKE": (LANES, SLEEPS),
-    "BYE_WITHOUT_WAKE": (LANES, SLEEPS),
-    "UNPARK_BEFORE_TELL": (LANES, SLEEPS),
-    "TELLS_EIGHTHS_ALONE": (LANES, TELLS_LATE),
-    "NO_LAST_LOOK": (BY_WORKERS, SLEEPS),
-    "LOOKS_BEFORE_IT_PUTS_BACK": (BY_WORKERS, SLEEPS),
-    "TRIES_ONCE": (BY_WORKERS, SLEEPS),
-    "TAKES_BACK_LATE": (BY_WORKERS, SLEEPS),
-    "LEAVES_UNTOLD": (BY_WORKERS, SLEEPS),
-    "ENDS_UNTOLD": (BY_WORKERS, SLEEPS),
-    "PARKS_HOLDING": (BY_WORKERS, SLEEPS),
-    "PARKS_WITHOUT_A_LOOK": (BY_WORKERS, UNSERVED),
-    "NO_EIGHTH": (SOCKETS, TELLS_LATE),
-    "WAITS_OVER_UNSENT": (SOCKETS, SLEEPS),
-    "OFFER_WITHOUT_WAKE": (SOCKETS, SLEEPS),
-    "WAKE_BEFORE_OFFER": (SOCKETS, SLEEPS),
-    "END_WITHOUT_WAKE": (SOCKETS, SLEEPS),
-    "ENDS_BEHIND_ITS_LOOK": (SOCKETS, SLEEPS),
-}
+# Wrong protocols, where they are tried, and what spin says of them.
+WRONG = {name: (world, fault) for world, fault, names in (
+    (LANES, SLEEPS, """NO_SECOND_LOOK WAKE_BEFORE_STORE NO_UNPARK PARKS_OVER_A_WAKE BYE_WITHOUT_WAKE
+        UNPARK_BEFORE_TELL"""),
+    (LANES, TELLS_LATE, "TELLS_EIGHTHS_ALONE"),
+    (BY_WORKERS, SLEEPS, """NO_LAST_LOOK LOOKS_BEFORE_IT_PUTS_BACK TRIES_ONCE TAKES_BACK_LATE
+        LEAVES_UNTOLD ENDS_UNTOLD PARKS_HOLDING"""),
+    (BY_WORKERS, UNSERVED, "PARKS_WITHOUT_A_LOOK"),
+    (SOCKETS, TELLS_LATE, "NO_EIGHTH"),
+    (SOCKETS, SLEEPS, """WAITS_OVER_UNSENT OFFER_WITHOUT_WAKE WAKE_BEFORE_OFFER END_WITHOUT_WAKE
+        ENDS_BEHIND_ITS_LOOK"""),
+) for name in names.split()}
 
 
 def searched(*words):
@@ -62,17 +50,14 @@ def test_a_wrong_protocol_is_refused(name):
 
 
 def test_the_wrong_protocols_are_those_of_the_model():
-    with open(MODEL, encoding="ascii") as file:
-        named = set(re.findall(r"^#ifn?def ([A-Z_]+)", file.read(), re.MULTILINE))
+    named = set(re.findall(r"^#ifn?def ([A-Z_]+)", read(MODEL), re.MULTILINE))
     assert named - {"WORKERS", "REQUESTS", "WINDOW", "SOCKETS", "BY_WORKERS"} == set(WRONG)
 
 
 def test_the_code_beside_the_steps_is_there():
-    with open(MODEL, encoding="ascii") as file:
-        cited = re.findall(r"/\* (\w+)/(\w+\.rt): (.*?) \*/", file.read())
+    cited = re.findall(r"/\* (\w+)/(\w+\.rt): (.*?) \*/", read(MODEL))
     assert len(cited) > 40
     for crate, name, items in cited:
-        with open(f"{TOP}/crates/{crate}/src/{name}", encoding="utf-8") as file:
-            code = file.read()
+        code = read(f"{TOP}/crates/{crate}/src/{name}")
         for item in items.split(", "):
             assert re.search(rf"\b(?:fn|const|struct|trait) {item}\b", code), f"{crate}/{name}: {item}"

@@ -14,6 +14,7 @@ import kept_verdicts
 import prove
 import pytest
 import wrong_bodies
+from prove import write
 from served import TOP
 
 SOURCE = """#![tactic(auto)]
@@ -109,11 +110,6 @@ def low(tmp_path, monkeypatch):
     write(folder / "src" / "lib.rt", SOURCE)
     write(folder / "proofs" / "same" / "Answers.antt", ANSWERS)
     return folder
-
-
-def write(path, text):
-    path.parent.mkdir(parents=True, exist_ok=True)
-    path.write_text(text)
 
 
 def plant(low, edits):

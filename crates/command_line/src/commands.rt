@@ -3,7 +3,7 @@
 use crate::number_option::{NumberOption, REPLAY_OPTIONS, SERVE_OPTIONS, WORKERS};
 use clap::builder::ValueParser;
 use clap::{Arg, ArgAction, Command};
-use proto::VERSION;
+use proto::{Eviction, Storage, VERSION};
 use std::alloc::{AllocError, Global};
 
 /// The names of the options that have no number.
@@ -28,15 +28,25 @@ pub(crate) const STORAGE: &str = "storage";
 
 pub(crate) const QUIET: &str = "quiet";
 
-/// The values of `--storage`.
+/// The values of `--storage`, and what they ask for. The first is the default.
+pub(crate) const STORAGES: [(&str, Storage); 2] = [
+    (BY_THREAD, Storage::Thread),
+    (BY_WORKERS, Storage::Workers),
+];
+
 const BY_THREAD: &str = "thread";
 
-pub(crate) const BY_WORKERS: &str = "workers";
+const BY_WORKERS: &str = "workers";
 
-/// The values of `--evict`.
+/// The values of `--evict`, and what they ask for. The first is the default.
+pub(crate) const EVICTIONS: [(&str, Eviction); 2] = [
+    (OLDEST, Eviction::Oldest),
+    (LEAST_READ, Eviction::LeastRead),
+];
+
 const OLDEST: &str = "oldest";
 
-pub(crate) const LEAST_READ: &str = "least-read";
+const LEAST_READ: &str = "least-read";
 
 const LENIENT_HELP: &str =
     "Take what many clients send: spaces before a line's end, lines of up to 32768 bytes in place of 2048, delete with a time of 0, and the commands touch, append, prepend, stats, version and verbosity";

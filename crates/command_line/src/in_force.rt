@@ -1,14 +1,14 @@
 //! The options with which a server runs, as words.
 
 use crate::commands::{
-    BY_WORKERS, EVICT, EXACT_TTLS, LEAST_READ, LENIENT, LISTEN, QUIET, SOCKET_MODE, STORAGE,
+    EVICT, EVICTIONS, EXACT_TTLS, LENIENT, LISTEN, QUIET, SOCKET_MODE, STORAGE, STORAGES,
     UPDATE_IN_PLACE,
 };
 use crate::number_option::{
-    CONNECTIONS, IDLE, MAX_ITEM_SIZE, NumberOption, SEGMENT_SIZE, SEGMENTS, SESSIONS, SPIN, WORKERS,
+    CONNECTIONS, IDLE, MAX_ITEM_SIZE, NumberOption, OUTPUT_MEMORY, SEGMENT_SIZE, SEGMENTS,
+    SESSIONS, SPIN, WORKERS,
 };
 use crate::options::ServeOptions;
-use proto::{Eviction, Storage};
 use std::alloc::{AllocError, Global};
 
 /// Adds an option's name.
@@ -48,6 +48,24 @@ fn push_flag(line: &mut String, name: &str, is_given: bool) -> Result<(), AllocE
     Ok(())
 }
 
+/// Adds an option with the value that asks for this choice, unless that is the first one, the default.
+fn push_choice<T: Copy + PartialEq>(
+    line: &mut String,
+    name: &str,
+    choices: &[(&str, T)],
+    chosen: T,
+) -> Result<(), AllocError> {
+    let mut is_default = true;
+    for choice in choices {
+        let (value, asked) = *choice;
+        if asked == chosen && !is_default {
+            push_value(line, name, value)?;
+        }
+        is_default = false;
+    }
+    Ok(())
+}
+
 /// Adds the options that have a number.
 fn push_numbers(
     alloc: Global,
@@ -60,6 +78,7 @@ fn push_numbers(
     push_number(alloc, line, &SEGMENTS, Some(options.segments))?;
     push_number(alloc, line, &MAX_ITEM_SIZE, options.max_item_size)?;
     push_number(alloc, line, &CONNECTIONS, options.connections)?;
+    push_number(alloc, line, &OUTPUT_MEMORY, options.output_memory)?;
     push_number(alloc, line, &SESSIONS, options.sessions)?;
     push_number(alloc, line, &IDLE, options.idle)?;
     push_number(alloc, line, &SPIN, spin)
@@ -67,12 +86,8 @@ fn push_numbers(
 
 /// Adds the options that choose among rules, and those that have no value.
 fn push_rules(line: &mut String, options: &ServeOptions) -> Result<(), AllocError> {
-    if options.eviction == Eviction::LeastRead {
-        push_value(line, EVICT, LEAST_READ)?;
-    }
-    if options.storage == Storage::Workers {
-        push_value(line, STORAGE, BY_WORKERS)?;
-    }
+    push_choice(line, EVICT, &EVICTIONS, options.eviction)?;
+    push_choice(line, STORAGE, &STORAGES, options.storage)?;
     push_flag(line, QUIET, options.quiet)?;
     push_flag(line, EXACT_TTLS, options.exact_ttls)?;
     push_flag(line, LENIENT, options.dialect.is_lenient())?;

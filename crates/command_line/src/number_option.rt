@@ -8,6 +8,12 @@ use proto::{
 /// The most connections that a worker can be told to serve at a time.
 const MAX_CONNECTIONS: u64 = 65_536;
 
+/// The least bytes of output that a worker may be told to keep.
+pub(crate) const LEAST_OUTPUT: u64 = 4_194_304;
+
+/// The most bytes of output that all workers together can be told to keep.
+const MOST_OUTPUT: u64 = 1_099_511_627_776;
+
 /// An option whose value is a number from `least` to `most`.
 #[derive(Drop)]
 pub(crate) struct NumberOption {
@@ -120,6 +126,15 @@ pub(crate) const CONNECTIONS: NumberOption = NumberOption {
     default: &[],
 };
 
+pub(crate) const OUTPUT_MEMORY: NumberOption = NumberOption {
+    name: "output-memory",
+    value_name: "BYTES",
+    help: "Bytes of output that all workers together keep for clients that do not read, at least 4194304 for each worker; 67108864 for each if it isn't given",
+    least: LEAST_OUTPUT,
+    most: MOST_OUTPUT,
+    default: &[],
+};
+
 pub(crate) const SPIN: NumberOption = NumberOption {
     name: "spin",
     value_name: "MICROSECONDS",
@@ -141,8 +156,9 @@ pub(crate) static REPLAY_OPTIONS: [NumberOption; 7] = [
 ];
 
 /// The options of a server beside its address and its workers.
-pub(crate) static SERVE_OPTIONS: [NumberOption; 7] = [
+pub(crate) static SERVE_OPTIONS: [NumberOption; 8] = [
     CONNECTIONS,
+    OUTPUT_MEMORY,
     SESSIONS,
     IDLE,
     SPIN,

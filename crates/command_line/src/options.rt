@@ -51,6 +51,9 @@ pub struct ServeOptions {
     pub sessions: Option<u64>,
     /// After how many seconds a silent connection is closed, 1 to 4,294,967,295; None is never.
     pub idle: Option<u64>,
+    /// The bytes of output that all workers together may keep for clients that don't read, 4,194,304 to 1,099,511,627,776 and at least
+    /// 4,194,304 for each worker; None is 67,108,864 for each.
+    pub output_memory: Option<u64>,
     /// For how many microseconds a thread looks for work before it sleeps, 0 to 1,000,000; None leaves it to each
     /// thread. It does nothing if workers execute requests.
     pub spin: Option<u32>,

@@ -6,15 +6,15 @@ ghost use Rattle.clap.specs.declared.error.ErrorKind.TheVariants as clap;
 ghost use Rattle.std.specs.IoError.{error_kind};
 ghost use Rattle.std.specs.declared.io.ErrorKind.TheVariants as io;
 ghost use Rattle.command_line.specs.declared.words.WordsFault.TheVariants as words;
-ghost use Rattle.command_line.specs.Words.{IsJob, IsReplayInRange, IsServeInRange, IsInRange, KeepsBlocks};
+ghost use Rattle.command_line.specs.Words.{IsJob, IsReplayInRange, IsServeInRange, IsInRange, IsEnoughOutput, KeepsBlocks};
 
 use crate::commands::{
-    BY_WORKERS, EVICT, EXACT_TTLS, FILE, LEAST_READ, LENIENT, LISTEN, QUIET, SOCKET_MODE, STORAGE,
+    EVICT, EVICTIONS, EXACT_TTLS, FILE, LENIENT, LISTEN, QUIET, SOCKET_MODE, STORAGE, STORAGES,
     UPDATE_IN_PLACE, command,
 };
 use crate::number_option::{
-    ACCEPT, CONNECTIONS, FAIL_GIVE, IDLE, MAX_ITEM_SIZE, NOW, NumberOption, SEGMENT_SIZE, SEGMENTS,
-    SESSIONS, SPIN, TICK, WORKERS,
+    ACCEPT, CONNECTIONS, FAIL_GIVE, IDLE, LEAST_OUTPUT, MAX_ITEM_SIZE, NOW, NumberOption,
+    OUTPUT_MEMORY, SEGMENT_SIZE, SEGMENTS, SESSIONS, SPIN, TICK, WORKERS,
 };
 use crate::options::{Job, Options, ServeOptions};
 use crate::version::PROVED_WITH;
@@ -101,18 +101,21 @@ fn dialect(matches: &ArgMatches<'_>, segment_size: u64, largest_item: Option<u64
     })
 }
 
-fn eviction(matches: &ArgMatches<'_>) -> Eviction {
-    match matches.get_str(EVICT) {
-        Some(LEAST_READ) => Eviction::LeastRead,
-        _ => Eviction::Oldest,
+/// What the option's value asks for, one of these.
+fn chosen<T: Copy + Drop>(
+    alloc: Global,
+    matches: &ArgMatches<'_>,
+    name: &str,
+    choices: &[(&str, T)],
+) -> Result<T, WordsFault> {
+    let word = matches.get_str(name).unwrap_or("");
+    for choice in choices {
+        let (value, asked) = *choice;
+        if value == word {
+            return Ok(asked);
+        }
     }
-}
-
-fn storage(matches: &ArgMatches<'_>) -> Storage {
-    match matches.get_str(STORAGE) {
-        Some(BY_WORKERS) => Storage::Workers,
-        _ => Storage::Thread,
-    }
+    Err(WordsFault::BadWords(format!(in alloc; "error: invalid value '{word}' for '--{name}'\n")?))
 }
 
 fn replay_options(alloc: Global, matches: &ArgMatches<'_>) -> Result<Options, WordsFault>
@@ -131,8 +134,8 @@ fn replay_options(alloc: Global, matches: &ArgMatches<'_>) -> Result<Options, Wo
         fail_give: number_or_none(alloc, matches, &FAIL_GIVE)?.unwrap_or(0),
         dialect: dialect(matches, segment_size, max_item_size),
         update_in_place: matches.get_flag(UPDATE_IN_PLACE),
-        eviction: eviction(matches),
-        storage: storage(matches),
+        eviction: chosen(alloc, matches, EVICT, &EVICTIONS)?,
+        storage: chosen(alloc, matches, STORAGE, &STORAGES)?,
         exact_ttls: matches.get_flag(EXACT_TTLS),
         file: String::from_str(alloc, matches.get_str(FILE).unwrap_or(""))?,
     })
@@ -149,6 +152,26 @@ fn socket_mode(alloc: Global, matches: &ArgMatches<'_>) -> Result<u32, WordsFaul
             "error: invalid value '{text}' for '--socket-mode <MODE>': {text} is not in 0..=777, in octal\n"
         )?)),
     }
+}
+
+/// The bytes of output that all of so many workers may keep; None if they aren't given.
+fn output_memory(
+    alloc: Global,
+    matches: &ArgMatches<'_>,
+    workers: u64,
+) -> Result<Option<u64>, WordsFault>
+    ensures { IfOk result (λ found. IfSome found (IsEnoughOutput workers)) }
+{
+    let Some(bytes) = number_or_none(alloc, matches, &OUTPUT_MEMORY)? else {
+        return Ok(None);
+    };
+    if bytes / LEAST_OUTPUT < workers {
+        return Err(WordsFault::BadWords(format!(in alloc;
+            "error: invalid value '{bytes}' for '--output-memory <BYTES>': {bytes} is less than {LEAST_OUTPUT} for each of {workers} workers
+"
+        )?));
+    }
+    Ok(Some(bytes))
 }
 
 /// The addresses after the first one.
@@ -172,9 +195,11 @@ fn serve_options(alloc: Global, matches: &ArgMatches<'_>) -> Result<ServeOptions
 {
     let segment_size = number(alloc, matches, &SEGMENT_SIZE)?;
     let max_item_size = number_or_none(alloc, matches, &MAX_ITEM_SIZE)?;
+    let workers = number(alloc, matches, &WORKERS)?;
     Ok(ServeOptions {
-        workers: number(alloc, matches, &WORKERS)?,
+        workers,
         connections: number_or_none(alloc, matches, &CONNECTIONS)?,
+        output_memory: output_memory(alloc, matches, workers)?,
         sessions: number_or_none(alloc, matches, &SESSIONS)?,
         idle: number_or_none(alloc, matches, &IDLE)?,
         spin: number_or_none(alloc, matches, &SPIN)?.map(|micros| micros as u32),
@@ -184,8 +209,8 @@ fn serve_options(alloc: Global, matches: &ArgMatches<'_>) -> Result<ServeOptions
         max_item_size,
         dialect: dialect(matches, segment_size, max_item_size),
         update_in_place: matches.get_flag(UPDATE_IN_PLACE),
-        eviction: eviction(matches),
-        storage: storage(matches),
+        eviction: chosen(alloc, matches, EVICT, &EVICTIONS)?,
+        storage: chosen(alloc, matches, STORAGE, &STORAGES)?,
         exact_ttls: matches.get_flag(EXACT_TTLS),
         listen: String::from_str(alloc, matches.get_str(LISTEN).unwrap_or(""))?,
         also: further_addresses(alloc, matches.get_strs(LISTEN).unwrap_or(&[]))?,

@@ -40,7 +40,7 @@ written_exactly sizes t old key e new waits is =
 -- ---- first to the moment, and then the request
 
 -- an engine that went on to the moment, and did what the outcome says, has handled the request
-pub handled_by : {M P : Type 0} (m : MapOf M P) (old found : Engine M) (t : ℕ) (q : Request) (reply : Reply)
+pub handled_by : {M P S : Type 0} (m : MapOf M P S) (old found : Engine M) (t : ℕ) (q : Request) (reply : Reply)
     (new : Engine M)
     → cache_in m.entries found ≡ found_at (cache_in m.entries old) t → m.sizes found.map ≡ m.sizes old.map
     → m.moment found.map ≡ t → found.in_place ≡ old.in_place → found.dialect ≡ old.dialect
@@ -84,7 +84,7 @@ forgets_beside sizes old key e forgotten (inr h) =
     inr (key, refl, subst (λ (others : Entries). MayEvict sizes others forgotten) (sym (remove-insert old key e)) h)
 
 -- what an engine's map becomes is what a step may leave
-reached : {M P : Type 0} (m : MapOf M P) (way : Way) (old : M) (done : Outcome) (stored : Option (List ℕ)) (new : M)
+reached : {M P S : Type 0} (m : MapOf M P S) (way : Way) (old : M) (done : Outcome) (stored : Option (List ℕ)) (new : M)
     → Changes m way old done stored new → IsReached (m.sizes old) (m.moment old) done.reply done.entries stored (m.entries new)
 reached m way old done None new is =
     record {
@@ -144,7 +144,7 @@ wants_memory None (Values (h ∷ hits)) e = inr (h, hits, refl)
 wants_memory None _ e = absurd (true≢false (sym e))
 
 -- where memory was refused, the cache stays
-denied_same : {M P : Type 0} (m : MapOf M P) (old new : Engine M) (done : Outcome) (reply : Reply)
+denied_same : {M P S : Type 0} (m : MapOf M P S) (old new : Engine M) (done : Outcome) (reply : Reply)
     → IsDenied m old new done reply → cache_in m.entries new ≡ cache_in m.entries old
 denied_same m old new done reply d = λ i. record {
   entries = d.entries_same i;
@@ -153,7 +153,7 @@ denied_same m old new done reply d = λ i. record {
 }
 
 -- what was found stays, seen as a refusal of the cache
-pub denied : {M P : Type 0} (m : MapOf M P) (old new : Engine M) (found : Cache) (done : Outcome) (reply : Reply)
+pub denied : {M P S : Type 0} (m : MapOf M P S) (old new : Engine M) (found : Cache) (done : Outcome) (reply : Reply)
     → cache_in m.entries old ≡ found → IsDenied m old new done reply
     → IsRefused found done reply (cache_in m.entries new)
 denied m old new found done reply is d =
@@ -165,7 +165,7 @@ denied m old new found done reply is d =
     }
 
 -- a request that was handled is a step
-pub step_from_handled : {M P : Type 0} (m : MapOf M P) (old : Engine M) (t : ℕ) (q : Request) (reply : Reply)
+pub step_from_handled : {M P S : Type 0} (m : MapOf M P S) (old : Engine M) (t : ℕ) (q : Request) (reply : Reply)
     (new : Engine M)
     → IsHandled m old t q reply new
     → Step (m.sizes old.map) (cache_in m.entries old) t q reply (cache_in m.entries new)
@@ -190,7 +190,7 @@ step_from_handled m old t q reply new h =
     ]
 
 -- where `NoMemory` is answered, the cache that was found stays
-pub refused_stays : {M P : Type 0} (m : MapOf M P) (old : Engine M) (t : ℕ) (q : Request) (reply : Reply)
+pub refused_stays : {M P S : Type 0} (m : MapOf M P S) (old : Engine M) (t : ℕ) (q : Request) (reply : Reply)
     (new : Engine M)
     → IsHandled m old t q reply new
     → reply ≡ NoMemory → cache_in m.entries new ≡ found_at (cache_in m.entries old) t
@@ -204,7 +204,7 @@ refused_stays m old t q reply new h is =
     ]
 
 -- what needs no memory isn't refused any
-pub none_refused : {M P : Type 0} (m : MapOf M P) (old : Engine M) (t : ℕ) (q : Request) (reply : Reply)
+pub none_refused : {M P S : Type 0} (m : MapOf M P S) (old : Engine M) (t : ℕ) (q : Request) (reply : Reply)
     (new : Engine M)
     → IsHandled m old t q reply new
     → needs_memory m.may_refuse (outcome_at (m.sizes old.map) (cache_in m.entries old) t q) ≡ false → reply ≢ NoMemory

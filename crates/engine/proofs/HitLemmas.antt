@@ -40,7 +40,7 @@ found_there c m found i d e lt there =
     (ap keys_found cut) there
 
 -- one more that was found is there too
-pub found_more : {M P : Type 0} (m : MapOf M P) (entries : M) (found : List (Found P)) (f : Found P) (e : Entry)
+pub found_more : {M P S : Type 0} (m : MapOf M P S) (entries : M) (found : List (Found P)) (f : Found P) (e : Entry)
     → AreFound m entries found → Some e ≡ map.get (m.entries entries) f.key.now → m.stands entries f.key.now f.place
     → AreFound m entries (found ++ f ∷ [])
 found_more m entries found f e are there stands =

@@ -39,7 +39,7 @@ pub fits_put : (limit : ℕ) (q : Put) → is_too_large limit q ≡ false → Is
 fits_put limit q small = search rules
 
 -- an engine that leaves what it had
-pub leaves_large : {M P : Type 0} (m : MapOf M P) (way : Way) (old : Engine M) (done : Outcome) → leaving (cache_in m.entries old) TooLarge ≡ done
+pub leaves_large : {M P S : Type 0} (m : MapOf M P S) (way : Way) (old : Engine M) (done : Outcome) → leaving (cache_in m.entries old) TooLarge ≡ done
     → Leaves m way old old done TooLarge
 leaves_large m way old done is =
     subst (λ (d : Outcome). Leaves m way old old d TooLarge) is
@@ -57,7 +57,7 @@ leaves_large m way old done is =
     })
 
 -- what the scratch has doesn't matter
-pub leaves_with : {M P : Type 0} (m : MapOf M P) (way : Way) (old new : Engine M) (s : Scratch) (done asked : Outcome) (reply : Reply)
+pub leaves_with : {M P S : Type 0} (m : MapOf M P S) (way : Way) (old new : Engine M) (s : Scratch) (done asked : Outcome) (reply : Reply)
     → done ≡ asked → Leaves m way (record old { scratch = s }) new done reply → Leaves m way old new asked reply
 leaves_with m way old new s done asked reply is h =
     subst (λ (d : Outcome). Leaves m way old new d reply) is

@@ -25,13 +25,13 @@ answered_item NoMemory items other = absurd (other refl)
 answered_item _ items other = refl
 
 -- what a map leaves of what was asked for, where items are kept
-record IsKept {M P : Type 0} (m : MapOf M P) (t : ℕ) (reply : Reply) (asked : Entries) (stored : Option (List ℕ))
+record IsKept {M P S : Type 0} (m : MapOf M P S) (t : ℕ) (reply : Reply) (asked : Entries) (stored : Option (List ℕ))
     (items : List StoredItem) (new : M) : Type 0 where
   dated : IsDated t reply asked stored (m.entries new)
   keeps : m.keeps new items
 
 -- a stored entry is kept with the others
-kept_entry : {M P : Type 0} (m : MapOf M P) (way : Way) (old : M) (key : List ℕ) (done : Outcome) (new : M)
+kept_entry : {M P S : Type 0} (m : MapOf M P S) (way : Way) (old : M) (key : List ℕ) (done : Outcome) (new : M)
     (items : List StoredItem)
     → IsStored m way old key done.entries done.reply new → m.keeps old items → AddsNone (m.entries old) done.entries
     → IsWithinBound (m.sizes old) (items ++ item_stored (m.moment old) done (Some key))
@@ -63,7 +63,7 @@ kept_entry m way old key done new items s keeps none within =
     }
 
 -- what was asked for is kept, whether an item was stored or not
-kept_change : {M P : Type 0} (m : MapOf M P) (way : Way) (old : M) (stored : Option (List ℕ)) (done : Outcome) (new : M)
+kept_change : {M P S : Type 0} (m : MapOf M P S) (way : Way) (old : M) (stored : Option (List ℕ)) (done : Outcome) (new : M)
     (items : List StoredItem)
     → Changes m way old done stored new → m.keeps old items → AddsNone (m.entries old) done.entries
     → IsWithinBound (m.sizes old) (items ++ item_stored (m.moment old) done stored)
@@ -74,7 +74,7 @@ kept_change m way old (Some key) done new items is keeps none within =
     kept_entry m way old key done new items is keeps none within
 
 -- an engine keeps what its map keeps
-pub kept_from_handled : {M P : Type 0} (m : MapOf M P) (old : Engine M) (t : ℕ) (q : Request) (reply : Reply)
+pub kept_from_handled : {M P S : Type 0} (m : MapOf M P S) (old : Engine M) (t : ℕ) (q : Request) (reply : Reply)
     (new : Engine M)
     → IsHandled m old t q reply new
     → KeepsAll (λ (engine : Engine M). m.sizes engine.map) (cache_in m.entries)

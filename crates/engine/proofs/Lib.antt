@@ -2,6 +2,7 @@ pub mod Digits
 pub mod HitLemmas
 pub mod CountLemmas
 pub mod Refusals
+pub mod CarryingLemmas
 pub mod EngineLemmas
 pub mod TouchLemmas
 pub mod JoinLemmas

@@ -12,7 +12,7 @@ use Rattle.proto.specs.declared.history.Answered.{Answered}
 use Rattle.proto.specs.ClockAnswers.{GivenAnswer}
 use Rattle.proto.specs.Sizes.{Sizes}
 use Rattle.proto.specs.Cache.{Cache, empty_cache}
-use Rattle.proto.specs.Steps.{Step}
+use Rattle.proto.specs.Steps.{Steps}
 use Rattle.proto.specs.History.{max_moment, MomentsFrom, answers_by, Chain, NumbersFrom, worker_share, Legal}
 use Rattle.engine.specs.Reaching.{last_or, last_cache, Reaches}
 use Rattle.proto.proofs.CountLemmas.{share_mine, share_other}
@@ -21,7 +21,7 @@ use Rattle.proto.proofs.HistoryLemmas.{numbered}
 -- the step of an entry, whatever a `stats` was answered
 abbrev pub IsStepOf : Sizes → Cache → Answered → Cache → Type 0
 IsStepOf sizes before e after =
-    (reply : Reply) × ((reply ≡ e.reply) ⊎ (e.request ≡ Stats)) × Step sizes before e.moment e.request reply after
+    (reply : Reply) × ((reply ≡ e.reply) ⊎ (e.request ≡ Stats)) × Steps sizes before e.moment e.request reply after
 
 -- a chain with one step more
 pub chain_more : (sizes : Sizes) (before : Cache) (h : List Answered) (caches : List Cache) (e : Answered)

@@ -36,7 +36,7 @@ touch_is cache t key exptime o e asked there is waits =
     rw (there, later, is) refl
 
 -- an engine whose map has stored the entry so leaves what the touch says
-leaves_touched : {M P : Type 0} (m : MapOf M P) (old new : Engine M) (key : List ℕ) (exptime : ℤ) (e : Entry)
+leaves_touched : {M P S : Type 0} (m : MapOf M P S) (old new : Engine M) (key : List ℕ) (exptime : ℤ) (e : Entry)
     (asked : Option ℕ)
     → map.get (m.entries old.map) key ≡ Some e → asked ≡ deadline_of exptime (m.moment old.map)
     → has_arrived asked (m.moment old.map) ≡ false
@@ -57,7 +57,7 @@ leaves_touched m old new key exptime e asked there is waits sizes moment option 
     })
 
 -- a map that counted a touch and keeps the entries that it had keeps what it kept
-touched_keeps : {M P : Type 0} (m : MapOf M P) (old new : M) (key : List ℕ) (e : Entry)
+touched_keeps : {M P S : Type 0} (m : MapOf M P S) (old new : M) (key : List ℕ) (e : Entry)
     → KeepsEntry m.sizes m.entries m.moment m.keeps old key e old → m.entries new ≡ m.entries old
     → StaysKept m.keeps old new → KeepsEntry m.sizes m.entries m.moment m.keeps old key e new
 touched_keeps m old new key e kept entries stays items k adds bound =
@@ -65,7 +65,7 @@ touched_keeps m old new key e kept entries stays items k adds bound =
     (entries ∙ r.0, stays (items ++ stored_item_of (m.moment old) key (Some e)) r.1)
 
 -- where the entry is left as it is
-pub leaves_there : {M P : Type 0} (m : MapOf M P) (old new : Engine M) (key : List ℕ) (exptime : ℤ) (e : Entry)
+pub leaves_there : {M P S : Type 0} (m : MapOf M P S) (old new : Engine M) (key : List ℕ) (exptime : ℤ) (e : Entry)
     (asked : Option ℕ) (b : Bool)
     → map.get (m.entries old.map) key ≡ Some e → asked ≡ deadline_of exptime (m.moment old.map)
     → has_arrived asked (m.moment old.map) ≡ false
@@ -95,7 +95,7 @@ leaves_there m old new key exptime e asked b there is waits holds decides may ke
     })
 
 -- where it is written anew
-pub leaves_anew : {M P : Type 0} (m : MapOf M P) (old new : Engine M) (key : List ℕ) (exptime : ℤ) (e w : Entry)
+pub leaves_anew : {M P S : Type 0} (m : MapOf M P S) (old new : Engine M) (key : List ℕ) (exptime : ℤ) (e w : Entry)
     (asked : Option ℕ) (b : Bool)
     → map.get (m.entries old.map) key ≡ Some e → asked ≡ deadline_of exptime (m.moment old.map)
     → has_arrived asked (m.moment old.map) ≡ false

@@ -4,7 +4,7 @@ use Rattle.proto.specs.declared.dialect.Dialect.{Dialect}
 use Rattle.proto.specs.declared.dialect.Dialect.TheVariants.{Strict, Lenient}
 use Rattle.proto.specs.declared.hits.Hit.{Hit}
 use Rattle.proto.specs.declared.message.Request.{Request}
-use Rattle.proto.specs.declared.message.Request.TheVariants.{Get}
+use Rattle.proto.specs.declared.message.Request.TheVariants.{Get, GetAndTouch}
 use Rattle.proto.specs.Hits.{hit_bytes}
 use Rattle.proto.specs.Cache.{Entries}
 use Rattle.proto.specs.Commands.{hits_of}
@@ -16,6 +16,7 @@ shown_size hits = length (flat_map hit_bytes hits)
 -- the bytes that show the hits of a request, given these entries
 abbrev pub answer_size : Entries → Request → ℕ
 answer_size entries (Get keys with_cas) = shown_size (hits_of with_cas entries keys)
+answer_size entries (GetAndTouch keys with_cas exptime) = shown_size (hits_of with_cas entries keys)
 answer_size entries _ = 0
 
 -- whether these bytes of hits are more than one answer may show: a strict answer may show all

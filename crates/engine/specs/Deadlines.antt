@@ -6,6 +6,7 @@ use Rattle.proto.specs.declared.message.Reply.{Reply}
 use Rattle.proto.specs.declared.message.Reply.TheVariants.{NoMemory}
 use Rattle.proto.specs.Sizes.{Sizes}
 use Rattle.proto.specs.Cache.{Entry, Cache}
+use Rattle.proto.specs.Steps.{Step}
 use Rattle.engine.specs.Outcomes.{outcome_at}
 
 -- whether a store can keep a deadline to the second: there is none, or it is below 2^48
@@ -20,6 +21,15 @@ StoresAsAsked sizes before t q reply after =
     let done = outcome_at sizes before t q in
     (key : List ℕ) (e : Entry) → done.stored ≡ Some key → reply ≢ NoMemory → map.get done.entries key ≡ Some e
     → is_storable_deadline e.deadline ≡ true → map.get after.entries key ≡ Some e
+
+-- a step that stores its entry so
+abbrev pub IsExactStep : Sizes → ℕ → Cache → Request → Reply → Cache → Type 0
+IsExactStep sizes t before q reply after = Step sizes before t q reply after × StoresAsAsked sizes before t q reply after
+
+-- a step, which stores its entry so where deadlines are kept to the second
+abbrev pub IsKeepingStep : Bool → Sizes → ℕ → Cache → Request → Reply → Cache → Type 0
+IsKeepingStep exact sizes t before q reply after =
+    Step sizes before t q reply after × (exact ≡ true → StoresAsAsked sizes before t q reply after)
 
 -- A store that keeps deadlines to the second goes on so, and another one too. Where it does, the request stores its entry as it asks.
 abbrev pub KeepsDeadlines : {E : Type 0} → (E → Sizes) → (E → Cache) → (E → Bool) → E → ℕ → Request → Reply → E → Type 0

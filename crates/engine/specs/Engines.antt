@@ -22,7 +22,7 @@ abbrev pub cache_in : {M : Type 0} → (M → Entries) → Engine M → Cache
 cache_in entries engine = record { entries = entries engine.map; last_cas = engine.last_cas; pending = engine.pending }
 
 -- an engine of these sizes at the moment 0, which has no entry and gave out this cas number last
-pub record IsNewEngine {M P : Type 0} (m : MapOf M P) (geometry : Sizes) (last_cas : ℕ) (dialect : Dialect)
+pub record IsNewEngine {M P S : Type 0} (m : MapOf M P S) (geometry : Sizes) (last_cas : ℕ) (dialect : Dialect)
     (engine : Engine M) : Type 0 where
   pub sizes : m.sizes engine.map ≡ geometry
   pub cache : cache_in m.entries engine ≡ empty_cache last_cas
@@ -52,7 +52,7 @@ way_of _ _ = as_written
 
 -- the map left the entry of the key as it is, whose deadline may stand for that of the entry asked for, and counted the
 -- touch
-pub record IsLeftAs {M P : Type 0} (m : MapOf M P) (old : M) (key : List ℕ) (entry : Entry) (reply : Reply)
+pub record IsLeftAs {M P S : Type 0} (m : MapOf M P S) (old : M) (key : List ℕ) (entry : Entry) (reply : Reply)
     (new : M) : Type 0 where
   pub deadline : Option ℕ
   pub there : map.get (m.entries old) key ≡ Some (record entry { deadline = deadline })
@@ -62,20 +62,20 @@ pub record IsLeftAs {M P : Type 0} (m : MapOf M P) (old : M) (key : List ℕ) (e
   pub entries : m.entries new ≡ m.entries old
 
 -- the map wrote the entry anew, whose deadline may not stay
-pub record IsDatedAnew {M P : Type 0} (m : MapOf M P) (old : M) (key : List ℕ) (entry : Entry) (new : M) : Type 0 where
+pub record IsDatedAnew {M P S : Type 0} (m : MapOf M P S) (old : M) (key : List ℕ) (entry : Entry) (new : M) : Type 0 where
   pub deadline : Option ℕ
   pub there : map.get (m.entries old) key ≡ Some (record entry { deadline = deadline })
   pub stays_not : m.stays old (m.moment old) entry.deadline deadline ≡ false
   pub writes : m.writes old key entry new
 
 -- the map wrote an entry, changed the one of the key, or left it
-abbrev pub Stores : {M P : Type 0} → MapOf M P → Way → M → List ℕ → Entry → Reply → M → Type 0
+abbrev pub Stores : {M P S : Type 0} → MapOf M P S → Way → M → List ℕ → Entry → Reply → M → Type 0
 Stores m as_written old key entry reply new = m.writes old key entry new
 Stores m as_changed old key entry reply new = m.changes old key entry new
 Stores m as_touched old key entry reply new = IsLeftAs m old key entry reply new ⊎ IsDatedAnew m old key entry new
 
 -- the map has the entry that was asked for, up to what a write may change, or has left the key's
-pub record IsStored {M P : Type 0} (m : MapOf M P) (way : Way) (old : M) (key : List ℕ) (asked : Entries) (reply : Reply)
+pub record IsStored {M P S : Type 0} (m : MapOf M P S) (way : Way) (old : M) (key : List ℕ) (asked : Entries) (reply : Reply)
     (new : M) : Type 0 where
   pub entry : Entry
   pub asked_is : asked ≡ map.insert (m.entries old) key entry
@@ -86,25 +86,25 @@ pub record IsStored {M P : Type 0} (m : MapOf M P) (way : Way) (old : M) (key : 
   pub kept : KeepsEntry m.sizes m.entries m.moment m.keeps old key entry new
 
 -- the map has the entries asked for, and counted a read of each hit that is shown
-pub record IsLeft {M P : Type 0} (m : MapOf M P) (old : M) (done : Outcome) (new : M) : Type 0 where
+pub record IsLeft {M P S : Type 0} (m : MapOf M P S) (old : M) (done : Outcome) (new : M) : Type 0 where
   pub entries : m.entries new ≡ done.entries
   pub shown : CountsShown m.reads m.alike old done.reply new
   pub kept : StaysKept m.keeps old new
 
 -- the entries of the map are those asked for, up to what a write may change
-abbrev pub Changes : {M P : Type 0} → MapOf M P → Way → M → Outcome → Option (List ℕ) → M → Type 0
+abbrev pub Changes : {M P S : Type 0} → MapOf M P S → Way → M → Outcome → Option (List ℕ) → M → Type 0
 Changes m way old done None new = IsLeft m old done new
 Changes m way old done (Some key) new = IsStored m way old key done.entries done.reply new
 
 -- the engine did what the outcome says, and stored its entry so
-pub record IsDone {M P : Type 0} (m : MapOf M P) (way : Way) (old new : Engine M) (done : Outcome) (reply : Reply) : Type 0 where
+pub record IsDone {M P S : Type 0} (m : MapOf M P S) (way : Way) (old new : Engine M) (done : Outcome) (reply : Reply) : Type 0 where
   pub reply_is : reply ≡ done.reply
   pub last_cas : new.last_cas ≡ done.last_cas
   pub pending : new.pending ≡ done.pending
   pub changes : Changes m way old.map done done.stored new.map
 
 -- memory was refused, and the cache stays
-pub record IsDenied {M P : Type 0} (m : MapOf M P) (old new : Engine M) (done : Outcome) (reply : Reply) : Type 0 where
+pub record IsDenied {M P S : Type 0} (m : MapOf M P S) (old new : Engine M) (done : Outcome) (reply : Reply) : Type 0 where
   pub reply_is : reply ≡ NoMemory
   pub entries_same : m.entries new.map ≡ m.entries old.map
   pub last_cas : new.last_cas ≡ old.last_cas
@@ -114,7 +114,7 @@ pub record IsDenied {M P : Type 0} (m : MapOf M P) (old new : Engine M) (done : 
   pub cause : needs_memory m.may_refuse done ≡ true
 
 -- this outcome came of the cache that an engine had, or memory was refused
-pub record Leaves {M P : Type 0} (m : MapOf M P) (way : Way) (old new : Engine M) (done : Outcome) (reply : Reply) : Type 0 where
+pub record Leaves {M P S : Type 0} (m : MapOf M P S) (way : Way) (old new : Engine M) (done : Outcome) (reply : Reply) : Type 0 where
   pub sizes_same : m.sizes new.map ≡ m.sizes old.map
   pub moment_same : m.moment new.map ≡ m.moment old.map
   pub in_place_same : new.in_place ≡ old.in_place
@@ -122,13 +122,13 @@ pub record Leaves {M P : Type 0} (m : MapOf M P) (way : Way) (old new : Engine M
   pub gives : IsDone m way old new done reply ⊎ IsDenied m old new done reply
 
 -- the request was executed at the map's last moment
-abbrev pub LeavesExecuted : {M P : Type 0} → MapOf M P → Engine M → Request → Reply → Engine M → Type 0
+abbrev pub LeavesExecuted : {M P S : Type 0} → MapOf M P S → Engine M → Request → Reply → Engine M → Type 0
 LeavesExecuted m old q reply new =
     Leaves m (way_of q old.in_place) old new
     (act (item_limit (m.sizes old.map)) (cache_in m.entries old) (m.moment old.map) q) reply
 
 -- the engine went on to the moment, and the request was executed on what was found there
-pub record IsHandled {M P : Type 0} (m : MapOf M P) (old : Engine M) (t : ℕ) (q : Request) (reply : Reply)
+pub record IsHandled {M P S : Type 0} (m : MapOf M P S) (old : Engine M) (t : ℕ) (q : Request) (reply : Reply)
     (new : Engine M) : Type 0 where
   pub found : Engine M
   pub found_is : cache_in m.entries found ≡ found_at (cache_in m.entries old) t

@@ -18,7 +18,7 @@ use crate::live_map::{EntryRef, LiveMap};
 use crate::number::{Change, number_of};
 use crate::scratch::Scratch;
 use itoa::Buffer;
-use proto::{Dialect, HitWriter, Keys, MAX_KEY, Put, Reply, Request, Touch, item_size};
+use proto::{Dialect, HitWriter, Keys, MAX_KEY, Put, Reply, Request, item_size};
 
 /// A cache over a map of live entries.
 #[derive(Drop)]
@@ -51,17 +51,20 @@ fn is_joined_too_large(limit: u32, key: &[u8], first: usize, second: usize) -> b
 impl<M: LiveMap> Engine<M> {
     ghost use Rattle.engine.specs.Engines.{cache_in, Leaves, LeavesExecuted, change_way, as_written};
 
-    /// Stores what the scratch has as the value of the key's entry, which stands at the place and has these flags and this
-    /// deadline, with the next cas number: where it stands, if entries are changed in place and it fits there. It gives this
-    /// reply, NoCas if the greatest number was given out, or NoMemory if memory is refused.
+    /// Stores what the scratch has as the value of the key's entry, with the next cas number: where it stands, if entries are
+    /// changed in place and it fits there. A search for the key found the spot; the entry stands at the place, and has these
+    /// flags and this deadline. It gives this reply, NoCas if the greatest number was given out, or NoMemory if memory is
+    /// refused.
     fn store_scratch(
         &mut self,
         key: &[u8],
+        spot: M::Spot,
         place: M::Place,
         flags: u32,
         deadline: Option<u64>,
         reply: Reply,
     ) -> Reply
+        requires found { M.finds self.old.map key.now spot }
         requires stands { M.stands self.old.map key.now place }
         requires changed { IsChanged (map.get (M.entries self.old.map) key.now)
             (record { value = self.old.scratch; flags = flags; deadline = deadline; cas = 0 }) }
@@ -81,9 +84,9 @@ impl<M: LiveMap> Engine<M> {
             cas,
         };
         let stored = if self.in_place {
-            self.map.rewrite(key, place, entry)
+            self.map.rewrite(key, spot, place, entry)
         } else {
-            self.map.write(key, entry)
+            self.map.write(key, spot, entry)
         };
         match stored {
             Ok(()) => {
@@ -94,9 +97,10 @@ impl<M: LiveMap> Engine<M> {
         }
     }
 
-    /// Stores the entry of a put with the next cas number, or takes its key out if its deadline has come already. It gives NoCas
-    /// and NoMemory as `store_scratch` does.
-    fn put(&mut self, item: &Put) -> Reply
+    /// Stores the entry of a put, for whose key the spot was found, with the next cas number, or takes its key out if its
+    /// deadline has come already. It gives NoCas and NoMemory as `store_scratch` does.
+    fn put(&mut self, item: &Put, spot: M::Spot) -> Reply
+        requires found { M.finds self.old.map item.now.key spot }
         requires in_range { M.moment self.old.map ≤ max_moment }
         requires small { is_too_large (item_limit (M.sizes self.old.map)) item.now ≡ false }
         ensures { Leaves M.LiveMap as_written self.old self.new
@@ -104,7 +108,7 @@ impl<M: LiveMap> Engine<M> {
     {
         let deadline = deadline_of(item.exptime, self.map.last_moment());
         if has_arrived(deadline, self.map.last_moment()) {
-            self.map.remove(item.key.as_slice());
+            self.map.remove(item.key.as_slice(), spot);
             return Reply::Stored;
         }
         if self.last_cas == u64::MAX {
@@ -117,7 +121,7 @@ impl<M: LiveMap> Engine<M> {
             deadline,
             cas,
         };
-        if self.map.write(item.key.as_slice(), entry).is_err() {
+        if self.map.write(item.key.as_slice(), spot, entry).is_err() {
             return Reply::NoMemory;
         }
         self.last_cas = cas;
@@ -134,7 +138,8 @@ impl<M: LiveMap> Engine<M> {
         let key = item.key.as_slice();
         let more = item.value.as_slice();
         let limit = self.map.item_limit();
-        let Some((here, place)) = self.map.get(key) else {
+        let spot = self.map.find(key);
+        let Some((here, place)) = self.map.entry_found(key, spot) else {
             return Reply::NotStored;
         };
         if is_joined_too_large(limit, key, here.value.len(), more.len()) {
@@ -142,22 +147,23 @@ impl<M: LiveMap> Engine<M> {
         }
         let (flags, deadline) = (here.flags, here.deadline);
         self.scratch.put(here.value, more, behind);
-        self.store_scratch(key, place, flags, deadline, Reply::Stored)
+        self.store_scratch(key, spot, place, flags, deadline, Reply::Stored)
     }
 
     /// Gives the entry of the key another deadline, or takes it out if that has come already. NotFound if the key has no entry,
     /// and NoMemory if memory is refused.
-    fn touch(&mut self, asked: &Touch) -> Reply
+    pub(crate) fn touch(&mut self, key: &[u8], exptime: i64) -> Reply
         requires { M.moment self.old.map ≤ max_moment }
-        ensures { LeavesExecuted M.LiveMap self.old (Request.Touch asked.now) result self.new }
+        ensures { LeavesExecuted M.LiveMap self.old (Request.Touch (record { key = key.now; exptime = exptime })) result
+            self.new }
     {
-        let key = asked.key.as_slice();
-        let Some((entry, place)) = self.map.get(key) else {
+        let spot = self.map.find(key);
+        let Some((entry, place)) = self.map.entry_found(key, spot) else {
             return Reply::NotFound;
         };
-        let deadline = deadline_of(asked.exptime, self.map.last_moment());
+        let deadline = deadline_of(exptime, self.map.last_moment());
         if has_arrived(deadline, self.map.last_moment()) {
-            self.map.remove(key);
+            self.map.remove(key, spot);
             return Reply::Touched;
         }
         if self.map.may_stay(key, place, deadline) {
@@ -171,7 +177,7 @@ impl<M: LiveMap> Engine<M> {
             deadline,
             cas: entry.cas,
         };
-        match self.map.write(key, dated) {
+        match self.map.write(key, spot, dated) {
             Ok(()) => Reply::Touched,
             Err(_) => Reply::NoMemory,
         }
@@ -180,10 +186,11 @@ impl<M: LiveMap> Engine<M> {
     fn delete(&mut self, key: &[u8]) -> Reply
         ensures { LeavesExecuted M.LiveMap self.old (Request.Delete key.now) result self.new }
     {
-        if !self.map.contains_key(key) {
+        let spot = self.map.find(key);
+        if !self.map.has_entry(key, spot) {
             return Reply::NotFound;
         }
-        self.map.remove(key);
+        self.map.remove(key, spot);
         Reply::Deleted
     }
 
@@ -193,7 +200,8 @@ impl<M: LiveMap> Engine<M> {
             (change (changed_by by) (map.get (M.entries self.old.map) key.now)
             (cache_in M.entries self.old) key.now) result }
     {
-        let Some((entry, place)) = self.map.get(key) else {
+        let spot = self.map.find(key);
+        let Some((entry, place)) = self.map.entry_found(key, spot) else {
             return Reply::NotFound;
         };
         let Some(number) = number_of(entry.value) else {
@@ -204,7 +212,7 @@ impl<M: LiveMap> Engine<M> {
         let mut buffer = Buffer::new();
         let value = buffer.format(number).as_bytes();
         self.scratch.put(value, b"", true);
-        self.store_scratch(key, place, flags, deadline, Reply::Number(number))
+        self.store_scratch(key, spot, place, flags, deadline, Reply::Number(number))
     }
 
     fn flush(&mut self, delay: u64) -> Reply
@@ -275,7 +283,17 @@ impl<M: LiveMap> Engine<M> {
         if self.is_too_large(item) {
             return Reply::TooLarge;
         }
-        self.put(item)
+        let spot = self.map.find(item.key.as_slice());
+        self.put(item, spot)
+    }
+
+    /// Takes out what the key of a `set` has whose item is too large.
+    fn refuse(&mut self, key: &[u8]) -> Reply
+        ensures { LeavesExecuted M.LiveMap self.old (Request.SetTooLarge key.now) result self.new }
+    {
+        let spot = self.map.find(key);
+        self.map.remove(key, spot);
+        Reply::TooLarge
     }
 
     /// Stores the entry of a put where its key has an entry, or where it has none. NotStored if it is the other way round.
@@ -287,10 +305,12 @@ impl<M: LiveMap> Engine<M> {
         if self.is_too_large(item) {
             return Reply::TooLarge;
         }
-        if self.map.contains_key(item.key.as_slice()) != there {
+        let key = item.key.as_slice();
+        let spot = self.map.find(key);
+        if self.map.has_entry(key, spot) != there {
             return Reply::NotStored;
         }
-        self.put(item)
+        self.put(item, spot)
     }
 
     fn cas(&mut self, item: &Put, unique: u64) -> Reply
@@ -300,13 +320,15 @@ impl<M: LiveMap> Engine<M> {
         if self.is_too_large(item) {
             return Reply::TooLarge;
         }
-        let Some((entry, _)) = self.map.get(item.key.as_slice()) else {
+        let key = item.key.as_slice();
+        let spot = self.map.find(key);
+        let Some((entry, _)) = self.map.entry_found(key, spot) else {
             return Reply::NotFound;
         };
         if entry.cas != unique {
             return Reply::Exists;
         }
-        self.put(item)
+        self.put(item, spot)
     }
 
     /// Executes the request at the last moment.
@@ -319,13 +341,22 @@ impl<M: LiveMap> Engine<M> {
     {
         match request {
             Request::Get { keys, with_cas } => self.get(keys, *with_cas),
+            // `carry_out` touches the keys then.
+            Request::GetAndTouch { with_cas, .. } => {
+                let with_cas = *with_cas;
+                let Request::GetAndTouch { keys, .. } = request else {
+                    return Reply::NotFound;
+                };
+                self.get(keys, with_cas)
+            }
             Request::Set(item) => self.set(item),
+            Request::SetTooLarge { key } => self.refuse(key.as_slice()),
             Request::Add(item) => self.put_where(item, false),
             Request::Replace(item) => self.put_where(item, true),
             Request::Cas(item, unique) => self.cas(item, *unique),
             Request::Append(item) => self.join(item, true),
             Request::Prepend(item) => self.join(item, false),
-            Request::Touch(asked) => self.touch(asked),
+            Request::Touch(asked) => self.touch(asked.key.as_slice(), asked.exptime),
             Request::Delete { key } => self.delete(key.as_slice()),
             Request::Incr { key, amount } => self.change(key.as_slice(), Change::Add(*amount)),
             Request::Decr { key, amount } => self.change(key.as_slice(), Change::Subtract(*amount)),

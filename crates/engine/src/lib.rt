@@ -1,6 +1,7 @@
 //! The commands of the cache, over any map of live entries; what the storage thread asks of a store and of a clock.
 #![tactic(auto)]
 
+mod carrying;
 mod commands;
 mod deadline;
 mod hits;
@@ -11,6 +12,7 @@ mod scratch;
 mod storage_engine;
 mod store;
 
+pub use carrying::carry_out;
 pub use commands::Engine;
 pub use deadline::has_arrived;
 pub use laws::limits;

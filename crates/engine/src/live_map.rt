@@ -32,6 +32,9 @@ pub trait LiveMap {
     /// Where an entry stands, as long as the map stays as it is.
     type Place: Copy;
 
+    /// What a search finds for a key, as long as the map stays as it is: where its entry stands, or where one would go.
+    type Spot: Copy;
+
     /// The sizes that it was made for.
     ghost sizes: { Self → Sizes };
 
@@ -46,6 +49,9 @@ pub trait LiveMap {
 
     /// The entry of the key stands at the place.
     ghost stands: { Self → List ℕ → Self.Place → Type 0 };
+
+    /// A search for the key finds the spot.
+    ghost finds: { Self → List ℕ → Self.Spot → Type 0 };
 
     /// What a write does to this map, beyond what one does to any.
     ghost writes: { Self → List ℕ → Entry → Self → Type 0 };
@@ -101,12 +107,31 @@ pub trait LiveMap {
         ensures alike { alike self.old self.new }
         ensures kept { StaysKept keeps self.old self.new };
 
+    /// Searches for the key.
+    fn find(&self, key: &[u8]) -> Self::Spot
+        ensures { finds self.now key.now result };
+
+    /// The entry at the key, whose search found the spot, and where it stands; None if the key has none.
+    fn entry_found<'a>(
+        &'a self,
+        key: &[u8],
+        spot: Self::Spot,
+    ) -> Option<(EntryRef<'a>, Self::Place)>
+        requires { finds self.now key.now spot }
+        ensures found { option_map (λ r. entry_of r.0) result ≡ map.get (entries self.now) key.now }
+        ensures stands { IfSome result (λ r. stands self.now key.now r.1) }
+        ensures waits { IfSome result (λ r. has_arrived r.0.deadline (moment self.now) ≡ false) }
+        ensures small { IfSome result (λ r. length r.0.value.now ≤ 1048576) };
+
     /// The entry at the key, and where it stands; None if the key has none.
     fn get<'a>(&'a self, key: &[u8]) -> Option<(EntryRef<'a>, Self::Place)>
         ensures found { option_map (λ r. entry_of r.0) result ≡ map.get (entries self.now) key.now }
         ensures stands { IfSome result (λ r. stands self.now key.now r.1) }
         ensures waits { IfSome result (λ r. has_arrived r.0.deadline (moment self.now) ≡ false) }
-        ensures small { IfSome result (λ r. length r.0.value.now ≤ 1048576) };
+        ensures small { IfSome result (λ r. length r.0.value.now ≤ 1048576) }
+    {
+        self.entry_found(key, self.find(key))
+    }
 
     /// The entry at the key, which stands at the place, without a search.
     fn entry_at<'a>(&'a self, key: &[u8], place: Self::Place) -> EntryRef<'a>
@@ -114,10 +139,12 @@ pub trait LiveMap {
         requires there { IsSome (map.get (entries self.now) key.now) }
         ensures { Some (entry_of result) ≡ map.get (entries self.now) key.now };
 
-    fn contains_key(&self, key: &[u8]) -> bool
+    /// Whether the key has an entry, whose search found the spot.
+    fn has_entry(&self, key: &[u8], spot: Self::Spot) -> bool
+        requires { finds self.now key.now spot }
         ensures { result ≡ map.contains_key (entries self.now) key.now }
     {
-        self.get(key).is_some()
+        self.entry_found(key, spot).is_some()
     }
 
     /// Counts a read of the entry at the key, which stands at the place. All entries stand where they stood.
@@ -140,17 +167,25 @@ pub trait LiveMap {
         ensures moment { moment self.new ≡ moment self.old }
         ensures kept { StaysKept keeps self.old self.new };
 
-    /// Copies the entry into the map, in place of what the key has. NoMemory if out of memory; then no entry
-    /// changes.
-    fn write(&mut self, key: &[u8], entry: EntryRef) -> Result<(), NoMemory>
+    /// Copies the entry into the map, in place of what the key has, whose search found the spot. NoMemory if out of
+    /// memory; then no entry changes.
+    fn write(&mut self, key: &[u8], spot: Self::Spot, entry: EntryRef) -> Result<(), NoMemory>
+        requires found { finds self.old key.now spot }
         requires waits { has_arrived entry.deadline (moment self.old) ≡ false }
         requires fits { MayBeWritten (sizes self.old) (entries self.old) key.now entry.value.now }
         ensures { WritesOrRefuses sizes entries moment alike keeps may_refuse writes self.old key.now
             (entry_of entry.entry) result self.new };
 
-    /// Writes an entry that differs from the one of the key, which stands at the place, only by its value and its cas
-    /// number. A map may change it there. NoMemory as for `write`.
-    fn rewrite(&mut self, key: &[u8], place: Self::Place, entry: EntryRef) -> Result<(), NoMemory>
+    /// Writes an entry that differs from the one of the key only by its value and its cas number. The key's search found
+    /// the spot, and its entry stands at the place: a map may change it there. NoMemory as for `write`.
+    fn rewrite(
+        &mut self,
+        key: &[u8],
+        spot: Self::Spot,
+        place: Self::Place,
+        entry: EntryRef,
+    ) -> Result<(), NoMemory>
+        requires found { finds self.old key.now spot }
         requires stands { stands self.old key.now place }
         requires changed { IsChanged (map.get (entries self.old) key.now) (entry_of entry) }
         requires waits { has_arrived entry.deadline (moment self.old) ≡ false }
@@ -170,8 +205,9 @@ pub trait LiveMap {
         ensures kept { IsTrue result → (e : Entry) → map.get (entries self.now) key.now ≡ Some e
             → KeepsEntry sizes entries moment keeps self.now key.now (record e { deadline = deadline }) self.now };
 
-    /// Takes the entry at the key out, if there is one.
-    fn remove(&mut self, key: &[u8])
+    /// Takes the entry at the key, whose search found the spot, out, if there is one.
+    fn remove(&mut self, key: &[u8], spot: Self::Spot)
+        requires { finds self.old key.now spot }
         ensures entries { entries self.new ≡ map.remove (entries self.old) key.now }
         ensures sizes { sizes self.new ≡ sizes self.old }
         ensures moment { moment self.new ≡ moment self.old }

@@ -54,8 +54,8 @@ pub trait StorageEngine {
     /// How often room was made so far by forgetting something. No clause speaks of it.
     fn evictions(&self) -> u64;
 
-    /// Executes the request at this moment in seconds, which is at most `MAX_MOMENT`. The hits of a `get` may take the
-    /// buffer that its keys were lent; no clause speaks of that.
+    /// Executes the first step of the request at this moment in seconds, which is at most `MAX_MOMENT`: all of it, unless it
+    /// is a `gat` (`carry_out`). Hits may take the buffer that the keys were lent; no clause speaks of that.
     fn handle(&mut self, now: u64, request: &mut Request) -> Reply
         requires not_before { moment self.old ≤ now }
         requires in_range { now ≤ max_moment }
@@ -73,4 +73,15 @@ pub trait StorageEngine {
 
         // where deadlines are kept to the second, what is stored has the one asked for
         ensures deadlines { KeepsDeadlines sizes cache is_exact self.old now request.old result self.new };
+
+    /// Gives the entry of the key another deadline, as a `touch` at this moment does: the same holds of it as of `handle`.
+    fn touch(&mut self, now: u64, key: &[u8], exptime: i64) -> Reply
+        requires not_before { moment self.old ≤ now }
+        requires in_range { now ≤ max_moment }
+        ensures step { Step (sizes self.old) (cache self.old) now (Request.Touch (record { key = key.now; exptime = exptime }))
+            result (cache self.new) }
+        ensures sizes { sizes self.new ≡ sizes self.old }
+        ensures moment { moment self.new ≡ now }
+        ensures deadlines { KeepsDeadlines sizes cache is_exact self.old now
+            (Request.Touch (record { key = key.now; exptime = exptime })) result self.new };
 }

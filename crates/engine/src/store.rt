@@ -219,4 +219,25 @@ impl<M: StoreMap> StorageEngine for Engine<M> {
         self.advance(now);
         self.execute(request)
     }
+
+    fn touch(&mut self, now: u64, key: &[u8], exptime: i64) -> Reply
+        requires not_before { M.moment self.old.map ≤ now }
+        requires in_range { now ≤ max_moment }
+        ensures handled { IsHandled M.LiveMap self.old now (Request.Touch (record { key = key.now; exptime = exptime })) result
+            self.new }
+        ensures promised { M.promises self.old now (Request.Touch (record { key = key.now; exptime = exptime })) result
+            self.new }
+        ensures step { Step (M.sizes self.old.map) (cache_in M.entries self.old) now
+            (Request.Touch (record { key = key.now; exptime = exptime })) result (cache_in M.entries self.new) }
+        ensures sizes { M.sizes self.new.map ≡ M.sizes self.old.map }
+        ensures moment { M.moment self.new.map ≡ now }
+        ensures deadlines { KeepsDeadlines (λ (engine : Engine M). M.sizes engine.map) (cache_in M.entries)
+            (λ (engine : Engine M). M.is_exact engine.map) self.old now
+            (Request.Touch (record { key = key.now; exptime = exptime })) result self.new }
+    {
+        // the law by which what was handled is `promised`
+        M::keep_promises();
+        self.advance(now);
+        Engine::touch(self, key, exptime)
+    }
 }

@@ -1,6 +1,6 @@
 -- What the threads left makes the run of a group.
 use Rattle.std.proofs.Common.{◌≡◌, ℕ, ◌<◌, ◌≤◌, List, [], length, map, Option, refl, sym, ap, subst, ◌∙◌, append-nil, Bool}
-use Rattle.std.specs.Prelude.{All, slice_index, slice_index_or}
+use Rattle.std.specs.Prelude.{All, IfErr, Result, Ok, Err, slice_index, slice_index_or}
 use Rattle.std.proofs.lemmas.List.{length-map}
 use mathlib.Core.Option.{some}
 use lib.ListN.{get_elem?}
@@ -19,11 +19,24 @@ use Rattle.worker.specs.declared.run.WorkerReport.{WorkerReport}
 use Rattle.worker.specs.Reports.{IsSessionAnswered}
 use Rattle.group.specs.declared.report.GroupReport.{GroupReport}
 use Rattle.worker.specs.Starts.{IsPortAt, HasSentNothing}
-use Rattle.group.specs.Threads.{AreJoined, AreEach, ArePortsOf, IsLeftByStorage, KeepsWorker, KeepsStorage}
+use Rattle.group.specs.declared.fault.GroupFault.{GroupFault}
+use Rattle.group.specs.declared.fault.GroupFault.TheVariants.{NoMemory, NoThread, NotNew}
+use Rattle.group.specs.Threads.{AreJoined, AreEach, ArePortsOf, IsCalledOff, IsLeftByStorage, KeepsWorker, KeepsStorage}
 use Rattle.group.specs.Threads.{ends_of, worker_of, workers_of}
-use Rattle.group.specs.Headline.{IsHistoryOf, IsWorkerOf, IsRun}
+use Rattle.group.specs.Headline.{IsHistoryOf, IsWorkerOf, IsRun, NoneBegan}
 use Rattle.group.proofs.Places.{at_map, at_mapped}
 use Rattle.storage_thread.proofs.Callers.{or_at}
+
+-- where the start said not to begin, none began
+none_began : (id : ℕ) (fault : GroupFault) → IsCalledOff id fault → NoneBegan fault
+none_began id NoMemory off = absurd off
+none_began id (NoThread shown) off = off.1
+none_began id NotNew off = tt
+
+pub none_began_in : {A : Type 0} (id : ℕ) (result : Result A GroupFault) → IfErr result (IsCalledOff id)
+    → IfErr result NoneBegan
+none_began_in id (Ok x) off = tt
+none_began_in id (Err fault) off = none_began id fault off
 
 module _ {P : Type 0} (told : P → Option PortTrace) (leads_to : P → P → Type 0) where
   module _ (terms : Terms) (storage : StorageView) (ports : List P) (reports : List (WorkerReport P))

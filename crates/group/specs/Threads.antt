@@ -1,5 +1,5 @@
 -- What the threads of a group leave.
-use Rattle.std.specs.Prelude.{◌≡◌, ℕ, Bool, true, false, List, [], length, map, Option, Some, None, is_some, IsSome, IfSome}
+use Rattle.std.specs.Prelude.{◌≡◌, ℕ, ⊤, Bool, true, false, List, [], length, map, Option, Some, None, is_some, IsSome, IfSome}
 use mathlib.Core.Option.{some}
 use lib.ListN.{get_elem?}
 use Rattle.proto.specs.declared.dialect.Dialect.{Dialect}
@@ -18,6 +18,8 @@ use Rattle.worker_port.specs.Giving.{IsTraceOf}
 use Rattle.worker.specs.declared.run.WorkerReport.{WorkerReport}
 use Rattle.worker.specs.Reports.{IsReported, HasSaidBye}
 use Rattle.group.specs.declared.start.Finished.{Finished}
+use Rattle.group.specs.declared.fault.GroupFault.{GroupFault}
+use Rattle.group.specs.declared.fault.GroupFault.TheVariants.{NoMemory, NoThread, NotNew}
 use Rattle.group.specs.declared.report.GroupWorker.{GroupWorker}
 use Rattle.group.specs.Headline.{IsHistoryOf}
 
@@ -47,11 +49,18 @@ pub record KeepsStorage {C : Type 0} (told : C → Option (List ℕ)) (leads_to 
   pub bounded : keeps → MayAlwaysForgetNothing end.terms.geometry report.storage_end.history
   pub dated : exact ≡ true → MayStoreAsAsked end.terms.geometry report.storage_end.history
 
--- what a thread leaves that waited for the start `id`: it ran if it was told to begin, and what it left is kept
+-- what a thread leaves that waited for the start `id`: it ran exactly if it was told to begin, and what it left is kept
 pub record IsFinished {T : Type 0} (id : ℕ) (keeps : T → Type 0) (finished : Finished T) : Type 0 where
   pub of_start : finished.told.of ≡ id
   pub did_run : finished.told.value ≡ true → IsSome finished.ran
+  pub did_not : finished.told.value ≡ false → finished.ran ≡ None
   pub kept : IfSome finished.ran keeps
+
+-- why the threads that waited for the start `id` didn't run, once they were started: it said so
+abbrev pub IsCalledOff : ℕ → GroupFault → Type 0
+IsCalledOff id NoMemory = ⊥
+IsCalledOff id (NoThread off) = (off.start.value.id ≡ id) × (off.begins.value ≡ false)
+IsCalledOff id NotNew = ⊤
 
 -- the ports of workers 0, 1 and so on, of this exchange, by these terms and in this dialect, at which nothing has happened yet
 abbrev pub ArePortsOf : {P : Type 0} → (P → Option PortTrace) → ExchangeId → Terms → Dialect → List P → Type 0

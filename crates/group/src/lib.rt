@@ -15,3 +15,4 @@ pub use context::Runtime;
 pub use fault::GroupFault;
 pub use report::{Config, GroupReport, GroupWorker};
 pub use run::run_group;
+pub use start::CalledOff;

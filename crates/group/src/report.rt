@@ -13,6 +13,9 @@ pub struct Config {
     pub dialect: Dialect,
     /// How many microseconds each thread looks for work before it sleeps. With None each uses its own small number of turns.
     pub spin: Option<u32>,
+    /// The bytes that the output which clients don't take, and the answers on their way, may take at each worker. With None they are
+    /// 67,108,864.
+    pub output_budget: Option<usize>,
     /// Which threads execute requests.
     pub storage: Storage,
 }

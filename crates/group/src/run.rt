@@ -1,18 +1,18 @@
 //! A whole run of a group.
-ghost use Rattle.std.specs.Prelude.{◌≡◌, Some, IsSome, ◌≤◌, List, [], IfOk, vec_len, vec_capacity, true, false};
+ghost use Rattle.std.specs.Prelude.{◌≡◌, Some, IsSome, ◌≤◌, List, [], IfOk, IfErr, vec_len, vec_capacity, true, false};
 ghost use Rattle.proto.specs.declared.terms.Terms.{Terms};
 ghost use Rattle.proto.specs.Cache.{empty_cache};
 ghost use Rattle.exchange.specs.Ends.{AreMade, AreTogether, IsCount};
-ghost use Rattle.group.specs.Threads.{ArePortsOf, AreJoined, IsLeftByStorage, StartsEmpty, ends_of, workers_of};
-ghost use Rattle.group.specs.Headline.{IsRun};
+ghost use Rattle.group.specs.Threads.{ArePortsOf, AreJoined, IsCalledOff, IsLeftByStorage, StartsEmpty, ends_of, workers_of};
+ghost use Rattle.group.specs.Headline.{IsRun, NoneBegan};
 ghost use Rattle.storage_thread.specs.Sides.{IsSameOrigin};
 
 use crate::context::{GroupContext, Runtime};
 use crate::executing::{StorageExecutor, note_unheld};
 use crate::fault::GroupFault;
 use crate::report::{Config, GroupReport, GroupWorker};
-use crate::start::announce_start;
-use crate::threads::{WorkerHandle, join_workers, start_storage, start_workers};
+use crate::start::CalledOff;
+use crate::threads::{WorkerHandle, join_workers, start_threads};
 use engine::{Clock, StorageEngine};
 use exchange::{Exchange, StorageEnd, StorageSignals, WorkerEnd, gather};
 use proto::Storage;
@@ -93,12 +93,13 @@ fn room_for<'s, P: Port>(alloc: Global, count: usize) -> Result<Room<'s, P>, All
     })
 }
 
-/// Starts a thread for each port, has all threads begin, and joins those of the workers. The ends were made with this storage's end.
-fn run_workers<'s, P: Port + Send + 's>(
+/// Starts all threads, has them begin, and joins those of the workers. The ends were made with this storage's end.
+fn run_started<'s, P: Port + Send + 's, T: Serve + Send + 's>(
     rt: &'s impl Runtime,
     scope: &'s Scope<'s, &()>,
     context: &'s GroupContext<'s, impl Gate + Sync>,
     executor: &'s (impl Executor + Sync),
+    shared: &'s SharedStorage<T>,
     ports: Vec<P>,
     ends: Vec<WorkerEnd>,
     end: Snapshot<StorageEnd>,
@@ -110,19 +111,22 @@ fn run_workers<'s, P: Port + Send + 's>(
     requires reports { (room.reports.items ≡ []) × (vec_len ports ≤ vec_capacity room.reports) }
     ensures joined { IfOk result (λ reports. AreJoined P.told P.leads_to end.value.terms end.value ports.items
         reports.items) }
+    ensures off { IfErr result (IsCalledOff context.now.start.now.id) }
 {
     let Room { handles, reports } = room;
-    let started = start_workers(rt, scope, context, executor, ports, ends, handles);
+    let started = start_threads(rt, scope, context, executor, shared, ports, ends, handles);
     // The threads that were started are told not to begin if one wasn't.
-    let told = announce_start(rt, context.start, started.is_ok());
-    let handles = started?;
-    if !*context.start.value(&told) {
-        return Err(GroupFault::NoThread);
+    let Ok(told) = context.start.set(rt, started.is_some()) else {
+        return Err(GroupFault::NotNew);
+    };
+    match started {
+        Some(handles) => Ok(join_workers(rt, &told, handles, reports)),
+        None => Err(GroupFault::NoThread(CalledOff::of(context.start, &told))),
     }
-    Ok(join_workers(rt, &told, handles, reports))
 }
 
-/// Makes all room that joining needs, starts the storage thread, and runs the workers.
+/// Makes all room that joining needs, and runs the threads.
+#[tactic(auto, using(crate::proofs::Runs::none_began_in))]
 fn run_in<'s, P: Port + Send + 's, T: Serve + Send + 's>(
     rt: &'s impl Runtime,
     scope: &'s Scope<'s, &()>,
@@ -137,10 +141,10 @@ fn run_in<'s, P: Port + Send + 's, T: Serve + Send + 's>(
     requires made { AreMade (vec_len ports) end.value.terms ends.items end.value }
     ensures joined { IfOk result (λ reports. AreJoined P.told P.leads_to end.value.terms end.value ports.items
         reports.items) }
+    ensures none_began { IfErr result NoneBegan }
 {
     let room = room_for(context.alloc, ports.len())?;
-    start_storage(rt, scope, context, shared)?;
-    run_workers(rt, scope, context, executor, ports, ends, end, room)
+    run_started(rt, scope, context, executor, shared, ports, ends, end, room)
 }
 
 /// Runs a group whose storage side began with what stands in the lock of this id.
@@ -172,6 +176,7 @@ fn run_named<
     ensures run { IfOk result (λ report. IsRun P.told P.leads_to C.told C.leads_to
         (E.keeps origin.now.value.store.value []) (E.is_exact origin.now.value.store.value) E.may_refuse
         end.value.terms.geometry ports.items origin.now.value.clock.value report) }
+    ensures none_began { IfErr result NoneBegan }
 {
     let workers = Vec::with_capacity(alloc, ports.len())?;
     let gathered = Vec::with_capacity(alloc, ports.len())?;
@@ -209,6 +214,7 @@ fn run_threads<P: Port + Send, T: Serve + Send, X: Executor + Sync, G: Gate + Sy
     requires made { AreMade (vec_len ports) end.value.terms ends.items end.value }
     ensures joined { IfOk result (λ reports. AreJoined P.told P.leads_to end.value.terms end.value ports.items
         reports.items) }
+    ensures none_began { IfErr result NoneBegan }
 {
     thread::scope(
         thread::scope_env(),
@@ -218,6 +224,7 @@ fn run_threads<P: Port + Send, T: Serve + Send, X: Executor + Sync, G: Gate + Sy
             requires made { AreMade (vec_len ports) end.value.terms ends.items end.value }
             ensures joined { IfOk result (λ reports. AreJoined P.told P.leads_to end.value.terms end.value ports.items
                 reports.items) }
+            ensures none_began { IfErr result NoneBegan }
         { run_in(rt, scope, context, executor, shared, ports, ends, end) },
     )
 }
@@ -230,8 +237,8 @@ fn run_threads<P: Port + Send, T: Serve + Send, X: Executor + Sync, G: Gate + Sy
 /// # Errors
 ///
 /// NoMemory if out of memory at the start, where all room for joining and gathering is made too; NoThread
-/// if a thread couldn't be started. After both of them the threads that were started have ended, no event was taken
-/// and no request executed; ports, store and clock are dropped.
+/// if a thread couldn't be started: those that were started were told not to begin. After both of them the threads that were
+/// started have ended, no event was taken and no request executed; ports, store and clock are dropped.
 pub fn run_group<P: Port + Send, E: StorageEngine + Drop + Send, C: Clock + Send>(
     rt: &impl Runtime,
     alloc: Global,
@@ -251,6 +258,7 @@ pub fn run_group<P: Port + Send, E: StorageEngine + Drop + Send, C: Clock + Send
     requires unasked { IsSome (C.start clock) → C.told clock ≡ Some [] }
     ensures run { IfOk result (λ report. IsRun P.told P.leads_to C.told C.leads_to (E.keeps store []) (E.is_exact store)
         E.may_refuse (E.sizes store) ports.items clock report) }
+    ensures none_began { IfErr result NoneBegan }
 {
     let signals = StorageSignals::new(alloc, store.key_hasher(), exchange.workers(), config.spin)?;
     let (ends, storage_end) = exchange.into_ends();

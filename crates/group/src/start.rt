@@ -1,6 +1,8 @@
 //! The start: said once to all threads of a group.
-ghost use Rattle.std.specs.Prelude.{◌≡◌};
+ghost use Rattle.std.specs.Prelude.{◌≡◌, false};
 
+use std::fmt;
+use std::snapshot::Snapshot;
 use std::sync::{OnceLock, OnceToken, Wait};
 
 /// What a thread leaves: what it was told, and what it did if it was told to begin.
@@ -23,16 +25,30 @@ pub fn wait_for_start<'a, R: Wait>(rt: &R, start: &'a OnceLock<bool>) -> OnceTok
     unreachable!()
 }
 
-/// Says to all threads whether to begin, and gives what they were told.
-pub fn announce_start<'a, R: Wait>(
-    rt: &R,
-    start: &'a OnceLock<bool>,
-    begin: bool,
-) -> OnceToken<'a, bool>
-    ensures { result.of ≡ start.now.id }
-{
-    match start.set(rt, begin) {
-        Ok(told) => told,
-        Err(_) => wait_for_start(rt, start),
+/// What shows that the threads of a group were told not to begin, for clauses alone: it has no bytes.
+#[derive(Drop)]
+pub struct CalledOff {
+    /// The start that they waited for.
+    start: Snapshot<OnceLock<bool>>,
+    /// What it said.
+    begins: Snapshot<bool>,
+}
+
+impl CalledOff {
+    /// The start has said not to begin.
+    pub fn of<'a>(start: &'a OnceLock<bool>, told: &OnceToken<'a, bool>) -> CalledOff
+        requires { (told.now.of ≡ start.now.id) × (told.now.value ≡ false) }
+        ensures { (result.start.value.id ≡ start.now.id) × (result.begins.value ≡ false) }
+    {
+        CalledOff {
+            start: Snapshot::of(start),
+            begins: Snapshot::of(start.value(told)),
+        }
+    }
+}
+
+impl fmt::Debug for CalledOff {
+    fn fmt<W: fmt::Write>(&self, f: &mut fmt::Formatter<W>) -> fmt::Result {
+        f.write_str("CalledOff")
     }
 }

@@ -1,14 +1,12 @@
 //! The threads of a group: each waits for the start, and promises what it leaves.
-ghost use Rattle.std.specs.Prelude.{◌≡◌, ℕ, ◌<◌, ◌≤◌, [], true, None, All, IfOk, IfErr, map, length, vec_len};
+ghost use Rattle.std.specs.Prelude.{◌≡◌, ℕ, ◌<◌, ◌≤◌, ⊤, [], true, None, All, IfSome, map, length, vec_len};
 ghost use Rattle.std.specs.Prelude.{vec_capacity, ◌+◌, ◌∷◌};
 ghost use Rattle.worker.specs.declared.run.WorkerReport.{WorkerReport};
 ghost use Rattle.exchange.specs.Ends.{WorkerView};
-ghost use Rattle.group.specs.declared.fault.GroupFault.TheVariants.{NoThread};
 ghost use Rattle.worker.specs.Starts.{IsPortAt, HasSentNothing};
 ghost use Rattle.group.specs.Threads.{IsFinished, KeepsWorker, AreEach};
 
 use crate::context::{GroupContext, Runtime};
-use crate::fault::GroupFault;
 use crate::start::{Finished, wait_for_start};
 use exchange::WorkerEnd;
 use os::set_thread_name;
@@ -60,7 +58,7 @@ fn worker_thread<'a, P: Port, G: Gate, X: Executor, R: Wait + time::Clock>(
 {
     // Names are for the operator: where the system takes none, the thread runs as well.
     let _ = set_thread_name(&thread_name(end.worker()));
-    let dialect = context.config.dialect;
+    let config = context.config;
     let (gate, signals) = (context.gate, context.signals);
     let told = wait_for_start(rt, context.start);
     if !*context.start.value(&told) {
@@ -71,7 +69,8 @@ fn worker_thread<'a, P: Port, G: Gate, X: Executor, R: Wait + time::Clock>(
         context.alloc,
         port,
         end,
-        dialect,
+        config.dialect,
+        config.output_budget,
         gate,
         executor,
         signals,
@@ -84,37 +83,37 @@ fn run_storage_thread<'a, T: Serve, G, R: Wait + time::Clock>(
     rt: &R,
     context: &GroupContext<'a, G>,
     shared: &SharedStorage<T>,
-) {
+) -> Finished<'a, ()>
+    ensures { IsFinished context.now.start.now.id (λ _. ⊤) result }
+{
     let _ = set_thread_name(b"storage");
     let told = wait_for_start(rt, context.start);
     if !*context.start.value(&told) {
-        return;
+        return Finished { told, ran: None };
     }
     match context.config.storage {
         Storage::Thread => shared.serve_to_end(rt, context.signals),
         Storage::Workers => shared.serve_beside(rt, context.signals),
     }
+    Finished {
+        told,
+        ran: Some(()),
+    }
 }
 
-/// Starts the storage thread.
-///
-/// # Errors
-///
-/// NoThread if the system starts no thread.
-pub fn start_storage<'s, T: Serve + Send + 's>(
+/// Starts the storage thread, or none if the system starts no thread.
+fn start_storage<'s, T: Serve + Send + 's>(
     rt: &'s impl Runtime,
     scope: &'s Scope<'s, &()>,
     context: &'s GroupContext<'s, impl Sync>,
     shared: &'s SharedStorage<T>,
-) -> Result<JoinHandle<()>, GroupFault>
-    ensures fault { IfErr result (λ fault. fault ≡ NoThread) }
-{
+) -> Option<JoinHandle<Finished<'s, ()>>> {
     scope
         .spawn(move || run_storage_thread(rt, context, shared))
-        .map_err(|_| GroupFault::NoThread)
+        .ok()
 }
 
-/// Starts the thread of one worker.
+/// Starts the thread of one worker, or none if the system starts no thread.
 fn start_worker<'s, P: Port + Send + 's>(
     rt: &'s impl Runtime,
     scope: &'s Scope<'s, &()>,
@@ -122,12 +121,11 @@ fn start_worker<'s, P: Port + Send + 's>(
     executor: &'s (impl Executor + Sync),
     port: P,
     end: WorkerEnd,
-) -> Result<WorkerHandle<'s, P>, GroupFault>
+) -> Option<WorkerHandle<'s, P>>
     requires port { IsPortAt P.told context.now.config.dialect port end }
     requires fresh { HasSentNothing end }
-    ensures fault { IfErr result (λ fault. fault ≡ NoThread) }
-    ensures start { IfOk result (λ h. h.promise.start.now.id ≡ context.now.start.now.id) }
-    ensures given { IfOk result (λ h. (h.promise.port.value ≡ port) × (h.promise.end.value ≡ end)) }
+    ensures start { IfSome result (λ h. h.promise.start.now.id ≡ context.now.start.now.id) }
+    ensures given { IfSome result (λ h. (h.promise.port.value ≡ port) × (h.promise.end.value ≡ end)) }
 {
     let promise = WorkerPromise {
         start: context.start,
@@ -139,7 +137,7 @@ fn start_worker<'s, P: Port + Send + 's>(
             promise,
             move || worker_thread(rt, context, executor, port, end),
         )
-        .map_err(|_| GroupFault::NoThread)
+        .ok()
 }
 
 /// The first of the ports that are left.
@@ -154,12 +152,8 @@ fn next_port<P: Port>(ports: &mut vec::IntoIter<P>) -> P
     port
 }
 
-/// Starts a thread for each port, with the end at its place. The list of handles has room for them.
-///
-/// # Errors
-///
-/// NoThread if the system starts no thread. Those that were started wait for the start.
-pub fn start_workers<'s, P: Port + Send + 's>(
+/// Starts a thread for each port, with the end at its place. The list of handles has room for them. None if one can't be started.
+fn start_workers<'s, P: Port + Send + 's>(
     rt: &'s impl Runtime,
     scope: &'s Scope<'s, &()>,
     context: &'s GroupContext<'s, impl Gate + Sync>,
@@ -167,15 +161,14 @@ pub fn start_workers<'s, P: Port + Send + 's>(
     ports: Vec<P>,
     ends: Vec<WorkerEnd>,
     mut handles: Vec<WorkerHandle<'s, P>>,
-) -> Result<Vec<WorkerHandle<'s, P>>, GroupFault>
+) -> Option<Vec<WorkerHandle<'s, P>>>
     requires ports { AreEach (IsPortAt P.told context.now.config.dialect) ports.items ends.items }
     requires ends { All HasSentNothing ends.items }
     requires lengths { vec_len ports ≡ vec_len ends }
     requires room { (handles.items ≡ []) × (vec_len ends ≤ vec_capacity handles) }
-    ensures fault { IfErr result (λ fault. fault ≡ NoThread) }
-    ensures start { IfOk result (λ v. All (λ h. h.promise.start.now.id ≡ context.now.start.now.id) v.items) }
-    ensures ports { IfOk result (λ v. map (λ h. h.promise.port.value) v.items ≡ ports.items) }
-    ensures ends { IfOk result (λ v. map (λ h. h.promise.end.value) v.items ≡ ends.items) }
+    ensures start { IfSome result (λ v. All (λ h. h.promise.start.now.id ≡ context.now.start.now.id) v.items) }
+    ensures ports { IfSome result (λ v. map (λ h. h.promise.port.value) v.items ≡ ports.items) }
+    ensures ends { IfSome result (λ v. map (λ h. h.promise.end.value) v.items ≡ ends.items) }
 {
     let mut ports = ports.into_iter();
     for end in ends {
@@ -183,7 +176,31 @@ pub fn start_workers<'s, P: Port + Send + 's>(
         let handle = start_worker(rt, scope, context, executor, port, end)?;
         handles.push_reserved(handle);
     }
-    Ok(handles)
+    Some(handles)
+}
+
+/// Starts the storage thread, and a thread for each port, with the end at its place. The list of handles has room for them.
+/// All wait for the start. None if one can't be started.
+pub fn start_threads<'s, P: Port + Send + 's, T: Serve + Send + 's>(
+    rt: &'s impl Runtime,
+    scope: &'s Scope<'s, &()>,
+    context: &'s GroupContext<'s, impl Gate + Sync>,
+    executor: &'s (impl Executor + Sync),
+    shared: &'s SharedStorage<T>,
+    ports: Vec<P>,
+    ends: Vec<WorkerEnd>,
+    handles: Vec<WorkerHandle<'s, P>>,
+) -> Option<Vec<WorkerHandle<'s, P>>>
+    requires ports { AreEach (IsPortAt P.told context.now.config.dialect) ports.items ends.items }
+    requires ends { All HasSentNothing ends.items }
+    requires lengths { vec_len ports ≡ vec_len ends }
+    requires room { (handles.items ≡ []) × (vec_len ends ≤ vec_capacity handles) }
+    ensures start { IfSome result (λ v. All (λ h. h.promise.start.now.id ≡ context.now.start.now.id) v.items) }
+    ensures ports { IfSome result (λ v. map (λ h. h.promise.port.value) v.items ≡ ports.items) }
+    ensures ends { IfSome result (λ v. map (λ h. h.promise.end.value) v.items ≡ ends.items) }
+{
+    start_storage(rt, scope, context, shared)?;
+    start_workers(rt, scope, context, executor, ports, ends, handles)
 }
 
 /// What the workers' threads leave, in order, which were told to begin. The list of reports has room for them.

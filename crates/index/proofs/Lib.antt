@@ -14,8 +14,10 @@ pub mod NearestHomes
 pub mod SearchesUpToGap
 -- the map that slots stand for, in the contracts of `Index`
 pub mod SlotsAsMap
--- the contracts of `Index` on one key: `look_up`, `insert`, `replace`, `remove`, `take_out`
+-- the contracts of `Index` on one key: `insert`, `replace`, `remove`, `take_out`
 pub mod KeySlots
+-- the contracts of `Index` on what a search found, and for stores: that it stays found
+pub mod FoundEntries
 -- the contract of `backward_shift::delete`
 pub mod ShiftedSlots
 -- the contract of `reinsert`

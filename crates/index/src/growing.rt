@@ -128,6 +128,7 @@ pub fn grow_for(slots: &mut Slots, keys: usize, hasher: FoldHasher, pool: &Pool)
     ensures few { (length slots.new.slots ≡ length slots.old.slots) ⊎ (length slots.new.slots ≤ 3 * keys) }
     ensures indexed { IsIndex (key_at pool.now) (table_of slots.new hasher) }
     ensures same { HasSamePlaces (key_at pool.now) slots.old slots.new }
+    ensures left { length slots.new.slots ≡ length slots.old.slots → slots.new ≡ slots.old }
 {
     let mut left = MAX_GROWTH;
     while left > 0 && slots.len() < slots.room() && slots.len() / SLOTS_PER_KEY < keys {

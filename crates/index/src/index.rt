@@ -7,10 +7,12 @@ ghost use Rattle.segments.specs.Pools.{item_in, key_at};
 ghost use Rattle.segments.specs.Merges.{planned_moves};
 ghost use Rattle.segments.specs.Places.{moved_by};
 ghost use Rattle.index.specs.Keys.{KeysOf, seeded_hasher, hash_of, home_of};
-ghost use Rattle.index.specs.Slots.{used_in, empty_slot, slot_with};
+ghost use Rattle.index.specs.Slots.{used_in, empty_slot, slot_with, IsFirstGap};
+ghost use Rattle.index.specs.Searches.{IsFound};
+ghost use Rattle.index.specs.Reinserting.{HasSamePlaces};
 ghost use Rattle.index.specs.Layouts.{IsLayout, IsInLayout, CanHold, tag_of};
 ghost use Rattle.index.specs.Relocating.{IsRelocated, CanRelocate, forget_place, forget_lost, keys_after_merge};
-ghost use Rattle.index.specs.Table.{IsIndex, IsMap, IsSameSize, IsTable, places, place_at, HasPlace};
+ghost use Rattle.index.specs.Table.{IsIndex, IsMap, IsSameSize, IsTable, table_of, places, place_at, HasPlace};
 
 use crate::backward_shift::delete;
 use crate::growing::grow_for;
@@ -50,6 +52,21 @@ impl Model for Index {
     ghost invariant = { λ a. AreSlotsCounted (table_of a.slots a.hasher) a.used };
 }
 
+/// What a search for a key finds, as long as the table stays as it is: the key's hash, and the slot that has its
+/// place, or the first empty one from the key's home on.
+#[derive(Clone, Copy)]
+pub enum Entry {
+    At {
+        hash: u64,
+        slot: usize,
+        place: Place,
+    },
+    Gap {
+        hash: u64,
+        slot: usize,
+    },
+}
+
 /// A key's hash, its home, where searches for it begin, and its tag.
 #[derive(Clone, Copy)]
 struct Start {
@@ -76,6 +93,38 @@ fn start_of(slots: &Slots, hasher: FoldHasher, key: &[u8]) -> Start
         hash,
         home: home_of(slots.len(), hash),
         tag: slots.layout().tag_of(hash),
+    }
+}
+
+/// Grows the table for one key more, and finds the first empty slot from the home of a hash on: the one that was found
+/// there before, unless the table grew.
+fn grown_gap(
+    slots: &mut Slots,
+    used: usize,
+    hasher: FoldHasher,
+    pool: &Pool,
+    slot: usize,
+    hash: u64,
+) -> usize
+    requires room { 2 * (used + 1) ≤ slots.old.room }
+    requires table { IsTable (table_of slots.old hasher) }
+    requires used { used ≡ used_in slots.old.slots }
+    requires indexed { IsIndex (key_at pool.now) (table_of slots.old hasher) }
+    requires gap { IsFirstGap slots.old.slots (home_of (length slots.old.slots) hash) slot }
+    ensures gap { IsFirstGap slots.new.slots (home_of (length slots.new.slots) hash) result }
+    ensures small { used + 1 < 2 ^ 64 }
+    ensures half { 2 * (used + 1) ≤ length slots.new.slots }
+    ensures within { length slots.new.slots ≤ slots.new.room }
+    ensures few { (length slots.new.slots ≡ length slots.old.slots) ⊎ (length slots.new.slots ≤ 3 * (used + 1)) }
+    ensures indexed { IsIndex (key_at pool.now) (table_of slots.new hasher) }
+    ensures same { HasSamePlaces (key_at pool.now) slots.old slots.new }
+{
+    let count = slots.len();
+    grow_for(slots, used + 1, hasher, pool);
+    if slots.len() == count {
+        slot
+    } else {
+        first_gap(slots, home_of(slots.len(), hash))
     }
 }
 
@@ -132,44 +181,62 @@ impl Index {
         read
     }
 
-    /// The place of the key; None if the index doesn't have it.
-    pub fn look_up(&self, pool: &Pool, key: &[u8]) -> Option<Place>
+    /// Searches for the key.
+    #[inline(always)]
+    pub fn find(&self, pool: &Pool, key: &[u8]) -> Entry
         requires { IsIndex (key_at pool.now) self.now }
-        ensures place { result ≡ place_at (key_at pool.now) self.now key.now }
-        ensures key { IfSome result (λ place. key_at pool.now place ≡ Some key.now) }
-        ensures item { IfSome result (λ place. IsSome (item_in pool.now place)) }
+        ensures { IsFound (key_at pool.now) self.now key.now result }
     {
-        let Start { home, tag, .. } = start_of(&self.slots, self.hasher, key);
+        let Start { hash, home, tag } = start_of(&self.slots, self.hasher, key);
         match find_key(&self.slots, pool, home, tag, key) {
-            Ok((_, place)) => Some(place),
-            Err(_) => None,
+            Ok((slot, place)) => Entry::At { hash, slot, place },
+            Err(slot) => Entry::Gap { hash, slot },
         }
     }
 
-    /// Gives the key this place, and returns the one that it had, by one search. If it had none, the used part of the
-    /// table grows first, up to three slots for each key.
-    pub fn insert(&mut self, pool: &Pool, key: &[u8], place: Place) -> Option<Place>
+    /// The place of the key whose search found this; None if the index doesn't have it.
+    #[inline(always)]
+    pub fn place_found(&self, _pool: &Pool, _key: &[u8], entry: Entry) -> Option<Place>
+        requires index { IsIndex (key_at _pool.now) self.now }
+        requires found { IsFound (key_at _pool.now) self.now _key.now entry }
+        ensures place { result ≡ place_at (key_at _pool.now) self.now _key.now }
+        ensures key { IfSome result (λ place. key_at _pool.now place ≡ Some _key.now) }
+        ensures item { IfSome result (λ place. IsSome (item_in _pool.now place)) }
+    {
+        match entry {
+            Entry::At { place, .. } => Some(place),
+            Entry::Gap { .. } => None,
+        }
+    }
+
+    /// Gives the key whose search found this a place, and returns the one that it had. If it had none, the used part
+    /// of the table grows first, up to three slots for each key; a gap is searched for again only if it grew.
+    pub fn insert(&mut self, pool: &Pool, _key: &[u8], entry: Entry, place: Place) -> Option<Place>
         requires index { IsIndex (key_at pool.now) self.old }
-        requires key { key_at pool.now place ≡ Some key.now }
+        requires found { IsFound (key_at pool.now) self.old _key.now entry }
+        requires key { key_at pool.now place ≡ Some _key.now }
         requires place { IsInLayout self.old.layout place }
         requires room { 2 * (used_in self.old.slots + 1) ≤ self.old.room }
-        ensures had { result ≡ place_at (key_at pool.now) self.old key.now }
-        ensures map { IsMap (key_at pool.now) self.new (map.insert (places (key_at pool.now) self.old) key.now place) }
+        ensures had { result ≡ place_at (key_at pool.now) self.old _key.now }
+        ensures map { IsMap (key_at pool.now) self.new (map.insert (places (key_at pool.now) self.old) _key.now place) }
         ensures size { IsSameSize self.old self.new }
         ensures few { (length self.new.slots ≡ length self.old.slots)
             ⊎ (length self.new.slots ≤ 3 * used_in self.new.slots) }
         ensures half { IsTable self.new }
     {
-        let Start { hash, home, tag } = start_of(&self.slots, self.hasher, key);
-        match find_key(&self.slots, pool, home, tag, key) {
-            Ok((at, source)) => {
-                self.slots.set(at, Slot { tag, place });
+        match entry {
+            Entry::At {
+                hash,
+                slot,
+                place: source,
+            } => {
+                let tag = self.slots.layout().tag_of(hash);
+                self.slots.set(slot, Slot { tag, place });
                 Some(source)
             }
-            Err(_) => {
-                grow_for(&mut self.slots, self.used + 1, self.hasher, pool);
-                let new_home = home_of(self.slots.len(), hash);
-                let gap = first_gap(&self.slots, new_home);
+            Entry::Gap { hash, slot } => {
+                let gap = grown_gap(&mut self.slots, self.used, self.hasher, pool, slot, hash);
+                let tag = self.slots.layout().tag_of(hash);
                 self.slots.set(gap, Slot { tag, place });
                 self.used += 1;
                 None
@@ -206,6 +273,19 @@ impl Index {
         let at = find_place(&self.slots, home, place).unwrap();
         delete(&mut self.slots, at, self.hasher, pool);
         self.used -= 1;
+    }
+
+    /// Takes the key whose search found this out, if it has a place.
+    pub fn remove_found(&mut self, pool: &Pool, _key: &[u8], entry: Entry)
+        requires index { IsIndex (key_at pool.now) self.old }
+        requires found { IsFound (key_at pool.now) self.old _key.now entry }
+        ensures map { IsMap (key_at pool.now) self.new (map.remove (places (key_at pool.now) self.old) _key.now) }
+        ensures size { IsSameSize self.old self.new }
+    {
+        if let Entry::At { slot, .. } = entry {
+            delete(&mut self.slots, slot, self.hasher, pool);
+            self.used -= 1;
+        }
     }
 
     /// Takes a key out if this is its place.

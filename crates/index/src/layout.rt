@@ -2,7 +2,9 @@
 
 ghost use Rattle.std.specs.Prelude.{◌≡◌, ◌<◌, ◌≤◌, ◌^◌, nat_le};
 ghost use Rattle.index.specs.Layouts.{IsLayout, IsLayoutOf, CanHold, packed_limit, home_bits, tag_of, low_in, slot_of};
-ghost use Rattle.index.specs.Layouts.{packed_of};
+ghost use Rattle.index.specs.Layouts.{packed_of, IsInLayout};
+ghost use Rattle.index.specs.Slots.{slot_with};
+ghost use Rattle.segments.specs.declared.place.Place.{Place as Spot};
 
 use crate::slots::{EMPTY, Slot};
 use proto::{Geometry, MAX_SEGMENTS};
@@ -80,6 +82,7 @@ impl Layout {
         requires { IsLayout self }
         ensures value { result ≡ tag_of self hash }
         ensures some { 1 ≤ result }
+        ensures fits { (place : Spot) → IsInLayout self place → CanHold self (slot_with result place) }
     {
         let bits = self.home_bits();
         let beside = if self.is_narrow() {

@@ -12,5 +12,5 @@ mod search;
 mod slots;
 
 pub use growing::slots_for;
-pub use index::Index;
+pub use index::{Entry, Index};
 pub use layout::layout_for;

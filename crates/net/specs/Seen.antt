@@ -23,7 +23,7 @@ fresh socket exchange = record {
   sent = [];
 }
 
--- these bytes were read from it, or it took them
+-- these bytes, which were read from it, are told, or it took them
 abbrev pub then_received : List ℕ → Seen → Seen
 then_received bytes x = record x { received = x.received ++ bytes }
 

@@ -24,6 +24,11 @@ is_listed Listed = true
 is_listed Draining = true
 is_listed (Paused listed) = listed
 
+-- it was taken off the list, and is to be read
+abbrev pub IsTakenOff : OpenStream → Type 0
+IsTakenOff o =
+    (is_listed o.input ≡ false) × (is_paused_input o.input ≡ false) × (o.stream.has_ended ≡ false)
+
 -- its place in the list, where it stands there
 abbrev pub listing : ℕ → OpenStream → List ℕ
 listing session o = cond (is_listed o.input) (session ∷ []) []
@@ -48,7 +53,7 @@ seen_of o =
 abbrev pub shown_stream : List (ℕ × OpenStream) → ℕ → Option Seen
 shown_stream streams session = option_map seen_of (lookup (nat_eq session) streams)
 
--- What a read of a stream leaves; while it is paused, and once its input has ended, nothing comes of it.
+-- What a read of a stream, or of what is ahead of it, leaves; while it is paused, and once its input has ended, nothing comes of it.
 abbrev pub Arrives : Seen → Reading → Seen → Type 0
 Arrives before (read.Bytes bytes) after =
     (after ≡ then_received bytes before) × (before.input_ended ≡ false) × (before.paused ≡ false)

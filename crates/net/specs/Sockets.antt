@@ -1,6 +1,6 @@
 -- What clauses see of a socket: its number with the system.
 use Rattle.std.specs.Prelude.{◌≡◌, ℤ, pos, List, [], ◌∷◌, false}
-use Rattle.mio.specs.Net.{stream_fd, unix_stream_fd}
+use Rattle.mio.specs.Net.{stream_fd}
 use Rattle.exchange.specs.Ends.{ExchangeId}
 use Rattle.net.specs.declared.sockets.raw.RawStream.{RawStream}
 use Rattle.net.specs.declared.sockets.raw.RawStream.TheVariants.{Tcp, Unix}
@@ -10,7 +10,7 @@ use Rattle.net.specs.declared.sockets.logged_stream.LoggedStream.{LoggedStream}
 -- the socket of a raw stream of either kind
 abbrev pub raw_socket : RawStream → ℤ
 raw_socket (Tcp stream) = stream_fd stream
-raw_socket (Unix stream) = unix_stream_fd stream
+raw_socket (Unix stream) = stream_fd stream
 
 -- the socket of an accepted stream
 abbrev pub socket_of : NewStream → ℤ

@@ -1,17 +1,20 @@
 -- How what a port told agrees with its open streams.
-use Rattle.std.specs.Prelude.{◌≡◌, ℕ, ℤ, ◌-◌, ◌<◌, Bool, true, false, List, [], length, is_some, Option, Some, slice_get}
+use Rattle.std.specs.Prelude.{◌≡◌, ℕ, ℤ, ◌-◌, ◌<◌, Bool, true, false, List, [], ◌++◌, length, is_some, Option, Some, slice_get}
+use Rattle.std.specs.Map.{lookup}
+use Rattle.std.specs.Bool.{nat_eq}
 use Rattle.exchange.specs.Ends.{ExchangeId}
 use Rattle.worker_port.specs.declared.events.PortRecord.{PortRecord}
 use Rattle.worker_port.specs.declared.events.PortRecord.TheVariants as was
 use Rattle.worker_port.specs.Ports.{fed, given, is_in, is_open, opened_count}
+use Rattle.net.specs.declared.open_stream.OpenStream.{OpenStream}
 use Rattle.net.specs.Seen.{Seen, has_input_ended, received_of, sent_of, open_socket}
 
 -- a session is open in the list exactly where its stream is
 abbrev pub OpenAgrees : (ℕ → Option Seen) → List PortRecord → Type 0
 OpenAgrees streams events = (s : ℕ) → is_open s events ≡ is_some (streams s)
 
--- the data of an open session is what was read from its stream, joined, and what was accepted is what it took; and its input has
--- ended where a read of no bytes came
+-- the data of an open session, joined, is what was read from its stream and is told, and what was accepted is what it took; and its
+-- input has ended where a read of no bytes came
 abbrev pub BytesAgree : (ℕ → Option Seen) → List PortRecord → Type 0
 BytesAgree streams events =
     (s : ℕ) → is_some (streams s) ≡ true
@@ -24,6 +27,11 @@ NoneBehind last events =
     (s : ℕ) → last < s
     → (is_in (was.Opened s) events ≡ false) × (is_in (was.EndOfInput s) events ≡ false) × (is_in (was.Gone s) events ≡ false)
     × (is_in (was.Shut s) events ≡ false) × (fed s events ≡ []) × (given s events ≡ [])
+
+-- what was read from an open session's stream is its data, joined, and then what is ahead
+abbrev pub ReadAgrees : List (ℕ × OpenStream) → List PortRecord → Type 0
+ReadAgrees streams events =
+    (s : ℕ) (o : OpenStream) → lookup (nat_eq s) streams ≡ Some o → o.stream.came.items ≡ fed s events ++ o.stream.ahead
 
 abbrev pub Ties : (ℕ → Option Seen) → ℕ → List PortRecord → Bool → Type 0
 Ties streams last events ended =

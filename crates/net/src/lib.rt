@@ -14,6 +14,7 @@ mod peer;
 mod polls;
 mod port;
 mod probes;
+mod read_memory;
 mod sockets;
 mod streams;
 

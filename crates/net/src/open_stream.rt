@@ -1,24 +1,25 @@
 //! One open session's stream: what its input and its output are doing.
 
-ghost use Rattle.std.specs.Prelude.{◌≡◌, ◌≤◌, ◌<◌, ◌++◌, ℕ, ℤ, List, true, false, length, take, IfOk};
+ghost use Rattle.std.specs.Prelude.{◌≡◌, ◌≤◌, ◌<◌, ◌++◌, ℕ, ℤ, List, [], true, false, length, take, IfOk};
 ghost use Rattle.proto.specs.declared.message.Message.{Message};
 ghost use Rattle.proto.specs.Reading.{Reads, asks};
 ghost use Rattle.exchange.specs.Beginnings.{StartsWith};
 ghost use Rattle.exchange.specs.Ends.{ExchangeId};
 ghost use Rattle.net.specs.Seen.{Seen, fresh, then_received, then_sent, then_paused};
 ghost use Rattle.net.specs.Sockets.{IsNewLog};
-ghost use Rattle.net.specs.Shown.{seen_of, Arrives, listing, Lists};
+ghost use Rattle.net.specs.Shown.{seen_of, Arrives, listing, Lists, IsTakenOff};
 ghost use Rattle.worker_port.specs.Giving.{MayBeSent, by_system_clock, sent_for};
 
+use crate::read_memory::ReadMemory;
 use crate::sockets::ServedStream;
 use crate::streams::Owner;
-use bytes::Bytes;
+use bytes::{Bytes, BytesMut};
 use exchange::WorkerBatch;
 use mio::event::Event;
 use std::alloc::Global;
 use std::collections::VecDeque;
 use std::io::ErrorKind;
-use worker_port::{Gone, ToldHistory};
+use worker_port::{Gone, MAX_PIECE, ToldHistory};
 
 /// A session that was idle at this many looks in a row, and at one more, is ended. They come at sixteenths of the time that it may
 /// be idle. The first of them may be late by almost one, so that the session was active until the second was due; from then on
@@ -87,6 +88,10 @@ pub(crate) enum Reading {
 pub(crate) struct OpenStream {
     pub(crate) stream: ServedStream,
     pub(crate) input: Input,
+    /// The last read brought a whole piece, so that the next one may bring several.
+    reads_much: bool,
+    /// Something was heard of since what is ahead was read.
+    has_more: bool,
     output: Output,
     /// How many looks for idle sessions came before its last activity: it sent something, or took some of what it is owed.
     active: u64,
@@ -101,6 +106,8 @@ impl OpenStream {
         OpenStream {
             stream,
             input: Input::Waiting,
+            reads_much: false,
+            has_more: false,
             output: Output::Free,
             active: looks,
         }
@@ -113,6 +120,7 @@ impl OpenStream {
         ensures listed { Lists heard.session self.old self.new ready.old.items ready.new.items }
     {
         if heard.is_readable && !self.stream.has_ended {
+            self.has_more = true;
             match self.input {
                 Input::Waiting => self.list(heard.session, heard.has_closed, ready),
                 Input::Listed if heard.has_closed => self.input = Input::Draining,
@@ -142,8 +150,8 @@ impl OpenStream {
         }
     }
 
-    /// Reads once if the stream is to be read, after this many looks for idle sessions. It was taken off the list, and goes
-    /// behind the others if more may be there.
+    /// Tells what is ahead, or reads once, if the stream is to be read, after this many looks for idle sessions. It was taken off
+    /// the list, and goes behind the others if more may be there.
     pub(crate) fn read(
         &mut self,
         owner: Owner,
@@ -151,6 +159,7 @@ impl OpenStream {
         sender: &WorkerBatch,
         alloc: Global,
         scratch: &mut [u8],
+        memory: &mut ReadMemory,
         looks: u64,
         ready: &mut VecDeque<u64>,
     ) -> Reading
@@ -172,9 +181,44 @@ impl OpenStream {
             return Reading::Nothing;
         }
         let drains = matches!(input, Input::Draining);
+        if self.stream.has_ahead() {
+            return self.tell(session, drains, looks, ready);
+        }
+        let block = if self.reads_much { memory.take() } else { None };
+        match block {
+            Some(block) => self.read_ahead(
+                owner, session, sender, block, memory, drains, looks, ready,
+            ),
+            None => self.read_piece(owner, session, sender, alloc, scratch, drains, looks, ready),
+        }
+    }
+
+    /// Reads a piece, which is told.
+    fn read_piece(
+        &mut self,
+        owner: Owner,
+        session: u64,
+        sender: &WorkerBatch,
+        alloc: Global,
+        scratch: &mut [u8],
+        drains: bool,
+        looks: u64,
+        ready: &mut VecDeque<u64>,
+    ) -> Reading
+        requires room { length scratch.old ≡ 16384 }
+        requires whose { (sender.now.end.worker ≡ owner.worker) × (sender.now.end.exchange ≡ (seen_of self.old).exchange) }
+        requires asked { (messages : List Message) (rest : List ℕ)
+            → Reads owner.dialect (seen_of self.old).received messages rest
+            → StartsWith (asks messages) (sent_for sender.now.end.sent session) }
+        requires waits { IsTakenOff self.old }
+        requires none_ahead { self.old.stream.ahead ≡ [] }
+        ensures arrives { Arrives (seen_of self.old) result (seen_of self.new) }
+        ensures behind { ready.new.items ≡ ready.old.items ++ listing session self.new }
+    {
         match self.stream.read(owner, session, sender, scratch) {
             Ok(0) => Reading::Ended,
             Ok(count) => {
+                self.reads_much = count == scratch.len();
                 if drains || count == scratch.len() {
                     self.list(session, drains, ready);
                 }
@@ -183,9 +227,65 @@ impl OpenStream {
                 }
                 piece_of(alloc, &scratch[..count])
             }
-            Err(error) if error.kind() == ErrorKind::WouldBlock => Reading::Nothing,
-            Err(_) => Reading::Gone,
+            Err(error) => failed(error.kind()),
         }
+    }
+
+    /// Reads several pieces into memory of their own, and tells the first.
+    fn read_ahead(
+        &mut self,
+        owner: Owner,
+        session: u64,
+        sender: &WorkerBatch,
+        block: BytesMut,
+        memory: &mut ReadMemory,
+        drains: bool,
+        looks: u64,
+        ready: &mut VecDeque<u64>,
+    ) -> Reading
+        requires room { (block.items ≡ []) × (0 < block.spare) }
+        requires whose { (sender.now.end.worker ≡ owner.worker) × (sender.now.end.exchange ≡ (seen_of self.old).exchange) }
+        requires asked { (messages : List Message) (rest : List ℕ)
+            → Reads owner.dialect (seen_of self.old).received messages rest
+            → StartsWith (asks messages) (sent_for sender.now.end.sent session) }
+        requires waits { IsTakenOff self.old }
+        requires none_ahead { self.old.stream.ahead ≡ [] }
+        ensures arrives { Arrives (seen_of self.old) result (seen_of self.new) }
+        ensures behind { ready.new.items ≡ ready.old.items ++ listing session self.new }
+    {
+        match self
+            .stream
+            .read_ahead(owner, session, sender, block, memory)
+        {
+            Ok(Some(0)) => Reading::Ended,
+            Ok(Some(count)) => {
+                self.reads_much = count >= MAX_PIECE;
+                self.has_more = false;
+                self.tell(session, drains, looks, ready)
+            }
+            Ok(None) => Reading::Gone,
+            Err(error) => failed(error.kind()),
+        }
+    }
+
+    /// Tells the first piece of what is ahead. The stream goes behind the others if the piece is whole, as it is unless it's the
+    /// last one, or if something was heard of since it was read: more is ahead then, or may have come.
+    fn tell(&mut self, session: u64, drains: bool, looks: u64, ready: &mut VecDeque<u64>) -> Reading
+        requires waits { IsTakenOff self.old }
+        requires some { 0 < length self.old.stream.ahead }
+        ensures arrives { Arrives (seen_of self.old) result (seen_of self.new) }
+        ensures behind { ready.new.items ≡ ready.old.items ++ listing session self.new }
+    {
+        let Some(piece) = self.stream.next_piece() else {
+            return Reading::Gone;
+        };
+        if drains | self.has_more | (piece.len() >= MAX_PIECE) {
+            self.list(session, drains, ready);
+        }
+        if matches!(self.output, Output::Free) {
+            self.active = looks;
+        }
+        Reading::Bytes(piece)
     }
 
     /// Writes once, after this many looks for idle sessions, unless the stream is known to have no room: a short write is tried
@@ -260,8 +360,18 @@ impl OpenStream {
     /// sent nothing, and nothing of it waits to be read.
     pub(crate) fn is_idle(&self, looks: u64) -> bool {
         let is_owed = !matches!(self.output, Output::Free);
-        let is_waiting = matches!(self.input, Input::Waiting);
+        let is_waiting = matches!(self.input, Input::Waiting) && !self.stream.has_ahead();
         looks.saturating_sub(self.active) > LOOKS && (is_owed || is_waiting)
+    }
+}
+
+/// What a read brought that failed like this.
+fn failed(kind: ErrorKind) -> Reading
+    ensures { (seen : Seen) → Arrives seen result seen }
+{
+    match kind {
+        ErrorKind::WouldBlock => Reading::Nothing,
+        _ => Reading::Gone,
     }
 }
 

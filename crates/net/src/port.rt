@@ -8,7 +8,7 @@ ghost use Rattle.worker_port.specs.Ports.{PortTrace, then_told, with_pause, even
 ghost use Rattle.net.specs.Traces.{trace_of, IsNew, GoesOn, Tells, MayTell, PausesAgree, TellsNothing, AddsSockets};
 ghost use Rattle.worker_port.specs.Giving.{HasAskedOnly};
 ghost use Rattle.net.specs.Shown.{shown_stream};
-ghost use Rattle.net.specs.Ties.{OpenAgrees, BytesAgree, SocketsAgree};
+ghost use Rattle.net.specs.Ties.{OpenAgrees, BytesAgree, ReadAgrees, SocketsAgree};
 
 use crate::closings::Closing;
 use crate::fault::{NetFault, Refusal};
@@ -86,11 +86,12 @@ impl<R: Wait + Clock + Net + Drop> MioPort<R> {
 
 impl<R: Wait + Clock + Drop> MioPort<R> {
     /// What the port told agrees with its streams: the open sessions are those with a stream, each with the socket that it
-    /// was opened with; the data of each is what was read from its stream, joined, and what was accepted for it is what its
-    /// stream took.
+    /// was opened with; the data of each, joined, and then what is ahead of it is what was read from its stream; and what was
+    /// accepted for it is what its stream took.
     pub fn agrees(&self)
         ensures open { OpenAgrees (shown_stream self.now.served.open.entries) (trace_of self.now.served).events }
         ensures bytes { BytesAgree (shown_stream self.now.served.open.entries) (trace_of self.now.served).events }
+        ensures came { ReadAgrees self.now.served.open.entries (trace_of self.now.served).events }
         ensures sockets { SocketsAgree (shown_stream self.now.served.open.entries) self.now.served.sockets.items }
         ensures paused { PausesAgree (shown_stream self.now.served.open.entries) (trace_of self.now.served) }
     {
@@ -155,16 +156,19 @@ impl<R: Wait + Clock + Drop> MioPort<R> {
         PortEvent::Idle
     }
 
+    /// Whether a stream may be read or opened, or a session may have been idle for long enough.
+    fn knows_event(&self) -> bool {
+        !self.served.ready.is_empty()
+            || self.has_idle
+            || (self.has_streams && self.served.len() < self.hand.most_open())
+    }
+
     /// Polls the sockets if no event is known yet and the end isn't to be told, unless it is too early; and now and then even
     /// so. No poll waits beyond the next look for idle sessions. Returns false if there is no event.
     fn look(&mut self, may_wait: bool) -> bool
         ensures { TellsNothing self.old.served self.new.served }
     {
-        let has_heard = !self.served.ready.is_empty() || self.has_idle;
-        let may_open = self.has_streams && self.served.len() < self.hand.most_open();
-        let knows_event = has_heard
-            || may_open
-            || (self.served.is_empty() && self.hand.is_drained());
+        let knows_event = self.knows_event() || (self.served.is_empty() && self.hand.is_drained());
         let is_draining = self.served.lingering.is_ready;
         let Some(limit) = self
             .polls
@@ -269,6 +273,10 @@ impl<R: Wait + Clock + Drop> Port for MioPort<R> {
         if let Some(open) = self.served.open.get(&session) {
             self.tell_closing(open.stream.peer(), reason, line);
         }
+    }
+
+    fn may_know_event(&self) -> bool {
+        self.knows_event()
     }
 
     fn rooms(&self) -> Option<u64> {

@@ -13,6 +13,7 @@ use crate::hand::WAKER;
 use crate::lingering::LingeringStreams;
 use crate::open_stream::{Heard, OpenStream, Reading};
 use crate::peer::Peer;
+use crate::read_memory::ReadMemory;
 use crate::sockets::{EndedStream, NewStream, SocketNote};
 use exchange::{ExchangeName, WorkerBatch};
 use mio::{Events, Poll};
@@ -46,6 +47,7 @@ pub(crate) struct Streams {
     pub(crate) rooms: u64,
     pub(crate) lingering: LingeringStreams,
     scratch: Vec<u8>,
+    memory: ReadMemory,
     /// The number of the session that was opened last.
     pub(crate) last: u64,
     /// How often idle sessions were looked for.
@@ -87,6 +89,7 @@ impl Streams {
             rooms: 0,
             lingering: LingeringStreams::new(alloc)?,
             scratch: Vec::from_elem(alloc, 0u8, MAX_PIECE)?,
+            memory: ReadMemory::new(alloc)?,
             last: 0,
             looks: 0,
             idle_peer: Peer::Unknown,
@@ -176,7 +179,7 @@ impl Streams {
         None
     }
 
-    /// Reads once from a stream that was taken off the list, if it is open and to be read, and tells what came.
+    /// Reads at most once from a stream that was taken off the list, if it is open and to be read, and tells what came.
     fn read(&mut self, session: u64, sender: &WorkerBatch) -> Option<PortEvent>
         requires goes_on { GoesOn (trace_of self.old) }
         requires asked { HasAskedOnly (trace_of self.old) sender.now.end }
@@ -192,6 +195,7 @@ impl Streams {
             sender,
             self.alloc,
             self.scratch.as_mut_slice(),
+            &mut self.memory,
             self.looks,
             &mut self.ready,
         ) {

@@ -4,6 +4,7 @@ ghost use Rattle.std.specs.Prelude.{◌≡◌, [], true};
 ghost use Rattle.worker_port.specs.Ports.{is_open};
 ghost use Rattle.net.specs.Traces.{trace_of};
 
+use bytes::Bytes;
 use exchange::{Exchange, WorkerBatch};
 use net::{Hand, MioPort, Owner};
 use proto::{Dialect, Geometry, Terms};
@@ -84,6 +85,18 @@ impl<R: Wait + Clock + Drop> AskedPort<R> {
     /// What comes next.
     pub(crate) fn came(&mut self, may_wait: bool) -> Came {
         came_by(self.next(may_wait))
+    }
+
+    /// The bytes that come next; none if something else does, or nothing in so many calls.
+    pub(crate) fn input(&mut self, calls: usize) -> Option<Bytes> {
+        for _ in 0..calls {
+            match self.next(false) {
+                PortEvent::Data(_, bytes) => return Some(bytes),
+                PortEvent::Idle => {}
+                _ => return None,
+            }
+        }
+        None
     }
 
     pub(crate) fn is_open(&self, session: u64) -> bool

@@ -305,6 +305,56 @@ fn check_end_of_input<R: Wait + Clock + Abort + Drop>(
     assert!(*rt; port.is_open(1));
 }
 
+/// How many bytes a client sends at once, of which more is read at a time than a piece.
+const SENT_AT_ONCE: usize = 100_000;
+
+/// After how many pieces of them the session is paused.
+const PIECES_BEFORE_PAUSE: usize = 3;
+
+/// So many bytes, of which those of one place in a piece differ.
+fn numbered<R: Abort>(rt: &R, alloc: Global, count: usize) -> Vec<u8> {
+    let mut bytes = Vec::with_capacity(alloc, count).expect(rt, "memory");
+    for number in 0..count {
+        bytes.push((number % 251) as u8).expect(rt, "memory");
+    }
+    bytes
+}
+
+/// While the session is paused nothing comes.
+fn check_pause<R: Wait + Clock + Abort + Drop>(rt: &R, port: &mut AskedPort<R>) {
+    assert!(*rt; port.is_open(1));
+    port.pause(1);
+    check_next(rt, port, FEW_CALLS, Came::Idle, "while it is paused");
+    assert!(*rt; port.is_open(1));
+    port.resume(1);
+}
+
+/// All that is read at once comes in order, though the session is paused in the middle of it, and then the end of its input.
+fn check_ahead<R>(rt: &R, alloc: Global, port: &mut AskedPort<R>, client: &TcpStream)
+where
+    R: Wait + Clock + Abort + Drop,
+{
+    check_next(rt, port, CALLS, Came::Opened(1), "the session opens");
+    let sent = numbered(rt, alloc, SENT_AT_ONCE);
+    send(rt, client, sent.as_slice());
+    client.shutdown(Shutdown::Write).expect(rt, "a closed half");
+    thread::sleep(rt, Duration::from_millis(50));
+    let mut came = Vec::new(alloc);
+    for pieces in 0..SENT_AT_ONCE {
+        if pieces == PIECES_BEFORE_PAUSE {
+            check_pause(rt, port);
+        }
+        let Some(piece) = port.input(CALLS) else {
+            break;
+        };
+        assert!(*rt; piece.len() <= MAX_PIECE);
+        came.extend_from_slice(piece.as_slice())
+            .expect(rt, "memory");
+    }
+    assert!(*rt; came.as_slice() == sent.as_slice());
+    check_next(rt, port, FEW_CALLS, Came::Idle, "while it is open");
+}
+
 /// Whether nothing but bytes comes of a port's session for `millis` milliseconds.
 fn has_only_input<R: Wait + Clock + Abort + Drop>(
     rt: &R,
@@ -375,6 +425,7 @@ enum Check {
     ReadsInTurn,
     HearsAll,
     EndsInput,
+    ReadsAhead,
     /// The limit in seconds, and the pauses in milliseconds.
     LetsSpeak(u64, &'static [u64]),
     Spins,
@@ -399,6 +450,7 @@ where
         Check::ReadsInTurn => check_all_in_turn(rt, alloc, port, clients.as_slice()),
         Check::HearsAll => check_heard(rt, alloc, port, clients.as_slice()),
         Check::EndsInput => check_end_of_input(rt, port, last(rt, clients)),
+        Check::ReadsAhead => check_ahead(rt, alloc, port, last(rt, clients)),
         Check::LetsSpeak(limit, pauses) => {
             check_goes_on(rt, port, last(rt, clients), limit, pauses);
         }
@@ -455,6 +507,11 @@ fn a_client_that_sends_fast_keeps_no_other_from_being_heard(rt: HostRuntime) {
 #[test]
 fn the_end_of_input_comes_once_and_after_all_input(rt: HostRuntime) {
     check_port(rt, rt.alloc(), 1, Check::EndsInput);
+}
+
+#[test]
+fn what_is_read_ahead_comes_in_order_and_before_the_end(rt: HostRuntime) {
+    check_port(rt, rt.alloc(), 1, Check::ReadsAhead);
 }
 
 #[test]

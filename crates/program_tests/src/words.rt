@@ -9,7 +9,7 @@ use std::process::Abort;
 use std::test::Fail;
 
 /// Words after `serve`, and all options that are then in force.
-const IN_FORCE: [(&str, &str); 9] = [
+const IN_FORCE: [(&str, &str); 10] = [
     (
         "serve --listen 127.0.0.1:0",
         "--listen 127.0.0.1:0 --workers 2 --segment-size 65536 --segments 64",
@@ -41,6 +41,10 @@ const IN_FORCE: [(&str, &str); 9] = [
     (
         "serve --storage thread --listen 127.0.0.1:0",
         "--listen 127.0.0.1:0 --workers 2 --segment-size 65536 --segments 64",
+    ),
+    (
+        "serve --output-memory 25165824 --sessions 1 --workers 6 --connections 9 --listen 127.0.0.1:0",
+        "--listen 127.0.0.1:0 --workers 6 --segment-size 65536 --segments 64 --connections 9 --output-memory 25165824 --sessions 1",
     ),
     (
         "serve --idle 4294967295 --spin 1000000 --lenient --workers 8 --segments 65536 --segment-size 4096 --listen 0.0.0.0:1",

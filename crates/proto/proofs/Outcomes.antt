@@ -9,13 +9,13 @@ use Rattle.std.specs.FinMap as map
 use Rattle.std.proofs.lemmas.Slice.Eq.{bytes_eq-Decides}
 use Rattle.proto.specs.declared.message.Put.{Put}
 use Rattle.proto.specs.declared.message.Request.{Request}
-use Rattle.proto.specs.declared.message.Request.TheVariants.{Get, Set, Add, Replace, Cas, Append, Prepend, Delete, Incr, Decr, Touch, FlushAll, Stats}
+use Rattle.proto.specs.declared.message.Request.TheVariants.{Get, GetAndTouch, Set, SetTooLarge, Add, Replace, Cas, Append, Prepend, Delete, Incr, Decr, Touch, FlushAll, Stats}
 use Rattle.proto.specs.declared.message.Reply.{Reply}
 use Rattle.proto.specs.declared.message.Reply.TheVariants.{NoMemory}
 use Rattle.proto.specs.declared.message.Reply.TheVariants as reply
 use Rattle.proto.specs.Sizes.{item_limit}
 use Rattle.proto.specs.Cache.{Entry, Entries, no_entries, Cache, has_arrived, found_at, deadline_of}
-use Rattle.proto.specs.Commands.{Outcome, SetsNoDeadline, leaving, write, put, is_too_large, is_number, change, join, touch, act}
+use Rattle.proto.specs.Commands.{Outcome, shows_hits, SetsNoDeadline, leaving, write, put, is_too_large, is_number, change, join, touch, act}
 use Rattle.proto.specs.Steps.{IsDated, deadline_at, has_hits}
 use Rattle.proto.specs.Laws.{PlainSteps}
 use Rattle.proto.proofs.CacheLemmas.{get-insert, get-remove, get-no_entries, without-nil}
@@ -39,7 +39,7 @@ record StoresOne (t : ℕ) (old : Entries) (q : Request) (done : Outcome) : Type
 
 -- a request that shows hits
 abbrev pub IsGet : Request → Type 0
-IsGet q = (keys : List (List ℕ)) × (with_cas : Bool) × (q ≡ Get keys with_cas)
+IsGet q = shows_hits q ≡ true
 
 -- the reply isn't out of memory, and shows no hits if the request isn't one that does
 record IsAnswer (q : Request) (answered : Reply) : Type 0 where
@@ -188,8 +188,12 @@ by_touch t cache q (Some e) key exptime sets =
 by_act : (limit : ℕ) (cache : Cache) (t : ℕ) (q : Request) → ((key : List ℕ) → Waits t (map.get cache.entries key))
     → Leaves t cache q (act limit cache t q)
 by_act limit cache t (Get keys with_cas) waits =
-    by_none t cache _ _ (record { some = λ e. cc; hits = inl (keys, with_cas, refl) })
+    by_none t cache _ _ (record { some = λ e. cc; hits = inl refl })
+by_act limit cache t (GetAndTouch keys with_cas exptime) waits =
+    by_none t cache _ _ (record { some = λ e. cc; hits = inl refl })
 by_act limit cache t (Set p) waits = by_size t cache _ limit p _ (by_put t cache _ p (λ none. none))
+by_act limit cache t (SetTooLarge key) waits =
+    by_removal t cache _ key reply.TooLarge (plainly _ reply.TooLarge (λ e. cc) refl)
 by_act limit cache t (Add p) waits =
     by_size t cache _ limit p _ (by_test t cache _ (map.contains_key cache.entries p.key) _ _
     (λ _. by_none t cache _ reply.NotStored (plainly _ reply.NotStored (λ e. cc) refl))
@@ -232,7 +236,7 @@ by_request limit before t q = by_act limit (found_at before t) t q (found_waits 
 pub answers_act : (limit : ℕ) (before : Cache) (t : ℕ) (q : Request) → (act limit (found_at before t) t q).reply ≢ NoMemory
 answers_act limit before t q = (by_request limit before t q).answers.some
 
--- a request shows hits only if it is a `get`
+-- only a request that shows hits does
 pub shown_act : (limit : ℕ) (before : Cache) (t : ℕ) (q : Request)
     → IsGet q ⊎ (has_hits (act limit (found_at before t) t q).reply ≡ false)
 shown_act limit before t q = (by_request limit before t q).answers.hits

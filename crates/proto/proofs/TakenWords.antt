@@ -1,6 +1,8 @@
 -- The words after a storage line's command word, one after the other.
 use Rattle.std.proofs.Common.{◌≡◌, ℕ, ℤ, ◌^◌, Bool, List, [], ◌∷◌, Option, Some, refl, sym, ap, ◌∙◌}
 use Rattle.proto.specs.Lines.{is_key}
+use Rattle.proto.specs.Grammar.{meant}
+use Rattle.proto.specs.declared.dialect.Dialect.{Dialect}
 use Rattle.proto.specs.declared.storage_line.StoreMode.{StoreMode}
 use Rattle.proto.specs.declared.storage_line.StoreMode.TheVariants as mode
 use Rattle.proto.specs.PlainReader.{key_in, taken, number_in, signed_in, quiet_in, TailReader, plain_tail, unique_tail, line_with, storage_in}
@@ -28,12 +30,12 @@ is_taken {A} read (word ∷ words) rest a e =
     record { word = word; words_are = ap (λ (ws : List (List ℕ)). word ∷ ws) behind; read_is = rw (← first) found.1 }
 
 -- a storage line whose words are taken one after the other
-pub storage_taken : (tail : TailReader) (words w1 w2 w3 w4 : List (List ℕ)) (key : List ℕ) (f : ℕ) (e : ℤ) (n : ℕ)
+pub storage_taken : (dialect : Dialect) (tail : TailReader) (words w1 w2 w3 w4 : List (List ℕ)) (key : List ℕ) (f : ℕ) (e : ℤ) (n : ℕ)
     (t : StoreMode × Bool)
     → Some (key, w1) ≡ taken key_in words → Some (f, w2) ≡ taken (number_in (2 ^ 32)) w1
     → Some (e, w3) ≡ taken (signed_in (10 ^ 10)) w2 → Some (n, w4) ≡ taken (number_in (10 ^ 10)) w3
-    → Some t ≡ tail w4 → Some (line_with key f e n t) ≡ storage_in tail words
-storage_taken tail words w1 w2 w3 w4 key f e n t key_read flags_read exptime_read size_read tail_read =
+    → Some t ≡ tail w4 → Some (line_with key f (meant dialect e) n t) ≡ storage_in dialect tail words
+storage_taken dialect tail words w1 w2 w3 w4 key f e n t key_read flags_read exptime_read size_read tail_read =
     let a = is_taken key_in words w1 key key_read in
     let b = is_taken (number_in (2 ^ 32)) w1 w2 f flags_read in
     let c = is_taken (signed_in (10 ^ 10)) w2 w3 e exptime_read in

@@ -3,7 +3,7 @@ use Rattle.std.specs.Prelude.{◌≡◌, ℕ, ◌+◌, ◌^◌, max, min, ⊤, �
 use mathlib.Core.Option.{some}
 use lib.ListN.{get_elem?}
 use Rattle.proto.specs.declared.message.Request.{Request}
-use Rattle.proto.specs.declared.message.Request.TheVariants.{Get, Stats}
+use Rattle.proto.specs.declared.message.Request.TheVariants.{Stats}
 use Rattle.proto.specs.declared.message.Reply.{Reply}
 use Rattle.proto.specs.declared.message.Reply.TheVariants.{NoMemory}
 use Rattle.proto.specs.declared.history.Posted.{Posted}
@@ -13,7 +13,8 @@ use Rattle.proto.specs.declared.logged_clock.ClockStart.{ClockStart}
 use Rattle.proto.specs.ClockAnswers.{GivenAnswer, IsRead}
 use Rattle.proto.specs.Sizes.{Sizes}
 use Rattle.proto.specs.Cache.{Cache, empty_cache}
-use Rattle.proto.specs.Steps.{Step}
+use Rattle.proto.specs.Commands.{shows_hits}
+use Rattle.proto.specs.Steps.{Steps}
 use Rattle.proto.specs.Tallies.{no_counts, CountsFrom}
 
 -- After these answers of the clock, and this moment, each request has one answer more, and its moment: that answer, up to the
@@ -33,12 +34,12 @@ abbrev pub answers_by : List GivenAnswer → List Answered → List GivenAnswer
 answers_by told [] = told
 answers_by told (e ∷ history) = answers_by e.clock history
 
--- The requests are steps, one after the other, from the cache before, and these are the caches that they leave. What a `stats`
--- is told isn't the cache's matter.
+-- The requests are carried out by their steps, one after the other, from the cache before, and these are the caches that they
+-- leave. What a `stats` is told isn't the cache's matter.
 abbrev pub Chain : Sizes → Cache → List Answered → List Cache → Type 0
 Chain sizes before [] [] = ⊤
 Chain sizes before (e ∷ history) (after ∷ caches) =
-    (reply : Reply) × ((reply ≡ e.reply) ⊎ (e.request ≡ Stats)) × Step sizes before e.moment e.request reply after
+    (reply : Reply) × ((reply ≡ e.reply) ⊎ (e.request ≡ Stats)) × Steps sizes before e.moment e.request reply after
     × Chain sizes after history caches
 Chain _ _ _ _ = ⊥
 
@@ -69,10 +70,10 @@ pub record Legal (sizes : Sizes) (history : List Answered) : Type 0 where
   pub counts : CountsFrom no_counts history
   pub numbers : (worker place : ℕ) (e : Answered) → get_elem? (worker_share history worker) place ≡ some e → e.number ≡ place + 1
 
--- Where no request that stores may be refused memory, each entry that was is a `get` or a `stats`.
+-- Where no request that stores may be refused memory, each entry that was shows hits, or is a `stats`.
 abbrev pub RefusesBy : Bool → List Answered → Type 0
 RefusesBy may_refuse history = may_refuse ≡ false → All (λ (e : Answered). e.reply ≡ NoMemory
-    → ((keys : List (List ℕ)) × (with_cas : Bool) × (e.request ≡ Get keys with_cas)) ⊎ (e.request ≡ Stats)) history
+    → (shows_hits e.request ≡ true) ⊎ (e.request ≡ Stats)) history
 
 -- A history that is legal for these sizes, and refuses memory as the terms say. Where they say so, the clock's answers in it are
 -- readings of the system's clock, one for each entry, all counted from one start.

@@ -3,7 +3,7 @@ use Rattle.std.specs.Prelude.{◌≡◌, ◌⊎◌, ⊤, ℕ, ◌-◌, List, [],
 use Rattle.proto.specs.declared.counts.Tally.{Tally}
 use Rattle.proto.specs.declared.counts.Counts.{Counts}
 use Rattle.proto.specs.declared.message.Request.{Request}
-use Rattle.proto.specs.declared.message.Request.TheVariants.{Get, Cas, Delete, Incr, Decr, Touch, FlushAll, Stats}
+use Rattle.proto.specs.declared.message.Request.TheVariants.{Get, GetAndTouch, SetTooLarge, Cas, Delete, Incr, Decr, Touch, FlushAll, Stats}
 use Rattle.proto.specs.declared.message.Reply.{Reply}
 use Rattle.proto.specs.declared.message.Reply.TheVariants.{Stored, Exists, NotFound, Values, Deleted, Number, Touched, NoMemory}
 use Rattle.proto.specs.declared.message.Reply.TheVariants as replies
@@ -43,6 +43,8 @@ counted_put c reply = record c { sets = tallied c.sets (hits_in reply) (1 - hits
 abbrev pub counted_by : Counts → Request → Reply → Counts
 counted_by c (Get keys with_cas) reply =
     record c { gets = tallied c.gets (hits_in reply) (length keys - hits_in reply) }
+counted_by c (GetAndTouch keys with_cas exptime) reply =
+    record c { touches = tallied c.touches (hits_in reply) (length keys - hits_in reply) }
 counted_by c (Cas p unique) reply = record (counted_put c reply) {
   cas = tallied c.cas (hits_in reply) (misses_in reply);
   badvals = more c.badvals (conflicts_in reply);
@@ -52,6 +54,7 @@ counted_by c (Incr key amount) reply = record c { incrs = tallied c.incrs (hits_
 counted_by c (Decr key amount) reply = record c { decrs = tallied c.decrs (hits_in reply) (misses_in reply) }
 counted_by c (Touch asked) reply = record c { touches = tallied c.touches (hits_in reply) (misses_in reply) }
 counted_by c (FlushAll delay) reply = record c { flushes = more c.flushes 1 }
+counted_by c (SetTooLarge key) reply = c
 counted_by c Stats reply = c
 counted_by c _ reply = counted_put c reply
 

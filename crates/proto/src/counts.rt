@@ -29,6 +29,7 @@ pub struct Counts {
     pub deletes: Tally,
     pub incrs: Tally,
     pub decrs: Tally,
+    /// The keys that `touch`, `gat` and `gats` asked for.
     pub touches: Tally,
     pub flushes: u64,
     /// Requests that were refused memory.
@@ -118,6 +119,11 @@ impl Counts {
                 self.gets
                     .add(hits, (keys.len() as u64).saturating_sub(hits));
             }
+            Request::GetAndTouch { keys, .. } => {
+                let hits = hits_in(reply);
+                self.touches
+                    .add(hits, (keys.len() as u64).saturating_sub(hits));
+            }
             Request::Set(_)
             | Request::Add(_)
             | Request::Replace(_)
@@ -134,7 +140,7 @@ impl Counts {
             Request::Decr { .. } => self.decrs.count(reply),
             Request::Touch(_) => self.touches.count(reply),
             Request::FlushAll { .. } => self.flushes = self.flushes.wrapping_add(1),
-            Request::Stats => {}
+            Request::SetTooLarge { .. } | Request::Stats => {}
         }
     }
 

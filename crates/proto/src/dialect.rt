@@ -1,11 +1,12 @@
 //! Which lines count, and what is read of them.
 
-ghost use Rattle.std.specs.Prelude.{◌≡◌, ◌≤◌};
+ghost use Rattle.std.specs.Prelude.{◌≡◌, ◌≤◌, length};
 ghost use Rattle.proto.specs.Lines.{longest_line};
 ghost use Rattle.proto.specs.Lines.{is_lenient};
-ghost use Rattle.proto.specs.Grammar.{max_data, most_kept, longest_block};
+ghost use Rattle.proto.specs.Grammar.{meant, max_data, fits, most_kept, longest_block};
 ghost use Rattle.proto.specs.Sessions.{most_sessions};
 
+use crate::geometry::ITEM_HEADER;
 use crate::limits::{
     MAX_BLOCK, MAX_LENIENT_BLOCK, MAX_LENIENT_LINE, MAX_LENIENT_SESSIONS, MAX_LINE, MAX_SESSIONS,
     MAX_VALUE,
@@ -18,8 +19,8 @@ pub enum Dialect {
     Strict,
     /// Spaces before a line's end don't count, nor does a zero after the key of a `delete`, and with its end a line has at
     /// most 32,768 bytes. It has `append`, `prepend`, `touch`, `stats`, `version` and `verbosity` too, doesn't answer `cache_memlimit`
-    /// with `noreply`, drops a data block of more bytes than its number, which is that of the largest item, and goes on behind it, and
-    /// refuses the binary protocol by its first byte.
+    /// with `noreply`, drops a data block whose item has more bytes than its number, which is that of the largest item, and goes on
+    /// behind it, reads an exptime from 2^31 to 2^32 - 1 as a negative one, and refuses the binary protocol by its first byte.
     Lenient(u32),
 }
 
@@ -54,6 +55,34 @@ impl Dialect {
         match self {
             Dialect::Strict => MAX_BLOCK,
             Dialect::Lenient(limit) => MAX_VALUE.min(limit as u64),
+        }
+    }
+
+    /// Whether a request has a data block of this size under the key: leniently no item is larger than the largest one.
+    pub(crate) fn fits(self, key: &[u8], size: u64) -> bool
+        requires { size ≤ 8388608 }
+        ensures { result ≡ fits self (length key.now) size }
+    {
+        match self {
+            Dialect::Strict => size <= MAX_BLOCK,
+            Dialect::Lenient(_) => {
+                let bytes = ITEM_HEADER as u64 + key.len() as u64 + size + 7;
+                8 * (bytes / 8) <= self.most_data()
+            }
+        }
+    }
+
+    /// What is meant by an exptime that is written so: leniently 2^31 to 2^32 - 1, in which some clients write a negative one,
+    /// are -1.
+    pub(crate) fn meant(self, exptime: i64) -> i64
+        ensures { result ≡ meant self exptime }
+    {
+        match self {
+            Dialect::Strict => exptime,
+            Dialect::Lenient(_) => match u64::try_from(exptime) {
+                Ok(seconds) if seconds >= 1 << 31 && seconds < 1 << 32 => -1,
+                _ => exptime,
+            },
         }
     }
 

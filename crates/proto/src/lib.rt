@@ -59,5 +59,5 @@ pub use system_clock::{ClockAnswer, SystemClock};
 pub use terms::Terms;
 pub use trace::{Noted, Trace};
 pub use version::{TOLD_VERSION, VERSION};
-pub use view::{MessageView, NextView, next_view, next_view_behind};
+pub use view::{MessageView, NextView, next_view, next_view_behind, too_large};
 pub use words::{Words, number};

@@ -1,9 +1,10 @@
 //! The line of a storage command, and how it is read.
 
 ghost use Rattle.std.specs.Prelude.{◌≡◌, option_map};
-ghost use Rattle.proto.specs.PlainReader.{storage, quiet_in, storage_in, tail_of};
+ghost use Rattle.proto.specs.PlainReader.{storage, quiet_in, storage_in, tail_of, key_out};
 ghost use Rattle.proto.specs.Views.{storage_line_of};
 
+use crate::dialect::Dialect;
 use crate::line::StorageWord;
 use crate::words::{MAX_TEN_DIGITS, Words};
 
@@ -31,6 +32,18 @@ pub struct StorageLineView<'a> {
     pub noreply: bool,
 }
 
+impl<'a> StorageLineView<'a> {
+    /// The key that the command takes out if its item is too large: that of a `set`.
+    pub(crate) fn key_out(&self) -> Option<&'a [u8]>
+        ensures { option_map (λ key. key.now) result ≡ key_out self.now.mode self.now.key.now }
+    {
+        match self.mode {
+            StoreMode::Set => Some(self.key),
+            _ => None,
+        }
+    }
+}
+
 /// Whether `noreply` is what is left of the line; None if something else is.
 pub(crate) fn noreply(words: Words) -> Option<bool>
     ensures { result ≡ quiet_in words.entry }
@@ -44,14 +57,15 @@ pub(crate) fn noreply(words: Words) -> Option<bool>
 
 /// Reads the words after the command word of a storage line.
 pub(crate) fn storage_line<'a>(
+    dialect: Dialect,
     word: StorageWord,
     mut words: Words<'a>,
 ) -> Option<StorageLineView<'a>>
-    ensures { option_map (λ h. storage (storage_line_of h)) result ≡ storage_in (tail_of word) words.entry }
+    ensures { option_map (λ h. storage (storage_line_of h)) result ≡ storage_in dialect (tail_of word) words.entry }
 {
     let key = words.next_key()?;
     let flags = words.next_number(u32::MAX as u64)?;
-    let exptime = words.next_signed()?;
+    let written = words.next_signed()?;
     let size = words.next_number(MAX_TEN_DIGITS)?;
     let mode = match word {
         StorageWord::Set => StoreMode::Set,
@@ -66,7 +80,7 @@ pub(crate) fn storage_line<'a>(
         mode,
         key,
         flags: flags as u32,
-        exptime,
+        exptime: dialect.meant(written),
         size,
         noreply,
     })

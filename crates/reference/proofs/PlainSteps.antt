@@ -21,7 +21,7 @@ use Rattle.proto.proofs.StepLemmas.{insert-same}
 use Rattle.engine.proofs.EngineLemmas.{denied}
 
 -- the members of a plain map
-abbrev members : MapOf PlainMap ⊤
+abbrev members : MapOf PlainMap ⊤ ⊤
 members =
     record {
       sizes = λ m. m.geometry;
@@ -29,6 +29,7 @@ members =
       moment = λ m. m.moment;
       may_refuse = true;
       stands = λ m key place. ⊤;
+      finds = λ m key spot. ⊤;
       writes = WritesPlainly;
       changes = WritesPlainly;
       reads = ReadsPlainly;

@@ -109,6 +109,8 @@ impl LiveMap for PlainMap {
     /// An entry is found again by its key.
     type Place = ();
 
+    type Spot = ();
+
     ghost sizes = { λ m. m.geometry };
 
     ghost entries = { plain_entries };
@@ -118,6 +120,8 @@ impl LiveMap for PlainMap {
     ghost may_refuse = { true };
 
     ghost stands = { λ m key place. ⊤ };
+
+    ghost finds = { λ m key spot. ⊤ };
 
     ghost writes = { WritesPlainly };
 
@@ -160,7 +164,10 @@ impl LiveMap for PlainMap {
         self.moment = now;
     }
 
-    fn get<'a>(&'a self, key: &[u8]) -> Option<(EntryRef<'a>, ())> {
+    /// A plain map finds a key again where it is asked for its entry.
+    fn find(&self, _key: &[u8]) {}
+
+    fn entry_found<'a>(&'a self, key: &[u8], _spot: ()) -> Option<(EntryRef<'a>, ())> {
         let entry = self.map.get(key)?.lent();
         if has_arrived(entry.deadline, self.moment) {
             return None;
@@ -178,7 +185,7 @@ impl LiveMap for PlainMap {
     /// Nor any touch.
     fn count_touch(&mut self, _key: &[u8], _place: ()) {}
 
-    fn write(&mut self, key: &[u8], entry: EntryRef) -> Result<(), NoMemory> {
+    fn write(&mut self, key: &[u8], _spot: (), entry: EntryRef) -> Result<(), NoMemory> {
         if entry.value.len() > MAX_VALUE as usize {
             return Err(NoMemory);
         }
@@ -192,8 +199,14 @@ impl LiveMap for PlainMap {
     }
 
     /// A plain map writes it anew.
-    fn rewrite(&mut self, key: &[u8], _place: (), entry: EntryRef) -> Result<(), NoMemory> {
-        self.write(key, entry)
+    fn rewrite(
+        &mut self,
+        key: &[u8],
+        spot: (),
+        _place: (),
+        entry: EntryRef,
+    ) -> Result<(), NoMemory> {
+        self.write(key, spot, entry)
     }
 
     /// Only if it has this very deadline.
@@ -201,7 +214,7 @@ impl LiveMap for PlainMap {
         is_same_deadline(deadline, self.get(key).unwrap().0.deadline)
     }
 
-    fn remove(&mut self, key: &[u8]) {
+    fn remove(&mut self, key: &[u8], _spot: ()) {
         take_out(&mut self.map, key);
     }
 

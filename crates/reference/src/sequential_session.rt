@@ -4,10 +4,10 @@ ghost use Rattle.std.specs.Prelude.{◌⊎◌, ◌≡◌, ℕ, ◌≤◌, ◌++�
 ghost use Rattle.proto.specs.declared.dialect.Dialect.TheVariants.{Strict};
 ghost use Rattle.proto.specs.Grammar.{SpellsNone};
 ghost use Rattle.proto.specs.History.{max_moment};
-ghost use Rattle.reference.specs.Execution.{Execution, AnswersBehind};
+ghost use Rattle.reference.specs.Execution.{Execution, Executes, AnswersBehind};
 ghost use Rattle.reference.specs.SequentialSessions.{AnswersNext, AnswersAll, IsNewSession, Feeds};
 
-use engine::{MAX_MOMENT, StorageEngine};
+use engine::{MAX_MOMENT, StorageEngine, carry_out};
 use proto::{Message, Next, NoMemory, Reply, Request, next_message, show};
 use script::ScriptClock;
 use std::alloc::Global;
@@ -63,6 +63,17 @@ impl<E: StorageEngine + Drop> Executor<E> {
         Executor { engine, clock }
     }
 
+    /// Executes the request at the clock's next moment.
+    fn execute(&mut self, request: &mut Request) -> Reply
+        ensures executes { (t : ℕ) × Executes self.old t request.old result self.new }
+        ensures same { request.new ≡ request.old }
+    {
+        let told = self.clock.now().min(MAX_MOMENT);
+        let moment = self.engine.last_moment().max(told);
+        let stored = carry_out(&mut self.engine, moment, request);
+        uncounted(request, stored)
+    }
+
     /// Executes the message at the clock's next moment, if it is a request, and appends its answer.
     pub fn answer(&mut self, message: &mut Message, output: &mut Vec<u8>) -> Result<(), NoMemory>
         ensures answers { OnOk result (AnswersBehind self.old message.old self.new output.old.items output.new.items) }
@@ -70,10 +81,7 @@ impl<E: StorageEngine + Drop> Executor<E> {
     {
         match message {
             Message::Ask(request, _) => {
-                let told = self.clock.now().min(MAX_MOMENT);
-                let moment = self.engine.last_moment().max(told);
-                let stored = self.engine.handle(moment, request);
-                let reply = uncounted(request, stored);
+                let reply = self.execute(request);
                 show(message, Some(&reply), output)
             }
             _ => show(message, None, output),

@@ -2,13 +2,13 @@
 //! and its moment, and executes the request when it is asked again.
 
 use crate::protocol::{is_shown, read_request};
-use engine::StorageEngine;
+use engine::{StorageEngine, carry_out};
 use proto::{Geometry, Message, Reply, Request};
 use segcache::Store;
 use std::alloc::Global;
 
 /// Requests that store, show, change, join, touch, expire and flush, and a `stats`, of which a store knows nothing.
-const INPUTS: [&[u8]; 18] = [
+const INPUTS: [&[u8]; 19] = [
     b"set a 1 0 1\r\nx\r\n",
     b"set b 2 9 2\r\nyy\r\n",
     b"add c 3 0 3\r\nccc\r\n",
@@ -25,6 +25,7 @@ const INPUTS: [&[u8]; 18] = [
     b"set e 0 0 1\r\ne\r\n",
     b"append e 9 9 2\r\nff\r\n",
     b"touch e 60\r\n",
+    b"gats 90 b e a\r\n",
     b"stats\r\n",
     b"gets a b c d e n\r\n",
 ];
@@ -50,7 +51,7 @@ fn handle(store: &mut Store, now: u64, request: &mut Request) -> Option<Reply> {
     if store.last_moment() > now || now > LAST_MOMENT {
         return None;
     }
-    Some(store.handle(now, request))
+    Some(carry_out(store, now, request))
 }
 
 /// Appends what stands in the store, and says whether there was memory for it.

@@ -73,7 +73,8 @@ fn judged(
             }
             _ => Outcome::Wrong,
         },
-        Err(GroupFault::NoMemory | GroupFault::NoThread) if counters.are_zero() => Outcome::Allowed,
+        Err(GroupFault::NoMemory | GroupFault::NoThread(_)) if counters.are_zero() =>
+            Outcome::Allowed,
         Err(_) => Outcome::Wrong,
     }
 }
@@ -99,6 +100,7 @@ fn run_over<'a, R: Threads + Wait + time::Clock + Sync>(
         },
         dialect: Dialect::Strict,
         spin: None,
+        output_budget: None,
         storage,
     };
     match Exchange::new(alloc, ports.len(), config.terms) {

@@ -10,7 +10,7 @@ use proto::{
 use std::alloc::Global;
 
 /// A request of each form that is copied, and what the reply Stored makes of it.
-const INPUTS: [&[u8]; 8] = [
+const INPUTS: [&[u8]; 9] = [
     b"set key 7 0 5\r\nvalue\r\n",
     b"cas key 7 0 5 1\r\nvalue\r\n",
     b"append key 7 0 5\r\nvalue\r\n",
@@ -18,6 +18,7 @@ const INPUTS: [&[u8]; 8] = [
     b"delete key\r\n",
     b"incr key 1\r\n",
     b"touch key 60\r\n",
+    b"gats 60 key other\r\n",
     b"stats\r\n",
 ];
 

@@ -202,6 +202,7 @@ pub fn replay<H: Runtime, R: Read + Drop, W: Write>(
         },
         dialect: options.dialect,
         spin: None,
+        output_budget: None,
         storage: options.storage,
     };
     let exchange = Exchange::new(alloc, scripts.len(), config.terms)?;

@@ -8,6 +8,7 @@ use Rattle.std.specs.FinMap as finite
 use Rattle.proto.specs.Commands.{Outcome}
 use Rattle.proto.specs.Steps.{has_hits}
 use Rattle.segments.specs.declared.place.Place.{Place}
+use Rattle.index.specs.declared.index.Entry.{Entry as Found}
 use Rattle.engine.specs.declared.commands.Engine.{Engine}
 use Rattle.engine.specs.declared.live_map.LiveMap.{Ghosts as MapOf}
 use Rattle.engine.specs.Outcomes.{outcome_at}
@@ -17,13 +18,13 @@ use Rattle.segcache.specs.declared.segment_map.SegmentMap.{SegmentMap}
 use Rattle.segcache.specs.Shown.{shown_entries}
 use Rattle.segcache.specs.State.{MapState, IsSegmentedMap}
 use Rattle.segcache.specs.StoreState.{sizes_in, segmented_cache}
-use Rattle.segcache.specs.Writes.{StandsAt, WritesToSegments, ChangesSegments, touch_leaves, IsReadAgain, IsTouched, HasSamePool}
+use Rattle.segcache.specs.Writes.{StandsAt, FindsKey, WritesToSegments, ChangesSegments, touch_leaves, IsReadAgain, IsTouched, HasSamePool}
 use Rattle.segcache.specs.Keeping.{KeepsStored}
 use Rattle.segcache.specs.Requests.{LeavesSegments, HandlesSegments}
 use Rattle.segcache.specs.Requests.LeavesSegments.{writes, changes, dates, reads, stays, refuses}
 
 -- the members of a segmented map
-abbrev pub members : MapOf SegmentMap Place
+abbrev pub members : MapOf SegmentMap Place Found
 members =
     record {
       sizes = λ m. m.pool.sizes;
@@ -31,6 +32,7 @@ members =
       moment = λ m. m.moment;
       may_refuse = false;
       stands = StandsAt;
+      finds = FindsKey;
       writes = WritesToSegments;
       changes = ChangesSegments;
       reads = IsReadAgain;

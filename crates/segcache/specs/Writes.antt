@@ -8,7 +8,9 @@ use Rattle.proto.specs.Sizes.{item_limit}
 use Rattle.proto.specs.Buckets.{bucket_of, time_to_live, life_width, MayLive}
 use Rattle.segments.specs.declared.place.Place.{Place}
 use Rattle.segments.specs.Items.{Item, IsStorable, fits_over, item_deadline}
-use Rattle.segments.specs.Pools.{item_in, place_deadline, shared_at}
+use Rattle.segments.specs.Pools.{key_at, item_in, place_deadline, shared_at}
+use Rattle.index.specs.declared.index.Entry.{Entry as Found}
+use Rattle.index.specs.Searches.{IsFound}
 use Rattle.segments.specs.Changes.{with_read, with_item_at, with_segment_hit, goes_over_by}
 use Rattle.segcache.specs.State.{MapState, IsSegmentedMap}
 use Rattle.segcache.specs.Shown.{current, entry_at, kept_entry, shown_entries}
@@ -20,6 +22,10 @@ use Rattle.engine.specs.Deadlines.{is_storable_deadline}
 -- the place is the current one of the key
 abbrev pub StandsAt : MapState → List ℕ → Place → Type 0
 StandsAt m key place = finite.get (current m.pool m.index) key ≡ Some place
+
+-- a search of the index for the key finds this
+abbrev pub FindsKey : MapState → List ℕ → Found → Type 0
+FindsKey m key found = IsFound (key_at m.pool) m.index key found
 
 -- the item of an entry, which nobody has read yet
 abbrev pub unread_by : Bool → List ℕ → Entry → Item

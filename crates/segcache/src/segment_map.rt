@@ -16,7 +16,7 @@ ghost use Rattle.engine.specs.Deadlines.{is_storable_deadline};
 
 use crate::counts::StoreCounts;
 use engine::{EntryRef, LiveMap, StoreMap, has_arrived};
-use index::{Index, layout_for, slots_for};
+use index::{Entry, Index, layout_for, slots_for};
 use proto::{Eviction, Gauge, Gauges, Geometry, NoMemory};
 use segments::{ItemRef, LiveMarks, Place, Pool, bucket_of};
 use std::alloc::Global;
@@ -233,11 +233,13 @@ fn item_over<'a>(pool: &Pool, place: Place, key: &'a [u8], entry: EntryRef<'a>) 
 impl LiveMap for SegmentMap {
     ghost use Rattle.std.specs.Prelude.{false};
     ghost use Rattle.segcache.specs.Shown.{shown_entries};
-    ghost use Rattle.segcache.specs.Writes.{StandsAt, WritesToSegments, ChangesSegments, touch_leaves};
+    ghost use Rattle.segcache.specs.Writes.{StandsAt, FindsKey, WritesToSegments, ChangesSegments, touch_leaves};
     ghost use Rattle.segcache.specs.Writes.{IsReadAgain, IsTouched, HasSamePool};
     ghost use Rattle.segcache.specs.Keeping.{KeepsStored};
 
     type Place = Place;
+
+    type Spot = Entry;
 
     ghost sizes = { λ m. m.pool.sizes };
 
@@ -248,6 +250,8 @@ impl LiveMap for SegmentMap {
     ghost may_refuse = { false };
 
     ghost stands = { StandsAt };
+
+    ghost finds = { FindsKey };
 
     ghost writes = { WritesToSegments };
 
@@ -315,8 +319,12 @@ impl LiveMap for SegmentMap {
         self.moment = now;
     }
 
-    fn get<'a>(&'a self, key: &[u8]) -> Option<(EntryRef<'a>, Place)> {
-        let place = self.index.look_up(&self.pool, key)?;
+    fn find(&self, key: &[u8]) -> Entry {
+        self.find_key(key)
+    }
+
+    fn entry_found<'a>(&'a self, key: &[u8], spot: Entry) -> Option<(EntryRef<'a>, Place)> {
+        let place = self.index.place_found(&self.pool, key, spot)?;
         let entry = entry_at(&self.pool, place);
         if has_arrived(entry.deadline, self.moment) {
             let expired = self.expired_gets.load(Ordering::Relaxed);
@@ -339,7 +347,7 @@ impl LiveMap for SegmentMap {
         self.pool.count_hit(place.segment);
     }
 
-    fn write(&mut self, key: &[u8], entry: EntryRef) -> Result<(), NoMemory> {
+    fn write(&mut self, key: &[u8], spot: Entry, entry: EntryRef) -> Result<(), NoMemory> {
         let item = ItemRef {
             key,
             value: entry.value,
@@ -349,19 +357,25 @@ impl LiveMap for SegmentMap {
             reads: 0,
             own_deadline: own_deadline_by(self.pool.is_exact(), entry.deadline),
         };
-        if let Some(place) = self.place_over(item) {
+        if let Some(place) = self.place_over(item, spot) {
             self.put_over(place, item);
             return Ok(());
         }
         let bucket = bucket_of(time_to_live(entry.deadline, self.moment));
-        self.write_item(bucket, item);
+        self.write_item(bucket, item, spot);
         Ok(())
     }
 
-    fn rewrite(&mut self, key: &[u8], place: Place, entry: EntryRef) -> Result<(), NoMemory> {
+    fn rewrite(
+        &mut self,
+        key: &[u8],
+        spot: Entry,
+        place: Place,
+        entry: EntryRef,
+    ) -> Result<(), NoMemory> {
         let item = item_over(&self.pool, place, key, entry);
         if !self.pool.fits_over(place, item) {
-            return self.write(key, entry);
+            return self.write(key, spot, entry);
         }
         self.pool.overwrite(place, item);
         Ok(())
@@ -372,8 +386,8 @@ impl LiveMap for SegmentMap {
         touch_leaves_by(self.pool.is_exact(), self.moment, deadline, given)
     }
 
-    fn remove(&mut self, key: &[u8]) {
-        self.remove_key(key);
+    fn remove(&mut self, key: &[u8], spot: Entry) {
+        self.remove_key(key, spot);
     }
 
     fn clear(&mut self) {

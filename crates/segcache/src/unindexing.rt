@@ -5,12 +5,14 @@ ghost use Rattle.std.specs.FinMap as map;
 ghost use Rattle.segcache.specs.Invariants.{IsTied};
 ghost use Rattle.segcache.specs.Shown.{current};
 ghost use Rattle.segcache.specs.State.{IsSegmentedMap};
-ghost use Rattle.segcache.specs.Writes.{HasSamePool};
+ghost use Rattle.segcache.specs.Writes.{HasSamePool, FindsKey};
+ghost use Rattle.segments.specs.Pools.{key_at};
+ghost use Rattle.index.specs.Searches.{IsFound};
 ghost use Rattle.segcache.specs.Removals.{HasLeft, HaveArrivedLeft, HaveExpiredLeft};
 
 use crate::segment_map::SegmentMap;
 use engine::has_arrived;
-use index::Index;
+use index::{Entry, Index};
 use segments::{LiveMarks, Place, Pool};
 
 /// Takes the current item of a key, which stands at the place, out. The key may be borrowed from the pool.
@@ -24,17 +26,51 @@ fn unindex(pool: &Pool, index: &mut Index, marks: &mut LiveMarks, key: &[u8], pl
     marks.unmark(place);
 }
 
+/// Takes the current item of a key out, which stands at the place, and whose search found this.
+fn unindex_found(
+    pool: &Pool,
+    index: &mut Index,
+    marks: &mut LiveMarks,
+    key: &[u8],
+    found: Entry,
+    place: Place,
+)
+    requires tied { IsTied pool.now index.old marks.old }
+    requires found { IsFound (key_at pool.now) index.old key.now found }
+    requires there { map.get (current pool.now index.old) key.now ≡ Some place }
+    ensures tied { IsTied pool.now index.new marks.new }
+    ensures left { current pool.now index.new ≡ map.remove (current pool.now index.old) key.now }
+{
+    index.remove_found(pool, key, found);
+    marks.unmark(place);
+}
+
 impl SegmentMap {
-    /// Takes the item of a key out, if there is one.
-    pub fn remove_key(&mut self, key: &[u8])
+    /// What a search of the index for a key finds.
+    pub(crate) fn find_key(&self, key: &[u8]) -> Entry
+        ensures { FindsKey self.now key.now result }
+    {
+        self.index.find(&self.pool, key)
+    }
+
+    /// Takes the item of a key out, whose search found this, if there is one.
+    pub fn remove_key(&mut self, key: &[u8], found: Entry)
+        requires { FindsKey self.old key.now found }
         ensures left { current self.new.pool self.new.index
             ≡ map.remove (current self.old.pool self.old.index) key.now }
         ensures same { HasSamePool self.old self.new }
         ensures moment { self.new.moment ≡ self.old.moment }
     {
-        if let Some(place) = self.index.look_up(&self.pool, key) {
+        if let Some(place) = self.index.place_found(&self.pool, key, found) {
             self.counts.take_out(&self.pool, place);
-            unindex(&self.pool, &mut self.index, &mut self.marks, key, place);
+            unindex_found(
+                &self.pool,
+                &mut self.index,
+                &mut self.marks,
+                key,
+                found,
+                place,
+            );
         }
     }
 

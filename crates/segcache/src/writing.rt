@@ -17,10 +17,11 @@ ghost use Rattle.segcache.specs.Removals.{marked_instead};
 ghost use Rattle.segcache.specs.LiveItems.{live_marks, live_others};
 ghost use Rattle.segcache.specs.ForgottenKeys.{PlacesItem};
 ghost use Rattle.segcache.specs.OwnDeadlines.{own_deadline_by};
-ghost use Rattle.segcache.specs.Writes.{GoesOver, StandsAt, goes_over};
+ghost use Rattle.segcache.specs.Writes.{GoesOver, StandsAt, FindsKey, goes_over};
 ghost use Rattle.segments.specs.declared.place.Place.{Place as Spot};
 
 use crate::segment_map::{SegmentMap, may_share_segment};
+use index::Entry;
 use segments::{ItemRef, LiveMarks, NoRoom, Place, size_of};
 
 /// Marks the place of an item in place of the one that its key had.
@@ -39,9 +40,11 @@ fn mark_instead(marks: &mut LiveMarks, source: Option<Place>, place: Place)
 }
 
 impl SegmentMap {
-    /// The place of the item of its key over which an item goes; None if it is written anew.
-    pub(crate) fn place_over(&self, item: ItemRef) -> Option<Place>
-        requires { IsStorable (item_limit self.now.pool.sizes) (item_of item) }
+    /// The place of the item of its key over which an item goes, where the key's search found this; None if it is
+    /// written anew.
+    pub(crate) fn place_over(&self, item: ItemRef, found: Entry) -> Option<Place>
+        requires found { FindsKey self.now item.key.now found }
+        requires storable { IsStorable (item_limit self.now.pool.sizes) (item_of item) }
         ensures { MatchOption result
             ((place : Spot) → StandsAt self.now item.entry.key.now place
             → goes_over self.now item.entry.deadline (item_of item.entry) place ≡ false)
@@ -51,7 +54,7 @@ impl SegmentMap {
         if !self.pool.lets_go_over() {
             return None;
         }
-        let place = self.index.look_up(&self.pool, item.key)?;
+        let place = self.index.place_found(&self.pool, item.key, found)?;
         let shared = self.pool.shared_deadline(place);
         if may_share_segment(self.pool.is_exact(), self.moment, item.deadline, shared)
             && self.pool.fits_over(place, item)
@@ -76,9 +79,10 @@ impl SegmentMap {
         self.pool.overwrite(place, ItemRef { reads, ..item });
     }
 
-    /// Puts an item, in place of the one that its key has, into its bucket's tail or a free segment. NoRoom if the tail
-    /// doesn't take it and no segment is free.
-    fn append(&mut self, bucket: usize, item: ItemRef) -> Result<Place, NoRoom>
+    /// Puts an item, in place of the one that its key has, whose search found this, into its bucket's tail or a free
+    /// segment. NoRoom if the tail doesn't take it and no segment is free.
+    fn append(&mut self, bucket: usize, item: ItemRef, found: Entry) -> Result<Place, NoRoom>
+        requires found { FindsKey self.old item.key.now found }
         requires bucket { bucket < bucket_count }
         requires storable { IsStorable (item_limit self.old.pool.sizes) (item_of item) }
         requires own { item.own_deadline ≡ own_deadline_by self.old.pool.exact item.deadline }
@@ -95,13 +99,14 @@ impl SegmentMap {
         ensures moment { self.new.moment ≡ self.old.moment }
     {
         let place = self.pool.append(bucket, self.moment, item)?;
-        let source = self.index.insert(&self.pool, item.key, place);
+        let source = self.index.insert(&self.pool, item.key, found, place);
         self.counts.put(&self.pool, source, size_of(item));
         mark_instead(&mut self.marks, source, place);
         Ok(place)
     }
 
-    /// Makes a segment free, and puts an item there, of a key that has none.
+    /// Makes a segment free, and puts an item there, of a key that has none. That moves keys to other slots, so the
+    /// key is searched for again.
     fn append_to_freed(&mut self, bucket: usize, item: ItemRef)
         requires bucket { bucket < bucket_count }
         requires storable { IsStorable (item_limit self.old.pool.sizes) (item_of item) }
@@ -118,12 +123,14 @@ impl SegmentMap {
         ensures moment { self.new.moment ≡ self.old.moment }
     {
         self.free_segment();
-        let _ = self.append(bucket, item);
+        let found = self.find_key(item.key);
+        let _ = self.append(bucket, item, found);
     }
 
-    /// Puts an item into the pool in place of the one that its key has. If that needs no free segment, one search of
-    /// the index replaces the old one; else the old one is taken out, and a segment made free.
-    pub fn write_item(&mut self, bucket: usize, item: ItemRef)
+    /// Puts an item into the pool in place of the one that its key has, whose search found this. If that needs no free
+    /// segment, the index needs no other search; else the old one is taken out, and a segment made free.
+    pub fn write_item(&mut self, bucket: usize, item: ItemRef, found: Entry)
+        requires found { FindsKey self.old item.key.now found }
         requires bucket { bucket < bucket_count }
         requires storable { IsStorable (item_limit self.old.pool.sizes) (item_of item) }
         requires own { item.own_deadline ≡ own_deadline_by self.old.pool.exact item.deadline }
@@ -136,8 +143,8 @@ impl SegmentMap {
             self.old.moment (item_of item.entry) self.new.pool self.new.index }
         ensures moment { self.new.moment ≡ self.old.moment }
     {
-        if self.append(bucket, item).is_err() {
-            self.remove_key(item.key);
+        if self.append(bucket, item, found).is_err() {
+            self.remove_key(item.key, found);
             self.append_to_freed(bucket, item);
         }
     }

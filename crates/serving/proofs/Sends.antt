@@ -3,7 +3,7 @@ use denote.RattleType.{RattleType}
 use denote.Param.Send.{IsSend, AllSend, sendable, struct_send, recorded_send}
 use denote.Struct.Struct.{Struct}
 use denote.Struct.Declared.{shape}
-use Rattle.std.proofs.Crossing.{crosses}
+use Rattle.std.proofs.Crossing.{crosses, send, sync, frees}
 use Rattle.std.proofs.MapsCrossing as maps
 use Rattle.proto.specs.contracts.trace.Trace as trace
 use Rattle.atomic_table.specs.contracts.badge.Badge as badge
@@ -16,7 +16,10 @@ use Rattle.std.specs.declared.alloc.Allocator as alloc
 use Rattle.atomic_table.specs.contracts.send_lease.SendLease as lease
 use Rattle.exchange.specs.contracts.told.ToldHistory as told
 use Rattle.exchange.specs.contracts.told.ExchangeName as name
+use Rattle.bytes.specs.contracts.shared.Bytes as bytes
+use Rattle.bytes.proofs.shared.Bytes.TheSendSync as bytes_crosses
 use Rattle.net.specs.contracts.open_stream.OpenStream as opened
+use Rattle.net.specs.contracts.read_memory.ReadMemory as memory
 use Rattle.net.specs.contracts.streams.Streams as streams
 use Rattle.net.specs.contracts.hand.Hand as hand
 use Rattle.net.specs.contracts.hand.Shared as ends
@@ -47,17 +50,72 @@ told_sends = search (crosses, badge_sends, sendable) depth 20
 name_sends : IsSend name.the_row
 name_sends = search (crosses, sendable) depth 20
 
-opened_sends : IsSend opened.the_row
-opened_sends = search (crosses, trace_sends, sendable) depth 30
+bytes_send : IsSend (bytes.the_row heap.the_row ghosts)
+bytes_send = bytes_crosses.the_send heap.the_row ghosts send sync frees
 
-peer_sends : IsSend peer.the_row
+opened_sends : IsSend opened.the_row
+opened_sends = search (crosses, trace_sends, bytes_send, sendable) depth 30
+
+memory_sends : IsSend (memory.the_field).row
+memory_sends = search (crosses, bytes_send, sendable) depth 30
+
+peer_sends : IsSend (peer.the_field).row
 peer_sends = search (crosses, sendable) depth 30
 
-lingering_sends : IsSend lingering.the_row
+lingering_sends : IsSend (lingering.the_field).row
 lingering_sends = search (crosses, sendable) depth 40 fits 20000
 
+-- (field by field: one search for all of them takes too many steps)
 streams_send : IsSend (Struct (shape streams.the_type))
-streams_send = search (crosses, maps.crosses, opened_sends, lingering_sends, peer_sends, told_sends, name_sends, trace_sends, sendable) depth 40 fits 20000
+streams_send =
+    let fields : AllSend (shape streams.the_type).fields = (
+      search (crosses, sendable) depth 30,
+      (
+        search (crosses, maps.crosses, opened_sends, sendable) depth 40 fits 20000,
+        (
+          search (crosses, sendable) depth 30,
+          (
+            search sendable,
+            (
+              lingering_sends,
+              (
+                search (crosses, sendable) depth 30,
+                (
+                  memory_sends,
+                  (
+                    search sendable,
+                    (
+                      search sendable,
+                      (
+                        peer_sends,
+                        (
+                          search (trace_sends, sendable) depth 10,
+                          (
+                            search sendable,
+                            (
+                              search sendable depth 30,
+                              (
+                                name_sends,
+                                (
+                                  search (crosses, told_sends, sendable) depth 30,
+                                  (search (trace_sends, sendable) depth 10, tt),
+                                ),
+                              ),
+                            ),
+                          ),
+                        ),
+                      ),
+                    ),
+                  ),
+                ),
+              ),
+            ),
+          ),
+        ),
+      ),
+    )
+    in
+    struct_send (shape streams.the_type) fields
 
 shared_send : (S V K P : RattleType) (g : Ghosts P.Denot S.Denot V.Denot K.Denot) → IsSend S → IsSend (shared.the_row S V K P g)
 shared_send S V K P g s = record {
@@ -90,7 +148,7 @@ queue_sync : IsSync (Struct (shape (queue.the_type new_stream.the_row heap.the_r
 queue_sync = search (crosses, new_sends, shared_sync, lease_sync, sendable) depth 60
 
 closing_sends : IsSend closing.the_row
-closing_sends = search (crosses, peer_sends, sendable) depth 60
+closing_sends = search (crosses, sendable) depth 60
 
 told_queue_send : IsSend (Struct (shape (queue.the_type closing.the_row heap.the_row ghosts)))
 told_queue_send = search (crosses, closing_sends, shared_send, right_send, sendable) depth 60

@@ -14,12 +14,15 @@ const PROGRAM: u64 = 16 * MIB;
 /// A worker's spare buffers.
 const SPARES: u64 = 16 * MIB;
 
+/// What a worker reads ahead of its connections.
+const READ_AHEAD: u64 = 4 * MIB;
+
 /// The requests that a worker has on their way at most, and the keys of `get`s among them.
 const REQUESTS: u64 = 64;
 
 const KEYS: u64 = 255;
 
-/// The output of all connections of a worker, above which large replies wait.
+/// The output of all connections of a worker, above which large replies wait, unless the server is told another sum.
 const OUTPUT: u64 = 64 * MIB;
 
 /// What a connection takes beside its output: its state, the input that is kept, and a piece.
@@ -87,15 +90,20 @@ fn store_bytes(geometry: Geometry) -> u64 {
 /// only estimated. Output takes up to three times its bytes while clients read a part of it.
 pub(crate) fn most_bytes(options: &ServeOptions, geometry: Geometry) -> u64 {
     let (values, reply) = answers_of(options.dialect);
-    let output = OUTPUT.saturating_add(reply).saturating_mul(3);
     let connections = options.connections.unwrap_or(CONNECTIONS);
+    let output = match options.output_memory {
+        Some(bytes) => bytes,
+        None => OUTPUT.saturating_mul(options.workers),
+    };
     let worker = connections_of(options.dialect, connections)
         .saturating_add(SPARES)
+        .saturating_add(READ_AHEAD)
         .saturating_add(requests_of(options.dialect))
         .saturating_add(values)
-        .saturating_add(output);
+        .saturating_add(reply.saturating_mul(3));
     store_bytes(geometry)
         .saturating_add(worker.saturating_mul(options.workers))
+        .saturating_add(output.saturating_mul(3))
         .saturating_add(PROGRAM)
 }
 

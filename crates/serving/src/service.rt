@@ -6,7 +6,7 @@ ghost use Rattle.std.specs.Io.KnownBytes.{Appends};
 ghost use Rattle.serving.specs.Listening.{path_line, IsAddressLine, IsListeningLine, IsAnnounced};
 ghost use Rattle.proto.specs.ClockAnswers.{ClockLog};
 ghost use Rattle.worker_port.specs.Giving.{by_system_clock};
-ghost use Rattle.net.specs.Traces.{trace_of, IsNew};
+ghost use Rattle.net.specs.Traces.{trace_of, IsNew, TellsNothing};
 ghost use Rattle.serving.specs.Runs.{AreNewPorts, IsSetUp, IsServed};
 
 use crate::fault::Fault;
@@ -55,6 +55,27 @@ fn spin_of(options: &ServeOptions) -> Option<u32> {
     }
 }
 
+/// The bytes of output that each worker may keep.
+fn output_budget_of(options: &ServeOptions) -> Option<usize> {
+    let bytes = options.output_memory?;
+    Some((bytes / options.workers.max(1)) as usize)
+}
+
+/// Sets how long a session of the port may be idle, and how long the port looks on after an event.
+fn set_limits<H: Wait + Net + time::Clock + Copy + Drop>(
+    port: &mut MioPort<H>,
+    options: &ServeOptions,
+)
+    ensures { TellsNothing port.old.served port.new.served }
+{
+    if let Some(seconds) = options.idle {
+        port.set_idle_limit(seconds);
+    }
+    if let Some(micros) = spin_of(options) {
+        port.set_spin(micros);
+    }
+}
+
 /// The listener's end of the hand of a worker of the exchange, which takes as many streams as it opens sessions in a run,
 /// and its port, with the limits of the options.
 fn make_port<H: Wait + Net + time::Clock + Copy + Drop>(
@@ -80,12 +101,7 @@ fn make_port<H: Wait + Net + time::Clock + Copy + Drop>(
         worker,
     };
     let mut port = MioPort::new(rt, alloc, of_port, owner, exchange.name())?;
-    if let Some(seconds) = options.idle {
-        port.set_idle_limit(seconds);
-    }
-    if let Some(micros) = spin_of(options) {
-        port.set_spin(micros);
-    }
+    set_limits(&mut port, options);
     Ok((of_listener, port))
 }
 
@@ -267,6 +283,7 @@ fn run_workers<H: Runtime + Copy + Drop + Send + 'static>(
         terms: terms_of(geometry),
         dialect: options.dialect,
         spin: spin_of(options),
+        output_budget: output_budget_of(options),
         storage: options.storage,
     };
     let clock = SystemClock::new(rt);

@@ -8,7 +8,7 @@ use Rattle.std.specs.List.{list_any, slice_split}
 use Rattle.proto.specs.declared.dialect.Dialect.{Dialect}
 use Rattle.proto.specs.declared.message.Put.{Put}
 use Rattle.proto.specs.declared.message.Request.{Request}
-use Rattle.proto.specs.declared.message.Request.TheVariants.{Set, Add, Replace, Cas, Append, Prepend}
+use Rattle.proto.specs.declared.message.Request.TheVariants.{Set, SetTooLarge, Add, Replace, Cas, Append, Prepend}
 use Rattle.proto.specs.declared.message.Message.{Message}
 use Rattle.proto.specs.declared.message.Message.TheVariants.{Ask, Local, Fatal}
 use Rattle.proto.specs.declared.message.LocalKind.TheVariants as local
@@ -41,7 +41,7 @@ asks_nothing d (word ∷ words) =
     (neither ((is (lenient_words d (codes "stats" ∷ [])) && not (begins_with (codes "reset") words))
     || (is (lenient_words d (codes "lru_crawler" ∷ [])) && begins_with (codes "metadump") words)) (Local local.End) _ refl
     (neither (is (codes "get" ∷ codes "gets" ∷ codes "delete" ∷ codes "incr" ∷ codes "decr" ∷ codes "flush_all" ∷ codes "quit"
-    ∷ lenient_words d (codes "touch" ∷ codes "stats" ∷ []))) (Local local.BadLine) _ refl
+    ∷ lenient_words d (codes "touch" ∷ codes "gat" ∷ codes "gats" ∷ codes "stats" ∷ []))) (Local local.BadLine) _ refl
     (neither (is (lenient_words d (codes "version" ∷ []))) (Local local.Version) _ refl
     (neither (is (lenient_words d (codes "verbosity" ∷ codes "cache_memlimit" ∷ [])) && list_any (bytes_eq (codes "noreply")) words)
     (Local local.Silent) _ refl
@@ -55,6 +55,7 @@ not_at_fault d words q quiet e =
 -- behind the line stand the data and a line end
 data_last : (d : Dialect) (b : List ℕ) (q : Request) (quiet : Bool) (v : List ℕ) → data_of q ≡ Some v → Spells d b (Ask q quiet)
     → (front : List ℕ) × (b ≡ front ++ (v ++ codes "\r\n"))
+data_last d b (SetTooLarge key) quiet v has h = absurd (none_is_some v has)
 data_last d b q quiet v has (inl h) =
     elim h.has [
       | inl said ↦ absurd (none_is_some v (sym said.0 ∙ has))
@@ -128,15 +129,15 @@ taken_put i d gone kept left need n how found made quiet q same none within spel
     (subst (λ (m : Message). Spells d (take n kept) m) (sym message) spells) left_is
 
 -- what is left is read anew
-pub taken_anew : (d : Dialect) (gone kept left : List ℕ) (old count : ℕ) (quiet_then quiet : Bool) (held : Option (Message × ℕ))
-    → MayDrop d gone kept old quiet_then → old ≤ most_kept d → length gone ≡ count → held ≡ None
+pub taken_anew : (d : Dialect) (gone kept left : List ℕ) (old count : ℕ) (lost_then lost : Message) (held : Option (Message × ℕ))
+    → MayDrop d gone kept old lost_then → old ≤ most_kept d → length gone ≡ count → held ≡ None
     → (length gone ≡ count) × NeedsMore d (gone ++ left) 1 × (IsSearched left 0 × HoldsMessage d (gone ++ left) held)
-    × MayDrop d gone left 1 quiet
-taken_anew d gone kept left old count quiet_then quiet held may few same none = (
+    × MayDrop d gone left 1 lost
+taken_anew d gone kept left old count lost_then lost held may few same none = (
   same,
   needs_one d (gone ++ left),
   (record { within = omega arith; no_end = refl }, holds_none d (gone ++ left) held none),
-  inr (omega arith, none_gone d gone kept old quiet_then may few),
+  inr (omega arith, none_gone d gone kept old lost_then may few),
 )
 
 -- a part behind the first bytes

@@ -1,5 +1,5 @@
 -- What becomes of unread bytes, of which some may have been dropped.
-use Rattle.std.proofs.Common.{◌≡◌, ℕ, ◌-◌, ◌<◌, ◌≤◌, Bool, List, [], ◌++◌, length, take, drop, Option, Some, None}
+use Rattle.std.proofs.Common.{◌≡◌, ℕ, ◌-◌, ◌<◌, ◌≤◌, List, [], ◌++◌, length, take, drop, Option, Some, None}
 use Rattle.std.proofs.Common.{refl, sym, ap, subst, ◌∙◌, length-append}
 use Rattle.std.proofs.Common.{arith, inl, inr, append_assoc, take_at, drop_at, take-append-drop, length-take-le}
 use Rattle.std.specs.Prelude.{◌⊎◌, min}
@@ -7,8 +7,6 @@ use Rattle.std.proofs.lemmas.Bool.{cases_lt}
 use Rattle.std.proofs.lemmas.List.{append-nil, nil_from_length, length-take, length-drop, take-append-le}
 use Rattle.proto.specs.declared.dialect.Dialect.{Dialect}
 use Rattle.proto.specs.declared.message.Message.{Message}
-use Rattle.proto.specs.declared.message.Message.TheVariants.{Local}
-use Rattle.proto.specs.declared.message.LocalKind.TheVariants as local
 use Rattle.proto.specs.Grammar.{most_kept, Spells}
 use Rattle.proto.specs.Lines.{IsSearched}
 use Rattle.proto.specs.Needs.{NeedsMore, IsDropped}
@@ -21,37 +19,37 @@ use Rattle.session_book.proofs.Needing.{spells_none, unfinished_short}
 -- ---- which bytes were dropped
 
 -- bytes are dropped where many are needed
-pub dropping : (d : Dialect) (gone kept : List ℕ) (need : ℕ) (quiet : Bool) → MayDrop d gone kept need quiet → most_kept d < need
-    → IsDropping d gone kept need quiet
-dropping d gone kept need quiet (inl h) large = h
-dropping d gone kept need quiet (inr h) large = absurd (omega (arith, h.0, large))
+pub dropping : (d : Dialect) (gone kept : List ℕ) (need : ℕ) (lost : Message) → MayDrop d gone kept need lost → most_kept d < need
+    → IsDropping d gone kept need lost
+dropping d gone kept need lost (inl h) large = h
+dropping d gone kept need lost (inr h) large = absurd (omega (arith, h.0, large))
 
 -- none are where few are
-pub none_gone : (d : Dialect) (gone kept : List ℕ) (need : ℕ) (quiet : Bool) → MayDrop d gone kept need quiet → need ≤ most_kept d
+pub none_gone : (d : Dialect) (gone kept : List ℕ) (need : ℕ) (lost : Message) → MayDrop d gone kept need lost → need ≤ most_kept d
     → gone ≡ []
-none_gone d gone kept need quiet (inl h) few = absurd (let l = h.large in omega (arith, l, few))
-none_gone d gone kept need quiet (inr h) few = h.1
+none_gone d gone kept need lost (inl h) few = absurd (let l = h.large in omega (arith, l, few))
+none_gone d gone kept need lost (inr h) few = h.1
 
 -- then all are kept that there are
-pub all_kept : (d : Dialect) (gone kept seen : List ℕ) (need : ℕ) (quiet : Bool) → MayDrop d gone kept need quiet → need ≤ most_kept d
+pub all_kept : (d : Dialect) (gone kept seen : List ℕ) (need : ℕ) (lost : Message) → MayDrop d gone kept need lost → need ≤ most_kept d
     → seen ≡ kept → seen ≡ gone ++ kept
-all_kept d gone kept seen need quiet may few seen_is =
-    seen_is ∙ ap (λ (x : List ℕ). x ++ kept) (sym (none_gone d gone kept need quiet may few))
+all_kept d gone kept seen need lost may few seen_is =
+    seen_is ∙ ap (λ (x : List ℕ). x ++ kept) (sym (none_gone d gone kept need lost may few))
 
 -- either all of the message has gone, or nothing is kept
-all_or_none : (d : Dialect) (gone kept : List ℕ) (need : ℕ) (quiet : Bool) → IsDropping d gone kept need quiet
+all_or_none : (d : Dialect) (gone kept : List ℕ) (need : ℕ) (lost : Message) → IsDropping d gone kept need lost
     → (length gone ≡ need) ⊎ ((length gone < need) × (kept ≡ []))
-all_or_none d gone kept need quiet h =
+all_or_none d gone kept need lost h =
     elim (cases_lt (length gone) need) [
       | inl fewer ↦ inr (fewer, h.nothing_kept fewer)
       | inr enough ↦ let within = h.within in inl (omega (arith, enough, within))
     ]
 
 -- once as many bytes are there as are needed, all of the message has gone
-pub all_gone : (d : Dialect) (gone kept : List ℕ) (need : ℕ) (quiet : Bool) → IsDropping d gone kept need quiet
+pub all_gone : (d : Dialect) (gone kept : List ℕ) (need : ℕ) (lost : Message) → IsDropping d gone kept need lost
     → need ≤ length (gone ++ kept) → length gone ≡ need
-all_gone d gone kept need quiet h enough =
-    elim (all_or_none d gone kept need quiet h) [
+all_gone d gone kept need lost h enough =
+    elim (all_or_none d gone kept need lost h) [
       | inl all ↦ all
       | inr none ↦
           let same : gone ++ kept ≡ gone = ap (λ (x : List ℕ). gone ++ x) none.1 ∙ append-nil gone in
@@ -62,13 +60,13 @@ all_gone d gone kept need quiet h enough =
 -- ---- the calls
 
 -- A piece is split: as much of it is dropped as is left of the message, and the rest is kept.
-pub appended : (d : Dialect) (gone kept front behind piece : List ℕ) (need n : ℕ) (quiet : Bool) → IsDropping d gone kept need quiet
+pub appended : (d : Dialect) (gone kept front behind piece : List ℕ) (need n : ℕ) (lost : Message) → IsDropping d gone kept need lost
     → n ≤ need - length gone → front ≡ take n piece → behind ≡ drop n piece
     → (gone ++ front) ++ (kept ++ behind) ≡ (gone ++ kept) ++ piece
-appended d gone kept front behind piece need n quiet h few front_is behind_is =
+appended d gone kept front behind piece need n lost h few front_is behind_is =
     let whole : front ++ behind ≡ piece =
     ap (λ (x : List ℕ). x ++ behind) front_is ∙ ap (λ (x : List ℕ). take n piece ++ x) behind_is ∙ take-append-drop n piece in
-    elim (all_or_none d gone kept need quiet h) [
+    elim (all_or_none d gone kept need lost h) [
       | inl all ↦
           let nothing : front ≡ [] = nil_from_length front (rw front_is (omega (arith, all, few, length-take n piece))) in
           let piece_is : behind ≡ piece = ap (λ (x : List ℕ). x ++ behind) (sym nothing) ∙ whole in
@@ -82,10 +80,10 @@ appended d gone kept front behind piece need n quiet h few front_is behind_is =
     ]
 
 -- as long as less than all of the message has gone, nothing is kept
-pub drops_more : (d : Dialect) (gone kept front behind piece : List ℕ) (need n : ℕ) (quiet : Bool) → IsDropping d gone kept need quiet
+pub drops_more : (d : Dialect) (gone kept front behind piece : List ℕ) (need n : ℕ) (lost : Message) → IsDropping d gone kept need lost
     → n ≡ min (need - length gone) (length piece) → front ≡ take n piece → behind ≡ drop n piece
-    → IsDropping d (gone ++ front) (kept ++ behind) need quiet
-drops_more d gone kept front behind piece need n quiet h n_is front_is behind_is =
+    → IsDropping d (gone ++ front) (kept ++ behind) need lost
+drops_more d gone kept front behind piece need n lost h n_is front_is behind_is =
     let taken : length front ≡ length (take n piece) = ap (λ (x : List ℕ). length x) front_is in
     let left : length behind ≡ length (drop n piece) = ap (λ (x : List ℕ). length x) behind_is in
     let within = h.within in record {
@@ -108,14 +106,14 @@ with_unread i d b after need f same after_is =
     (ap (λ (x : List ℕ). record { dialect = d; unread = x; need = need }) after_is)
 
 -- all of a message that is dropped has come
-pub whole_dropped : (i : InputState) (d : Dialect) (gone kept : List ℕ) (need : ℕ) (quiet : Bool)
-    → record { dialect = d; unread = gone ++ kept; need = need } ≡ i → IsDropping d gone kept need quiet
-    → i.need ≤ length i.unread → Begins i (Local (local.TooLarge quiet)) need
-whole_dropped i d gone kept need quiet same h enough =
-    subst (λ (j : InputState). j.need ≤ length j.unread → Begins j (Local (local.TooLarge quiet)) need) same
+pub whole_dropped : (i : InputState) (d : Dialect) (gone kept : List ℕ) (need : ℕ) (lost : Message)
+    → record { dialect = d; unread = gone ++ kept; need = need } ≡ i → IsDropping d gone kept need lost
+    → i.need ≤ length i.unread → Begins i lost need
+whole_dropped i d gone kept need lost same h enough =
+    subst (λ (j : InputState). j.need ≤ length j.unread → Begins j lost need) same
     (λ there.
-    let all = all_gone d gone kept need quiet h there in
-    let spelled : Spells d (gone ++ []) (Local (local.TooLarge quiet)) =
+    let all = all_gone d gone kept need lost h there in
+    let spelled : Spells d (gone ++ []) lost =
     h.spells [] (ap (λ (x : List ℕ). length x) (append-nil gone) ∙ all) in
     record {
       within = there;
@@ -152,13 +150,13 @@ holds_behind d b piece (Some (m, n)) h = let s = h.spells in
     }
 
 -- the parser said that the message is to be dropped
-pub starts_dropping : (d : Dialect) (gone kept seen gone_now kept_now : List ℕ) (old need count : ℕ) (quiet_then quiet : Bool)
-    → MayDrop d gone kept old quiet_then → old ≤ most_kept d → seen ≡ kept → IsDropped d seen need quiet
+pub starts_dropping : (d : Dialect) (gone kept seen gone_now kept_now : List ℕ) (old need count : ℕ) (lost_then lost : Message)
+    → MayDrop d gone kept old lost_then → old ≤ most_kept d → seen ≡ kept → IsDropped d seen need lost
     → gone_now ≡ gone ++ seen → count ≡ length kept → kept_now ≡ drop count kept
     → (length gone_now ≡ count) × NeedsMore d (gone_now ++ kept_now) need
-    × (IsSearched kept_now 0 × HoldsMessage d (gone_now ++ kept_now) None) × MayDrop d gone_now kept_now need quiet
-starts_dropping d gone kept seen gone_now kept_now old need count quiet_then quiet may few seen_is h gone_is count_is kept_is =
-    let none = none_gone d gone kept old quiet_then may few in
+    × (IsSearched kept_now 0 × HoldsMessage d (gone_now ++ kept_now) None) × MayDrop d gone_now kept_now need lost
+starts_dropping d gone kept seen gone_now kept_now old need count lost_then lost may few seen_is h gone_is count_is kept_is =
+    let none = none_gone d gone kept old lost_then may few in
     let first : gone_now ≡ seen = gone_is ∙ ap (λ (x : List ℕ). x ++ seen) none in
     let len : length seen ≡ length kept = ap (λ (x : List ℕ). length x) seen_is in
     let left : kept_now ≡ [] = kept_is ∙ ap (λ (x : List ℕ). drop count x) (sym (append-nil kept)) ∙ drop_at kept [] count (sym count_is) in
@@ -195,10 +193,10 @@ pub record Took (gone kept : List ℕ) (n : ℕ) : Type 0 where
   pub left : drop (n - length gone) kept ≡ drop n (gone ++ kept)
 
 -- all of a message that was dropped has gone
-took_dropped : (i : InputState) (d : Dialect) (gone kept : List ℕ) (need n : ℕ) (quiet : Bool) (m : Message)
-    → record { dialect = d; unread = gone ++ kept; need = need } ≡ i → IsDropping d gone kept need quiet → NeedsMore d (gone ++ kept) need
+took_dropped : (i : InputState) (d : Dialect) (gone kept : List ℕ) (need n : ℕ) (lost : Message) (m : Message)
+    → record { dialect = d; unread = gone ++ kept; need = need } ≡ i → IsDropping d gone kept need lost → NeedsMore d (gone ++ kept) need
     → Begins i m n → Took gone kept n
-took_dropped i d gone kept need n quiet m same h needs begins =
+took_dropped i d gone kept need n lost m same h needs begins =
     subst (λ (j : InputState). Begins j m n → Took gone kept n) same
     (λ (found : Begins (record { dialect = d; unread = gone ++ kept; need = need }) m n).
     let within = found.within in
@@ -208,10 +206,10 @@ took_dropped i d gone kept need n quiet m same h needs begins =
       | inl fewer ↦ absurd (spells_none d (gone ++ kept) need needs fewer n m spells)
       | inr there ↦ there
     ] in
-    let all = all_gone d gone kept need quiet h enough in
-    let dropped = whole_dropped (record { dialect = d; unread = gone ++ kept; need = need }) d gone kept need quiet refl h enough in
+    let all = all_gone d gone kept need lost h enough in
+    let dropped = whole_dropped (record { dialect = d; unread = gone ++ kept; need = need }) d gone kept need lost refl h enough in
     let same_length : need ≡ n =
-    one_length d (gone ++ kept) (Local (local.TooLarge quiet)) m need n enough within dropped.spells spells in
+    one_length d (gone ++ kept) lost m need n enough within dropped.spells spells in
     let none : n - length gone ≡ 0 = omega (arith, all, same_length) in
     record {
       enough = omega (arith, all, same_length);
@@ -236,11 +234,11 @@ took_kept i d gone kept need n m same none begins =
     }) begins
 
 -- the bytes of the message are taken away
-pub took : (i : InputState) (d : Dialect) (gone kept : List ℕ) (need n : ℕ) (quiet : Bool) (m : Message)
-    → record { dialect = d; unread = gone ++ kept; need = need } ≡ i → MayDrop d gone kept need quiet → NeedsMore d (gone ++ kept) need
+pub took : (i : InputState) (d : Dialect) (gone kept : List ℕ) (need n : ℕ) (lost : Message) (m : Message)
+    → record { dialect = d; unread = gone ++ kept; need = need } ≡ i → MayDrop d gone kept need lost → NeedsMore d (gone ++ kept) need
     → Begins i m n → Took gone kept n
-took i d gone kept need n quiet m same (inl h) needs begins = took_dropped i d gone kept need n quiet m same h needs begins
-took i d gone kept need n quiet m same (inr h) needs begins = took_kept i d gone kept need n m same h.1 begins
+took i d gone kept need n lost m same (inl h) needs begins = took_dropped i d gone kept need n lost m same h needs begins
+took i d gone kept need n lost m same (inr h) needs begins = took_kept i d gone kept need n m same h.1 begins
 
 -- what is left is read anew
 pub read_anew : (i : InputState) (d : Dialect) (gone kept none left : List ℕ) (need n : ℕ)

@@ -194,7 +194,7 @@ pub record IsStalled (book : BookState) (session : ℕ) : Type 0 where
   pub much : MayStall s
 
 -- the session is open, and no piece of it is held
-pub record MayRead (book : BookState) (session : ℕ) : Type 0 where
+pub record MayResume (book : BookState) (session : ℕ) : Type 0 where
   pub s : SessionState
   pub there : session_of book session ≡ Some s
   pub none_held : s.held ≡ []

@@ -1,10 +1,9 @@
 -- The unread bytes of a session, and what they begin with.
-use Rattle.std.specs.Prelude.{◌≡◌, ℕ, ◌+◌, ◌-◌, ◌<◌, ◌≤◌, ◌⊎◌, Bool, List, [], ◌++◌, length, take, drop, max, nat_lt, if◌then◌else◌}
+use Rattle.std.specs.Prelude.{◌≡◌, ℕ, ◌+◌, ◌-◌, ◌<◌, ◌≤◌, ◌⊎◌, List, [], ◌++◌, length, take, drop, max, nat_lt, if◌then◌else◌}
 use Rattle.std.specs.Prelude.{Option, IfSome, Result, Ok, Err}
 use Rattle.proto.specs.declared.dialect.Dialect.{Dialect}
 use Rattle.proto.specs.declared.message.Message.{Message}
-use Rattle.proto.specs.declared.message.Message.TheVariants.{Ask, Local}
-use Rattle.proto.specs.declared.message.LocalKind.TheVariants as local
+use Rattle.proto.specs.declared.message.Message.TheVariants.{Ask}
 use Rattle.proto.specs.declared.no_memory.NoMemory.{NoMemory}
 use Rattle.proto.specs.Grammar.{most_kept, Spells}
 use Rattle.proto.specs.Needs.{IsUnfinished}
@@ -27,16 +26,16 @@ max_unread d need = if nat_lt (most_kept d) need then 262144 else max 262144 (ne
 abbrev pub kept_length : Dialect → List ℕ → ℕ → ℕ
 kept_length d unread need = if nat_lt (most_kept d) need then length unread - need else length unread
 
--- The bytes gone are the first of a message that is too large, and nothing is kept before all of these have come.
-pub record IsDropping (d : Dialect) (gone kept : List ℕ) (need : ℕ) (quiet : Bool) : Type 0 where
+-- The bytes gone are the first of this message, and nothing is kept before all of these have come.
+pub record IsDropping (d : Dialect) (gone kept : List ℕ) (need : ℕ) (m : Message) : Type 0 where
   pub large : most_kept d < need
   pub within : length gone ≤ need
   pub nothing_kept : length gone < need → kept ≡ []
-  pub spells : (more : List ℕ) → length (gone ++ more) ≡ need → Spells d (gone ++ more) (Local (local.TooLarge quiet))
+  pub spells : (more : List ℕ) → length (gone ++ more) ≡ need → Spells d (gone ++ more) m
 
 -- bytes are dropped, or none are
-abbrev pub MayDrop : Dialect → List ℕ → List ℕ → ℕ → Bool → Type 0
-MayDrop d gone kept need quiet = IsDropping d gone kept need quiet ⊎ ((need ≤ most_kept d) × (gone ≡ []))
+abbrev pub MayDrop : Dialect → List ℕ → List ℕ → ℕ → Message → Type 0
+MayDrop d gone kept need m = IsDropping d gone kept need m ⊎ ((need ≤ most_kept d) × (gone ≡ []))
 
 -- the first n bytes spell the message
 pub record Begins (i : InputState) (m : Message) (n : ℕ) : Type 0 where

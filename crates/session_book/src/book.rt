@@ -64,7 +64,7 @@ impl Model for Book {
 impl Book {
     ghost use Rattle.session_book.specs.Book.{session_of, out_of, ChangesSession, Receives, FeedsHeldOf};
     ghost use Rattle.session_book.specs.Book.{OnlyAt, IsKnown, NextAsk, Settles, IsUnemptied, IsStalled};
-    ghost use Rattle.session_book.specs.Book.{MayRead};
+    ghost use Rattle.session_book.specs.Book.{MayResume};
 
     /// No session is open yet. The worker's number is kept for its owner.
     pub fn new(alloc: Global, worker: usize, dialect: Dialect) -> Self
@@ -93,6 +93,14 @@ impl Book {
         }
     }
 
+    /// A `get` waits from now on whose answer is likely to bring output and the answers on their way above so many bytes, in place
+    /// of 67,108,864.
+    pub fn set_output_budget(&mut self, bytes: usize)
+        ensures { self.new ≡ self.old }
+    {
+        self.upkeep.load.output_budget = bytes;
+    }
+
     /// Opens a session. Numbers are above 0 and rise.
     pub fn open(&mut self, session: u64) -> Result<(), OpenFault>
         ensures known { (result ≡ Err OpenFault.Known) ↔ IsKnown self.old session }
@@ -108,9 +116,11 @@ impl Book {
             return Err(OpenFault::NoMemory);
         }
         let new = Session::new(self.alloc, self.dialect);
-        let Ok(_) = self.sessions.insert(session, new) else {
+        let Ok(replaced) = self.sessions.insert(session, new) else {
             return Err(OpenFault::NoMemory);
         };
+        // (there is none, as numbers rise)
+        drop(replaced);
         self.greatest = session;
         self.opened += 1;
         Ok(())
@@ -304,6 +314,11 @@ impl Book {
         }
     }
 
+    /// Whether no session waits for memory, or is to: not for room for its next answer, and not for its large message.
+    pub fn has_memory_for_all(&self) -> bool {
+        self.upkeep.ready.none_waits_for_memory()
+    }
+
     /// Whether a session waits for memory: for room for its next answer, or for its large message.
     pub fn waits_for_memory(&self) -> bool {
         self.waits_for_room() || self.waits_to_read()
@@ -364,7 +379,7 @@ impl Book {
     /// has ended. It is to be resumed, unless a piece of it is held, which is fed before.
     pub fn next_to_resume(&mut self, has_ended: bool) -> Option<u64>
         ensures same { self.new ≡ self.old }
-        ensures open { IfSome result (MayRead self.old) }
+        ensures open { IfSome result (MayResume self.old) }
     {
         let (session, _) = self.upkeep.ready.first(Task::ReadOn)?;
         let Some(place) = find(&self.sessions, session, &mut self.upkeep.ready.place) else {

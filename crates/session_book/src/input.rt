@@ -1,15 +1,16 @@
-//! The unread bytes of a session, and what they begin with. Those of a message whose block is too large are dropped as they come.
+//! The unread bytes of a session, and what they begin with. Those of a message whose item is too large are dropped as they come.
 
-ghost use Rattle.std.specs.Prelude.{◌≡◌, ◌≤◌, ◌<◌, [], ◌++◌, length, drop, Ok, OnOk, OnErr};
+ghost use Rattle.std.specs.Prelude.{◌≡◌, ◌≤◌, ◌<◌, [], ◌++◌, length, drop, Ok, IfOk, OnOk, OnErr};
+ghost use Rattle.std.specs.Prelude.{option_map};
 ghost use Rattle.std.specs.Bool.{OnTrue, OnFalse};
 ghost use Rattle.proto.specs.declared.message.Message.{Message};
-ghost use Rattle.proto.specs.Grammar.{most_kept, SpellsNone};
+ghost use Rattle.proto.specs.Grammar.{most_kept, refused_by, SpellsNone};
 ghost use Rattle.proto.specs.Needs.{IsDropped};
 
 use crate::buffer::{Buffer, SpareBuffers, Use};
 use proto::{
-    ByteString, Dialect, LocalKind, Message, MessageView, NextView, NoMemory, Put, Request, Trace,
-    next_view_behind, request_to_store, to_message,
+    ByteString, Dialect, Message, MessageView, NextView, NoMemory, Put, Request, Trace,
+    next_view_behind, request_to_store, to_message, too_large,
 };
 use std::alloc::Global;
 use std::marker::Model;
@@ -39,6 +40,26 @@ pub(crate) enum Found {
     Taken(Request, bool, usize),
 }
 
+/// The key, lent, if there is one.
+fn lent_key(key: &Option<ByteString>) -> Option<&[u8]>
+    ensures { option_map (λ key. key.now) result ≡ key.now }
+{
+    match key {
+        Some(key) => Some(key.as_slice()),
+        None => None,
+    }
+}
+
+/// The key, copied, if there is one. NoMemory if out of memory.
+fn copied_key(alloc: Global, key: Option<&[u8]>) -> Result<Option<ByteString>, NoMemory>
+    ensures { IfOk result (λ copy. copy ≡ option_map (λ key. key.now) key.entry) }
+{
+    match key {
+        Some(key) => Ok(Some(ByteString::from_slice(alloc, key)?)),
+        None => Ok(None),
+    }
+}
+
 /// Unread bytes. Contracts see those that were dropped too.
 #[derive(Drop)]
 pub(crate) struct Input {
@@ -52,7 +73,9 @@ pub(crate) struct Input {
     dropped: usize,
     /// Which these were.
     gone: Trace<u8>,
-    /// Whether the message that they begin has `noreply`.
+    /// The key that the message takes out which they begin, if it is a `set`.
+    key: Option<ByteString>,
+    /// Whether it has `noreply`.
     noreply: bool,
     /// The message that was found and is held, and how many bytes spell it.
     held: Option<(Message, usize)>,
@@ -62,6 +85,7 @@ impl Model for Input {
     ghost use Rattle.std.specs.Prelude.{◌≡◌, ◌++◌, length};
     ghost use Rattle.proto.specs.Lines.{IsSearched};
     ghost use Rattle.proto.specs.Needs.{NeedsMore};
+    ghost use Rattle.proto.specs.Grammar.{refused_by};
     ghost use Rattle.session_book.specs.Input.{InputState, MayDrop, HoldsMessage};
 
     ghost Value = { InputState };
@@ -71,7 +95,7 @@ impl Model for Input {
     ghost invariant = { λ a. (length a.gone.items ≡ a.dropped)
         × NeedsMore a.dialect (a.gone.items ++ a.kept) a.need
         × (IsSearched a.kept a.searched × HoldsMessage a.dialect (a.gone.items ++ a.kept) a.held)
-        × MayDrop a.dialect a.gone.items a.kept a.need a.noreply };
+        × MayDrop a.dialect a.gone.items a.kept a.need (refused_by a.key a.noreply) };
 }
 
 impl Input {
@@ -87,6 +111,7 @@ impl Input {
             need: 1,
             dropped: 0,
             gone: Trace::new(),
+            key: None,
             noreply: false,
             held: None,
         }
@@ -174,7 +199,8 @@ impl Input {
         }
         if self.need > self.dialect.most_kept() {
             // All bytes of a message that is dropped have come.
-            let message = Message::Local(LocalKind::TooLarge(self.noreply));
+            let view = too_large(lent_key(&self.key), self.noreply);
+            let message = to_message(alloc, view)?;
             return Ok(Found::Copied(message, self.need));
         }
         match next_view_behind(self.dialect, self.kept.as_slice(), &mut self.searched) {
@@ -202,14 +228,23 @@ impl Input {
                 self.need = count;
                 Ok(Found::Nothing)
             }
-            NextView::Drop(need, noreply) => Ok(self.start_dropping(need, noreply, spares)),
+            NextView::Drop(need, key, noreply) => {
+                let key = copied_key(alloc, key)?;
+                Ok(self.start_dropping(need, key, noreply, spares))
+            }
         }
     }
 
     /// The message is too large, and isn't kept: what there is of it is dropped, and so is what comes of it.
-    fn start_dropping(&mut self, need: usize, noreply: bool, spares: &mut SpareBuffers) -> Found
+    fn start_dropping(
+        &mut self,
+        need: usize,
+        key: Option<ByteString>,
+        noreply: bool,
+        spares: &mut SpareBuffers,
+    ) -> Found
         requires none_dropped { self.old.need ≤ most_kept self.old.dialect }
-        requires dropped { IsDropped self.old.dialect self.old.unread need noreply }
+        requires dropped { IsDropped self.old.dialect self.old.unread need (refused_by key noreply) }
         ensures { Finds self.old (Ok result) self.new }
     {
         self.held = None;
@@ -218,6 +253,7 @@ impl Input {
         self.kept.discard(self.dropped, Use::Input, spares);
         self.searched = 0;
         self.need = need;
+        self.key = key;
         self.noreply = noreply;
         Found::Nothing
     }
@@ -238,6 +274,7 @@ impl Input {
         self.held = None;
         self.kept.discard(n - self.dropped, Use::Input, spares);
         self.gone = Trace::new();
+        self.key = None;
         self.dropped = 0;
         self.searched = 0;
         self.need = 1;

@@ -16,4 +16,5 @@ mod upkeep;
 pub use book::Book;
 pub use causes::{EndCause, OpenFault, Received, Settled, Unasked};
 pub use fault_line::FaultLine;
+pub use load::OUTPUT_BUDGET;
 pub use ready_queues::Task;

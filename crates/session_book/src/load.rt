@@ -18,15 +18,9 @@ const MAX_COMING: usize = 1_048_576;
 /// has 1,021 keys at most, no more than 160 MiB.
 pub const MAX_KEYS: usize = 255;
 
-/// The bytes that waiting output and the answers on their way may take, over all sessions. A `get` that is likely to exceed
-/// them waits, but for one whose answer is small.
+/// The bytes that waiting output and the answers on their way may take, over all sessions, unless the owner says another number.
+/// A `get` that is likely to exceed them waits, but for one whose answer is small.
 pub const OUTPUT_BUDGET: usize = 67_108_864;
-
-/// The part of the budget that is enough for any `get`, since one strict answer may have 134 MB.
-const ENOUGH_FOR_ANY: usize = 33_554_432;
-
-/// The bytes of waiting output above which each `get` for more than one key waits, however little it is likely to take.
-const MOST_OUTPUT: usize = 201_326_592;
 
 /// The bytes of large messages for which there is room, over all sessions. A session whose message would exceed them isn't read on.
 pub const INPUT_BUDGET: usize = 67_108_864;
@@ -61,6 +55,11 @@ impl KeyBytes {
             self.bytes = (length / keys).max(self.bytes / 2).max(1);
         }
     }
+
+    /// Whether anything was answered yet.
+    fn is_known(self) -> bool {
+        self.bytes > 0
+    }
 }
 
 /// How much is unfinished in all sessions of a book, and what it counts for `stats`. No clause speaks of it.
@@ -76,6 +75,8 @@ pub(crate) struct Load {
     key_bytes: KeyBytes,
     /// The bytes of output that weren't given yet.
     pub(crate) output: usize,
+    /// The bytes that output and the answers on their way may take.
+    pub(crate) output_budget: usize,
     /// The bytes of large messages for which room is reserved.
     reserved: usize,
     counts: BookCounts,
@@ -89,6 +90,7 @@ impl Load {
             coming_of: [0; WINDOW as usize],
             key_bytes: KeyBytes::default(),
             output: 0,
+            output_budget: OUTPUT_BUDGET,
             reserved: 0,
             counts: BookCounts::default(),
         }
@@ -104,17 +106,21 @@ impl Load {
         }
     }
 
-    /// Whether a `get` for so many keys goes on whatever waits.
-    pub(crate) fn is_small(&self, keys: usize, likely: usize) -> bool {
-        likely <= SMALL_ANSWER && (keys <= 1 || self.output <= MOST_OUTPUT)
+    /// Whether a `get` for so many keys goes on whatever waits, if keys took so much in the last one of its session. While output
+    /// takes three times the budget, only one for a single key does, and not if it is the first one of its session.
+    pub(crate) fn is_small(&self, keys: usize, likely: usize, own: KeyBytes) -> bool {
+        let most = self.output_budget.saturating_mul(3);
+        likely <= SMALL_ANSWER && (self.output <= most || keys <= 1 && own.is_known())
     }
 
-    /// Whether an answer that is likely to take so much fits into the budget.
+    /// Whether an answer that is likely to take so much fits into the budget. Half of the budget is enough for any, since one strict
+    /// answer may have 134 MB.
     pub(crate) fn has_room_for(&self, likely: usize) -> bool {
+        let budget = self.output_budget;
         self.output
             .saturating_add(self.coming)
-            .saturating_add(likely.min(ENOUGH_FOR_ANY))
-            <= OUTPUT_BUDGET
+            .saturating_add(likely.min(budget / 2))
+            <= budget
     }
 
     /// Whether no large answer is on its way.

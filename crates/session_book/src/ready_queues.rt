@@ -202,6 +202,11 @@ impl ReadyQueues {
         self.count(Task::Pause) == 0 && self.count(Task::ReadOn) == 0
     }
 
+    /// Whether no session waits for memory, or is to be paused until there is some.
+    pub(crate) fn none_waits_for_memory(&self) -> bool {
+        self.count(Task::AskForRoom) == 0 && self.none_waits_to_read()
+    }
+
     /// How many sessions are to be taken up for the task.
     pub(crate) fn count(&self, task: Task) -> usize {
         self.queues[task as usize].sessions.len()

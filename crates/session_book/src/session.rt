@@ -507,10 +507,13 @@ impl Session {
     }
 }
 
-/// What a message waits for before it is asked, if keys took so much in the last answer of its session: none but a `get` does.
+/// What a message waits for before it is asked, if keys took so much in the last answer of its session: none but a `get` or a `gat`
+/// does.
 fn waiting_of(message: &Message, own: KeyBytes, upkeep: &mut Upkeep) -> Option<Waiting> {
     match message {
-        Message::Ask(Request::Get { keys, .. }, _) => upkeep.waiting(keys.len(), own),
+        Message::Ask(Request::Get { keys, .. } | Request::GetAndTouch { keys, .. }, _) => {
+            upkeep.waiting(keys.len(), own)
+        }
         _ => None,
     }
 }

@@ -6,7 +6,7 @@ use crate::buffer::{LARGE_MESSAGE, SpareBuffers, Use};
 use crate::fault_line::FaultLine;
 use crate::load::{KeyBytes, Load};
 use crate::ready_queues::{ReadyQueues, Task};
-use proto::{Answered, Reply, Request, SpareBuffer};
+use proto::{Answered, Keys, Reply, Request, SpareBuffer};
 use std::alloc::Global;
 use std::mem;
 
@@ -22,11 +22,19 @@ pub(crate) struct Waiting {
     pub(crate) likely: usize,
 }
 
-/// For how many keys a request is.
-pub(crate) fn key_count(request: &Request) -> usize {
+/// The keys whose hits a request shows, if it is one that shows hits.
+fn shown_keys(request: &Request) -> Option<&Keys> {
     match request {
-        Request::Get { keys, .. } => keys.len(),
-        _ => 0,
+        Request::Get { keys, .. } | Request::GetAndTouch { keys, .. } => Some(keys),
+        _ => None,
+    }
+}
+
+/// How many keys a request is to show.
+pub(crate) fn key_count(request: &Request) -> usize {
+    match shown_keys(request) {
+        Some(keys) => keys.len(),
+        None => 0,
     }
 }
 
@@ -64,7 +72,7 @@ impl Upkeep {
     pub(crate) fn waiting(&mut self, keys: usize, own: KeyBytes) -> Option<Waiting> {
         let is_let_in = mem::take(&mut self.ready.is_let_in);
         let likely = self.load.likely(keys, own);
-        if is_let_in || self.load.is_small(keys, likely) {
+        if is_let_in || self.load.is_small(keys, likely, own) {
             return None;
         }
         let must_queue = self.ready.count(Task::AskForRoom) > 0;
@@ -92,7 +100,7 @@ impl Upkeep {
     {
         let keys = key_count(request);
         self.load.asked(number, keys, self.load.likely(keys, own));
-        if let Request::Get { keys, .. } = request {
+        if let Some(keys) = shown_keys(request) {
             let mut hits = Vec::new(keys.allocator());
             self.spares.lend(Use::Hits, &mut hits);
             let _ = request.lend_buffer(SpareBuffer::from_vec(hits));

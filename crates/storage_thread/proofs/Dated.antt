@@ -1,34 +1,17 @@
 -- A history that goes on with each entry as its request asks.
-use Rattle.std.proofs.Common.{◌≡◌, ◌⊎◌, Bool, true, List, [], ◌∷◌, ◌++◌, Some, refl, sym, subst, ◌∙◌, inl, inr}
-use Rattle.std.proofs.lemmas.Option.{none-some}
+use Rattle.std.proofs.Common.{◌≡◌, Bool, true, List, [], ◌∷◌, ◌++◌, refl, sym, subst, ◌∙◌}
 use Rattle.proto.specs.declared.history.Answered.{Answered}
-use Rattle.proto.specs.declared.message.Request.{Request}
-use Rattle.proto.specs.declared.message.Request.TheVariants.{Stats}
-use Rattle.proto.specs.declared.message.Reply.{Reply}
 use Rattle.proto.specs.Sizes.{Sizes}
 use Rattle.proto.specs.Cache.{Cache, empty_cache}
 use Rattle.proto.specs.History.{Chain}
-use Rattle.engine.specs.Outcomes.{outcome_at}
-use Rattle.engine.specs.Deadlines.{StoresAsAsked}
 use Rattle.engine.specs.Reaching.{last_cache}
 use Rattle.engine.proofs.ReachingLemmas.{IsStepOf, chain_more, last_more}
-use Rattle.storage_thread.specs.Deadlines.{AlwaysStoresAsAsked, LeadsAsAsked}
-
--- what an entry stores, by the reply of its store
-pub stores_told : (sizes : Sizes) (before : Cache) (e : Answered) (first : Reply) (after : Cache)
-    → (first ≡ e.reply) ⊎ (e.request ≡ Stats) → StoresAsAsked sizes before e.moment e.request first after
-    → StoresAsAsked sizes before e.moment e.request e.reply after
-stores_told sizes before e first after (inl same) stores =
-    subst (λ (r : Reply). StoresAsAsked sizes before e.moment e.request r after) same stores
-stores_told sizes before e first after (inr stats) stores = λ key entry stored other is near.
-    (let asks : (outcome_at sizes before e.moment Stats).stored ≡ Some key =
-    subst (λ (q : Request). (outcome_at sizes before e.moment q).stored ≡ Some key) stats stored in
-    absurd (none-some key asks))
+use Rattle.storage_thread.specs.Deadlines.{IsExactlyDone, AlwaysStoresAsAsked, LeadsAsAsked}
 
 -- one more step
 stores_more : (sizes : Sizes) (before : Cache) (h : List Answered) (caches : List Cache) (e : Answered) (after : Cache)
     → Chain sizes before h caches → AlwaysStoresAsAsked sizes before h caches
-    → StoresAsAsked sizes (last_cache before caches) e.moment e.request e.reply after
+    → IsExactlyDone sizes (last_cache before caches) e after
     → AlwaysStoresAsAsked sizes before (h ++ e ∷ []) (caches ++ after ∷ [])
 stores_more sizes before [] [] e after c was now = (now, tt)
 stores_more sizes before [] (x ∷ caches) e after c was now = absurd c
@@ -45,7 +28,7 @@ dated_first sizes h cache exact none is on =
 -- one more request
 pub dated_more : (sizes : Sizes) (h : List Answered) (c after : Cache) (e : Answered) (old new : Bool)
     → LeadsAsAsked sizes h c old → IsStepOf sizes c e after → new ≡ old
-    → (old ≡ true → StoresAsAsked sizes c e.moment e.request e.reply after)
+    → (old ≡ true → IsExactlyDone sizes c e after)
     → LeadsAsAsked sizes (h ++ e ∷ []) after new
 dated_more sizes h c after e old new l s same stores = record {
   goes_on = same ∙ l.goes_on;
@@ -54,5 +37,5 @@ dated_more sizes h c after e old new l s same stores = record {
       (subst (λ (z : Cache). IsStepOf sizes z e after) (sym l.cache_is) s);
   cache_is = last_more (empty_cache 0) l.caches after;
   stores = stores_more sizes (empty_cache 0) h l.caches e after l.chain l.stores
-      (subst (λ (z : Cache). StoresAsAsked sizes z e.moment e.request e.reply after) (sym l.cache_is) (stores l.goes_on));
+      (subst (λ (z : Cache). IsExactlyDone sizes z e after) (sym l.cache_is) (stores l.goes_on));
 }

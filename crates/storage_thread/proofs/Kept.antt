@@ -18,7 +18,7 @@ use Rattle.proto.specs.declared.message.Request.TheVariants.{Stats}
 use Rattle.proto.specs.declared.message.Reply.{Reply}
 use Rattle.proto.proofs.HistoryLemmas.{IsRefusedRead}
 use Rattle.proto.proofs.Outcomes.{IsGet}
-use Rattle.engine.specs.Outcomes.{outcome_at, needs_memory}
+use Rattle.engine.specs.Outcomes.{outcome_at}
 use Rattle.engine.specs.Keeping.{IsWithinBound, stored_in, ForgetsNone}
 use Rattle.engine.specs.Reaching.{last_cache}
 use Rattle.storage_thread.specs.Keeping.{stored_size, stored_bytes, ForgetsNothing, MayForgetNothing, KeepsSoFar, LeadsKeeping}
@@ -95,13 +95,7 @@ keeps_stats : (sizes : Sizes) (before : Cache) (t : ℕ) (first reply : Reply) (
 keeps_stats sizes before t first reply after other none =
     elim none [ inl refused ↦ absurd (other refused) | inr is ↦ inr is ]
 
--- a `stats` needs no memory of its store
-pub needs_none : (may_refuse : Bool) (sizes : Sizes) (before : Cache) (t : ℕ) (q : Request) → q ≡ Stats
-    → needs_memory may_refuse (outcome_at sizes before t q) ≡ false
-needs_none true sizes before t q is = rw is refl
-needs_none false sizes before t q is = rw is refl
-
--- an entry that is refused memory, by the reply of its store, is a `get` or a `stats`
+-- an entry that is refused memory, by the reply of its store, shows hits or is a `stats`
 pub refused_told : (e : Answered) (first : Reply) → (first ≡ e.reply) ⊎ (e.request ≡ Stats)
     → (first ≡ NoMemory → IsGet e.request) → IsRefusedRead e
 refused_told e first told read none = elim told [ inl same ↦ inl (read (same ∙ none)) | inr is ↦ inr is ]

@@ -23,6 +23,7 @@ use Rattle.proto.proofs.Outcomes.{deadline_in, none_act}
 use Rattle.engine.specs.Outcomes.{outcome_at}
 use Rattle.engine.specs.Keeping.{IsWithinBound, stored_in, ForgetsNone}
 use Rattle.engine.specs.Reaching.{last_cache}
+use Rattle.engine.proofs.CarryingLemmas.{one_step}
 use Rattle.storage_thread.specs.Keeping.{stored_size}
 
 -- ---- entries
@@ -108,7 +109,8 @@ undated_chain sizes before [] (x ∷ caches) chain sets none = absurd chain
 undated_chain sizes before (e ∷ h) [] chain sets none = absurd chain
 undated_chain sizes before (e ∷ h) (x ∷ caches) chain sets none =
     undated_chain sizes x h caches chain.3 sets.1
-    (undated_step sizes before e.moment e.request chain.0 x chain.2 sets.0 none)
+    (undated_step sizes before e.moment e.request chain.0 x
+    (one_step sizes before e.moment e.request chain.0 x sets.0 chain.2) sets.0 none)
 
 -- what is left is all that was asked for
 pub all_left : (sizes : Sizes) (before : Cache) (t : ℕ) (q : Request) (reply : Reply) (after : Cache)

@@ -1,16 +1,25 @@
 -- Histories in which each entry has the deadline that was asked for.
-use Rattle.std.specs.Prelude.{◌≡◌, ⊤, Bool, true, List, ◌∷◌}
+use Rattle.std.specs.Prelude.{◌≡◌, ⊤, ◌⊎◌, Bool, true, List, ◌∷◌}
 use Rattle.proto.specs.declared.history.Answered.{Answered}
 use Rattle.proto.specs.Sizes.{Sizes}
 use Rattle.proto.specs.Cache.{Cache, empty_cache}
+use Rattle.proto.specs.declared.message.Request.TheVariants.{Stats}
+use Rattle.proto.specs.declared.message.Reply.{Reply}
+use Rattle.proto.specs.Steps.{IsCarriedOut}
 use Rattle.proto.specs.History.{Chain}
-use Rattle.engine.specs.Deadlines.{StoresAsAsked}
+use Rattle.engine.specs.Deadlines.{IsExactStep}
 use Rattle.engine.specs.Reaching.{last_cache}
 
--- each entry that is stored is there then as its request asks, with the very deadline
+-- the request is carried out by steps, each of which stores its entry as it asks, with the very deadline
+abbrev pub IsExactlyDone : Sizes → Cache → Answered → Cache → Type 0
+IsExactlyDone sizes before e after =
+    (reply : Reply) × ((reply ≡ e.reply) ⊎ (e.request ≡ Stats))
+    × IsCarriedOut (IsExactStep sizes e.moment) before e.request reply after
+
+-- each request is
 abbrev pub AlwaysStoresAsAsked : Sizes → Cache → List Answered → List Cache → Type 0
 AlwaysStoresAsAsked sizes before (e ∷ history) (after ∷ caches) =
-    StoresAsAsked sizes before e.moment e.request e.reply after × AlwaysStoresAsAsked sizes after history caches
+    IsExactlyDone sizes before e after × AlwaysStoresAsAsked sizes after history caches
 AlwaysStoresAsAsked _ _ _ _ = ⊤
 
 -- some chain of the history stores each entry as its request asks

@@ -15,7 +15,7 @@ ghost use Rattle.storage_thread.specs.Deadlines.{LeadsAsAsked, MayStoreAsAsked};
 
 use crate::side::{Served, StorageSide};
 use crate::stats::StatsSource;
-use engine::{Clock, MAX_MOMENT, StorageEngine};
+use engine::{Clock, MAX_MOMENT, StorageEngine, carry_out};
 use exchange::{
     Answered, IdleTurns, Posted, StorageBatch, StorageEnd, StorageSignals, Taken, Waits,
 };
@@ -26,7 +26,7 @@ use std::{hint, time};
 /// The workers are told of their answers at least at each so many.
 const ANSWERS_PER_FLUSH: u64 = 8;
 
-/// The keys above which a `get` may take long. The workers are told of all answers before it.
+/// The keys above which a `get` or a `gat` may take long. The workers are told of all answers before it.
 const MANY_KEYS: usize = 64;
 
 /// The idle turns in a row in which it spins before it parks, if the signals say no time: two microseconds.
@@ -139,7 +139,7 @@ pub(crate) fn execute<S: StorageEngine, C: Clock, R: time::Clock>(
         number,
         mut request,
     } = posted;
-    let stored = store.handle(moment, &mut request);
+    let stored = carry_out(store, moment, &mut request);
     let reply = source.reply(
         rt,
         signals,
@@ -176,7 +176,8 @@ pub(crate) fn tell_workers(end: &mut StorageBatch, signals: &StorageSignals)
     }
 }
 
-/// Whether the workers are told of all answers before this message: at each eighth answer, and before a `get` for many keys.
+/// Whether the workers are told of all answers before this message: at each eighth answer, and before a `get` or a `gat`
+/// for many keys.
 fn tells_before(taken: &Taken, executed: u64) -> bool {
     if executed % ANSWERS_PER_FLUSH == 0 {
         return true;
@@ -185,7 +186,7 @@ fn tells_before(taken: &Taken, executed: u64) -> bool {
         return false;
     };
     match &posted.request {
-        Request::Get { keys, .. } => keys.len() > MANY_KEYS,
+        Request::Get { keys, .. } | Request::GetAndTouch { keys, .. } => keys.len() > MANY_KEYS,
         _ => false,
     }
 }

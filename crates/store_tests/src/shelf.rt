@@ -67,13 +67,15 @@ impl Shelf {
         let Ok(place) = self.pool.append(LASTING, 0, item) else {
             return false;
         };
-        self.index.insert(&self.pool, key, place);
+        let found = self.index.find(&self.pool, key);
+        self.index.insert(&self.pool, key, found, place);
         true
     }
 
     /// The cas number of the key's item.
     pub fn cas_of(&self, key: &[u8]) -> Option<u64> {
-        let place = self.index.look_up(&self.pool, key)?;
+        let found = self.index.find(&self.pool, key);
+        let place = self.index.place_found(&self.pool, key, found)?;
         Some(self.pool.item(place).cas)
     }
 
@@ -97,11 +99,10 @@ impl Shelf {
 
     /// Takes the key out.
     pub fn delete(&mut self, key: &[u8]) -> bool {
-        let Some(place) = self.index.look_up(&self.pool, key) else {
-            return false;
-        };
-        self.index.remove(&self.pool, key, place);
-        true
+        let found = self.index.find(&self.pool, key);
+        let was_there = self.index.place_found(&self.pool, key, found).is_some();
+        self.index.remove_found(&self.pool, key, found);
+        was_there
     }
 
     /// Takes all keys out.

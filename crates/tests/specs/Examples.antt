@@ -7,7 +7,7 @@ use Rattle.proto.specs.declared.dialect.Dialect.TheVariants.{Strict, Lenient}
 use Rattle.proto.specs.declared.message.Put.{Put}
 use Rattle.proto.specs.declared.hits.Hit.{Hit}
 use Rattle.proto.specs.declared.message.Request.{Request}
-use Rattle.proto.specs.declared.message.Request.TheVariants.{Get, Set, Add, Replace, Cas, Append, Prepend, Delete, Incr, Decr, Touch, FlushAll, Stats}
+use Rattle.proto.specs.declared.message.Request.TheVariants.{Get, GetAndTouch, Set, SetTooLarge, Add, Replace, Cas, Append, Prepend, Delete, Incr, Decr, Touch, FlushAll, Stats}
 use Rattle.proto.specs.declared.message.Reply.{Reply}
 use Rattle.proto.specs.declared.message.Reply.TheVariants as reply
 use Rattle.proto.specs.declared.message.Message.{Message}
@@ -28,7 +28,7 @@ use Rattle.proto.specs.StatTexts.{number_bytes, count_lines}
 use Rattle.proto.specs.Tallies.{no_counts, counted, CountsFrom}
 use Rattle.proto.specs.History.{Legal, session_share, had, asked}
 use Rattle.proto.specs.Buckets.{bucket_of, width_of, life_width, lower_end, shared_deadline, MayLive}
-use Rattle.proto.specs.Steps.{MayBeDated}
+use Rattle.proto.specs.Steps.{MayBeDated, touched_by}
 
 abbrev pub put_with : List ℕ → ℕ → ℤ → List ℕ → Put
 put_with key flags exptime value = record { key = key; flags = flags; exptime = exptime; value = value }
@@ -69,6 +69,7 @@ requests =
     ∷ (codes "set a 0 0 0\r\n\r\n", Ask (Set (put_with a 0 (pos 0) [])) false)
     ∷ (codes "set a 0 0 1 noreply\r\nx\r\n", Ask (Set (put_with a 0 (pos 0) (codes "x"))) true)
     ∷ (codes "set a 0 -1 1\r\nx\r\n", Ask (Set (put_with a 0 (negsuc 0) (codes "x"))) false)
+    ∷ (codes "set a 0 4294967295 1\r\nx\r\n", Ask (Set (put_with a 0 (pos 4294967295) (codes "x"))) false)
     ∷ (
       codes "set a 4294967295 9999999999 1\r\nx\r\n",
       Ask (Set (put_with a 4294967295 (pos 9999999999) (codes "x"))) false,
@@ -121,6 +122,7 @@ faults =
     ∷ (codes "prepend a 0 0 1 noreply\r\n", Local local.Unknown)
     ∷ (codes "delete a 0\r\n", Local local.BadLine)
     ∷ (codes "touch a 60 noreply\r\n", Local local.Unknown)
+    ∷ (codes "gat 60 a\r\n", Local local.Unknown)
     ∷ (codes "version\r\n", Local local.Unknown)
     ∷ (codes "verbosity 1 noreply\r\n", Local local.Unknown)
     ∷ (codes "cache_memlimit 64 noreply\r\n", Local local.Unknown)
@@ -161,8 +163,8 @@ lenient_lines =
     ∷ (codes "set a 00 0 1 \r\n", Fatal fatal.BadLine)
     ∷ []
 
--- `append`, `prepend`, `touch`, `stats`, `version` and `verbosity` are known, a `delete` may have a zero after its key, and the binary
--- protocol is refused by its first byte.
+-- `append`, `prepend`, `touch`, `gat`, `gats`, `stats`, `version` and `verbosity` are known, a `delete` may have a zero after its key,
+-- and the binary protocol is refused by its first byte. An exptime from 2^31 to 2^32 - 1 is a negative one.
 abbrev pub lenient_commands : List Example
 lenient_commands =
     (codes "append a 0 0 1\r\nx\r\n", Ask (Append (put_with a 0 (pos 0) (codes "x"))) false)
@@ -171,6 +173,16 @@ lenient_commands =
     ∷ (codes "append a 0 0 1 noreply\r\nx\r\n", Ask (Append (put_with a 0 (pos 0) (codes "x"))) true)
     ∷ (codes "touch a 60\r\n", Ask (touch_of a (pos 60)) false)
     ∷ (codes "touch a -1 noreply\r\n", Ask (touch_of a (negsuc 0)) true)
+    ∷ (codes "touch a 4294967295\r\n", Ask (touch_of a (negsuc 0)) false)
+    ∷ (codes "set a 0 2147483648 1\r\nx\r\n", Ask (Set (put_with a 0 (negsuc 0) (codes "x"))) false)
+    ∷ (codes "set a 0 2147483647 1\r\nx\r\n", Ask (Set (put_with a 0 (pos 2147483647) (codes "x"))) false)
+    ∷ (codes "set a 0 4294967296 1\r\nx\r\n", Ask (Set (put_with a 0 (pos 4294967296) (codes "x"))) false)
+    ∷ (codes "gat 60 a\r\n", Ask (GetAndTouch (a ∷ []) false (pos 60)) false)
+    ∷ (codes "gats -1 a noreply \r\n", Ask (GetAndTouch (a ∷ codes "noreply" ∷ []) true (negsuc 0)) false)
+    ∷ (codes "gat 4294967295 a\r\n", Ask (GetAndTouch (a ∷ []) false (negsuc 0)) false)
+    ∷ (codes "gat 60\r\n", Local local.BadLine)
+    ∷ (codes "gat a 60\r\n", Local local.BadLine)
+    ∷ (codes "gats\r\n", Local local.BadLine)
     ∷ (codes "touch a\r\n", Local local.BadLine)
     ∷ (codes "touch a 060\r\n", Local local.BadLine)
     ∷ (codes "version\r\n", Local local.Version)
@@ -221,10 +233,16 @@ lenient_long_lines =
     ∷ (codes "get a" ++ replicate 32762 32 ++ codes "\r", Fatal fatal.LongLine)
     ∷ []
 
--- Leniently a block that is too large for a request is read, and any two bytes end it.
+-- Leniently a block whose item is too large is read, and any two bytes end it. A `set` takes out what its key has.
 abbrev pub lenient_blocks : List Example
 lenient_blocks =
-    (codes "set a 0 0 131073\r\n" ++ replicate 131075 97, Local (local.TooLarge false))
+    (codes "set a 0 0 131073\r\n" ++ replicate 131075 97, Ask (SetTooLarge a) false)
+    ∷ (codes "set a 0 0 131048 noreply\r\n" ++ replicate 131050 97, Ask (SetTooLarge a) true)
+    ∷ (codes "add a 0 0 131048\r\n" ++ replicate 131050 97, Local (local.TooLarge false))
+    ∷ (
+      codes "set a 0 0 131047\r\n" ++ replicate 131047 97 ++ line_break,
+      Ask (Set (put_with a 0 (pos 0) (replicate 131047 97))) false,
+    )
     ∷ (codes "append a 0 0 131073 noreply\r\n" ++ replicate 131073 97 ++ line_break, Local (local.TooLarge true))
     ∷ []
 
@@ -327,6 +345,8 @@ CommandsDo =
     -- an item of 512 bytes is the largest with segments of 4,096
     × ((act 512 (empty_cache 0) 1000 (Set (put_with a 0 (pos 0) (replicate 487 120)))).reply ≡ reply.Stored)
     × ((act 512 (empty_cache 0) 1000 (Set (put_with a 0 (pos 0) (replicate 488 120)))).reply ≡ reply.TooLarge)
+    -- a `set` that is too large takes out what its key has
+    × (after_a (codes "x") (SetTooLarge a) ≡ outcome_with (finite.remove (with_a (codes "x")) a) 1 reply.TooLarge None)
     -- a key that no bytes spell
     × ((act 8192 (empty_cache 0) 1000 (Set (put_with [] 0 (pos 0) []))).reply ≡ reply.TooLarge)
     × ((act 8192 (empty_cache 0) 1000 (Set (put_with long_key 0 (pos 0) []))).reply ≡ reply.TooLarge)
@@ -366,6 +386,15 @@ RewritesDo =
     (finite.insert (with_a (codes "x")) a (entry_with (codes "x") (Some 1060) 1)) 1 reply.Touched (Some a))
     × (after_a (codes "x") (touch_of a (negsuc 0)) ≡ outcome_with
     (finite.remove (with_a (codes "x")) a) 1 reply.Touched None)
+
+-- what a `gat` shows, and what is touched behind it: nothing if it was refused memory, nor behind a `get`
+abbrev pub GatsDo : Type 0
+GatsDo =
+    (after_a (codes "x") (GetAndTouch (b ∷ a ∷ a ∷ []) true (pos 60)) ≡ after_a (codes "x") (Get (b ∷ a ∷ a ∷ []) true))
+    × (touched_by (GetAndTouch (b ∷ a ∷ a ∷ []) true (pos 60)) (reply.Values [])
+    ≡ record { key = b; exptime = pos 60 } ∷ record { key = a; exptime = pos 60 } ∷ record { key = a; exptime = pos 60 } ∷ [])
+    × (touched_by (GetAndTouch (a ∷ []) false (negsuc 0)) reply.NoMemory ≡ [])
+    × (touched_by (Get (a ∷ []) false) (reply.Values []) ≡ [])
 
 -- `flush_all`, at once and with a delay, where a flush is pending already, and at the greatest moment
 abbrev pub FlushesDo : Type 0
@@ -481,6 +510,8 @@ CountsDo =
     × (count_one (Incr a 1) (reply.Number 8) ≡ record no_counts { incrs = record { hits = 1; misses = 0 } })
     × (count_one (Decr a 1) reply.NotNumber ≡ no_counts)
     × (count_one (touch_of a (pos 60)) reply.Touched ≡ record no_counts { touches = record { hits = 1; misses = 0 } })
+    × (count_one (GetAndTouch (a ∷ b ∷ []) false (pos 60)) (reply.Values (hit_with a 0 [] None ∷ []))
+    ≡ record no_counts { touches = record { hits = 1; misses = 1 } })
     × (counted (record no_counts { flushes = 18446744073709551615 }) (FlushAll 0) reply.Flushed ≡ no_counts)
     × (count_one Stats (reply.Stats []) ≡ no_counts)
 

@@ -34,6 +34,8 @@ enum Step {
     Give(u64),
     /// The session's client accepts so many bytes of its output.
     Accept(u64, usize),
+    /// The book is told how many bytes output may take.
+    Budget(usize),
     /// A second passes in which a session waited for room.
     Second,
     Close(u64),
@@ -64,8 +66,8 @@ use Sight::{
     WaitsForMemory,
 };
 use Step::{
-    Accept, Ask, AskLater, AskNext, Close, EndInput, Feed, FeedLetters, Give, Known, Open, Receive,
-    Second, See, Settle, SettleHit, SettleStats,
+    Accept, Ask, AskLater, AskNext, Budget, Close, EndInput, Feed, FeedLetters, Give, Known, Open,
+    Receive, Second, See, Settle, SettleHit, SettleStats,
 };
 
 /// The name of what is shown and the row's step, or the number of a turn.
@@ -122,6 +124,7 @@ fn check_step(rt: &impl Abort, player: &mut Player, step: &Step, place: Place) -
         }
         Give(session) => player.give(*session)?,
         Accept(session, length) => player.give_some(*session, *length)?,
+        Budget(bytes) => player.book.set_output_budget(*bytes),
         Second => player.book.count_second(),
         Close(session) => player.book.close(*session),
         See(sight) => check_sight(rt, player, sight, place),
@@ -600,8 +603,27 @@ const ON_ITS_WAY: [Step; 23] = [
     AskNext(3),
 ];
 
+/// Output may take this much, so half of it is enough for any answer.
+const BUDGET: Step = Budget(24_000_000);
+
+/// Session 1 has asked for what is large. Session 2 has had a small answer, and session 3 none.
+const BEFORE_FIRST_GET: [Step; 12] = [
+    BUDGET,
+    Open(1),
+    Open(2),
+    Open(3),
+    Feed(2, b"get b\r\n"),
+    See(NextToAsk(Some(2))),
+    AskNext(2),
+    Settle(0, Settled::Kept),
+    Give(2),
+    Feed(1, b"get b\r\n"),
+    See(NextToAsk(Some(1))),
+    AskNext(1),
+];
+
 /// What waits until there is room, and whose client has stopped.
-const ROOM_ROWS: [Row; 5] = [
+const ROOM_ROWS: [Row; 9] = [
     Row {
         name: "a get waits above 32 MiB of output, as its answer may be as large",
         dialect: Dialect::Strict,
@@ -631,10 +653,76 @@ const ROOM_ROWS: [Row; 5] = [
         ],
     },
     Row {
+        name: "a get waits above half of a budget that was told",
+        dialect: Dialect::Strict,
+        found: None,
+        parts: &[
+            (1, &BEFORE_ROOM),
+            (1, &[BUDGET, SettleHit(12_000_001)]),
+            (1, &WAITS_UNTIL_GIVEN),
+        ],
+    },
+    Row {
+        name: "with half of it no get waits",
+        dialect: Dialect::Strict,
+        found: None,
+        parts: &[
+            (1, &BEFORE_ROOM),
+            (
+                1,
+                &[
+                    BUDGET,
+                    SettleHit(12_000_000),
+                    See(NextToAsk(Some(1))),
+                    See(NextToAsk(Some(2))),
+                    AskNext(2),
+                    See(WaitsForMemory(false)),
+                ],
+            ),
+        ],
+    },
+    Row {
         name: "what is on its way counts as output",
         dialect: Dialect::Strict,
         found: None,
         parts: &[(1, &ON_ITS_WAY)],
+    },
+    Row {
+        name: "the first get of a session goes on with three times the budget of output",
+        dialect: Dialect::Strict,
+        found: None,
+        parts: &[
+            (1, &BEFORE_FIRST_GET),
+            (
+                1,
+                &[
+                    SettleHit(72_000_000),
+                    Feed(3, b"get b\r\n"),
+                    See(NextToAsk(Some(3))),
+                    AskNext(3),
+                ],
+            ),
+        ],
+    },
+    Row {
+        name: "above that it waits, and no other with a small answer",
+        dialect: Dialect::Strict,
+        found: None,
+        parts: &[
+            (1, &BEFORE_FIRST_GET),
+            (
+                1,
+                &[
+                    SettleHit(72_000_001),
+                    Feed(3, b"get b\r\n"),
+                    See(NextToAsk(Some(3))),
+                    See(Waits(3)),
+                    Feed(2, b"get b\r\n"),
+                    See(NextToAsk(Some(2))),
+                    AskNext(2),
+                ],
+            ),
+        ],
     },
     Row {
         name: "a lenient client that takes nothing for ten seconds while others wait has stopped",

@@ -105,7 +105,10 @@ fn send(player: &mut Player, input: &[u8], step: usize) -> Result<(), Fail> {
         let _ = player.ask(7)?;
     }
     let _ = player.ask(7)?;
-    let _ = player.settle(0, Given::Known)?;
+    // The `set` that is too large, if it was one, and the `get`.
+    for _ in 0..2 {
+        let _ = player.settle(0, Given::Known)?;
+    }
     Ok(())
 }
 

@@ -82,9 +82,22 @@ impl ListCache {
         self.expire(now);
         let text: &[u8] = match request {
             Request::Get { keys, with_cas } => return self.push_all(out, keys, *with_cas),
+            Request::GetAndTouch {
+                keys,
+                with_cas,
+                exptime,
+            } => {
+                self.push_all(out, keys, *with_cas)?;
+                self.touch_all(now, keys, *exptime);
+                return Ok(());
+            }
             Request::Incr { key, amount } => return self.count(alloc, key, (*amount, true), out),
             Request::Decr { key, amount } => return self.count(alloc, key, (*amount, false), out),
             Request::Set(put) => self.put(alloc, now, put, Condition::Always)?,
+            Request::SetTooLarge { key } => {
+                self.delete(key);
+                TOO_LARGE
+            }
             Request::Add(put) => self.put(alloc, now, put, Condition::Missing)?,
             Request::Replace(put) => self.put(alloc, now, put, Condition::There)?,
             Request::Cas(put, cas) => self.put(alloc, now, put, Condition::SameCas(*cas))?,
@@ -109,6 +122,22 @@ impl ListCache {
             self.entries.remove(i);
         }
         b"TOUCHED"
+    }
+
+    fn touch_all(&mut self, now: u64, keys: &Keys, exptime: i64) {
+        let deadline = deadline_of(now, exptime);
+        let mut keys = keys.iter();
+        for _ in 0..u64::MAX {
+            let Some(key) = keys.next() else {
+                break;
+            };
+            for entry in &mut self.entries {
+                if entry.key.as_slice() == key {
+                    entry.deadline = deadline;
+                }
+            }
+        }
+        self.expire(now);
     }
 
     fn join(

@@ -75,7 +75,7 @@ pub const REQUESTS: [Row; 16] = [
 ];
 
 /// Lines that are answered without the cache.
-pub const FAULTS: [Row; 34] = [
+pub const FAULTS: [Row; 36] = [
     (b"foo\r\n", Given::Nothing, b"ERROR\r\n"),
     (b"\r\n", Given::Nothing, b"ERROR\r\n"),
     (b" get a\r\n", Given::Nothing, b"ERROR\r\n"),
@@ -168,6 +168,8 @@ pub const FAULTS: [Row; 34] = [
     (b"append a 0 0 1\r\n", Given::Nothing, b"ERROR\r\n"),
     (b"prepend a 0 0 1 noreply\r\n", Given::Nothing, b"ERROR\r\n"),
     (b"touch a 60 noreply\r\n", Given::Nothing, b"ERROR\r\n"),
+    (b"gat 60 a\r\n", Given::Nothing, b"ERROR\r\n"),
+    (b"gats 60\r\n", Given::Nothing, b"ERROR\r\n"),
     (b"version\r\n", Given::Nothing, b"ERROR\r\n"),
     (b"verbosity 1 noreply\r\n", Given::Nothing, b"ERROR\r\n"),
     (
@@ -194,7 +196,7 @@ pub const FAULTS: [Row; 34] = [
 
 /// Leniently spaces before a line's end don't count, nor does a zero after the key of a `delete`; a data block is as
 /// it was sent.
-pub const LENIENT_REQUESTS: [Row; 25] = [
+pub const LENIENT_REQUESTS: [Row; 28] = [
     (b"get a \r\n", Given::Hit, b"VALUE a 0 1\r\nx\r\nEND\r\n"),
     (b"get a   \r\n", Given::Hit, b"VALUE a 0 1\r\nx\r\nEND\r\n"),
     (
@@ -225,6 +227,13 @@ pub const LENIENT_REQUESTS: [Row; 25] = [
     (b"touch a 60\r\n", Given::Touched, b"TOUCHED\r\n"),
     (b"touch a -1 \r\n", Given::Touched, b"TOUCHED\r\n"),
     (b"touch a 60 noreply\r\n", Given::Touched, b""),
+    (b"gat 60 a\r\n", Given::Hit, b"VALUE a 0 1\r\nx\r\nEND\r\n"),
+    (
+        b"gats -1 a b \r\n",
+        Given::Hit,
+        b"VALUE a 0 1 18446744073709551615\r\nx\r\nEND\r\n",
+    ),
+    (b"gat 0 noreply\r\n", Given::Miss, b"END\r\n"),
     (b"stats\r\n", Given::Told, b"STAT uptime 5\r\nEND\r\n"),
     (b"stats \r\n", Given::Told, b"STAT uptime 5\r\nEND\r\n"),
     (
@@ -236,7 +245,7 @@ pub const LENIENT_REQUESTS: [Row; 25] = [
 
 /// Other faults stay, also leniently. `version` and `verbosity` are answered by their first word, unless they have
 /// `noreply`.
-pub const LENIENT_FAULTS: [Row; 31] = [
+pub const LENIENT_FAULTS: [Row; 33] = [
     (
         b"get \r\n",
         Given::Nothing,
@@ -300,6 +309,16 @@ pub const LENIENT_FAULTS: [Row; 31] = [
     (b"lru_crawler enable\r\n", Given::Nothing, b"ERROR\r\n"),
     (
         b"touch a\r\n",
+        Given::Nothing,
+        b"CLIENT_ERROR bad command line format\r\n",
+    ),
+    (
+        b"gat 60\r\n",
+        Given::Nothing,
+        b"CLIENT_ERROR bad command line format\r\n",
+    ),
+    (
+        b"gats a 60\r\n",
         Given::Nothing,
         b"CLIENT_ERROR bad command line format\r\n",
     ),
@@ -434,19 +453,20 @@ pub const LENIENT_NEEDS: [(&[u8], usize); 9] = [
     (b"cas a 0 0 8388608 1 noreply\r\nget b\r\n", 8_388_639),
 ];
 
-/// Whether the bytes of the message that these begin are to be dropped, and whether it has `noreply`.
-pub const DROPS: [(&[u8], Option<bool>); 5] = [
+/// Whether the bytes of the message that these begin are to be dropped, whether it takes out its key, and has `noreply`.
+pub const DROPS: [(&[u8], Option<(bool, bool)>); 6] = [
     (b"set a 0 0 131072\r\n", None),
     (b"set a 0 0 163822\r\n", None),
-    (b"set a 0 0 163823\r\n", Some(false)),
-    (b"append a 0 0 200000 noreply \r\nx", Some(true)),
-    (b"set a 0 0 8388608\r\n", Some(false)),
+    (b"set a 0 0 163823\r\n", Some((true, false))),
+    (b"add a 0 0 163823\r\n", Some((false, false))),
+    (b"append a 0 0 200000 noreply \r\nx", Some((false, true))),
+    (b"set a 0 0 8388608\r\n", Some((true, false))),
 ];
 
 /// The same where the largest item has this many bytes.
-pub const LIMITED_DROPS: [(u32, &[u8], Option<bool>); 4] = [
+pub const LIMITED_DROPS: [(u32, &[u8], Option<(bool, bool)>); 4] = [
     (8192, b"set a 0 0 40943\r\n", None),
-    (8192, b"set a 0 0 40944\r\n", Some(false)),
+    (8192, b"set a 0 0 40944\r\n", Some((true, false))),
     (1_048_512, b"set a 0 0 1081261\r\n", None),
-    (1_048_512, b"set a 0 0 1081262\r\n", Some(false)),
+    (1_048_512, b"set a 0 0 1081262\r\n", Some((true, false))),
 ];

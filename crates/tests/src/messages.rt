@@ -49,7 +49,8 @@ fn push_answer(
     match message {
         Message::Ask(request, _) => {
             let cas = match request {
-                Request::Get { with_cas: true, .. } => Some(u64::MAX),
+                Request::Get { with_cas: true, .. } | Request::GetAndTouch { with_cas: true, .. } =>
+                    { Some(u64::MAX) }
                 _ => None,
             };
             let reply = reply_of(alloc, cas, given)?;
@@ -192,12 +193,12 @@ fn lines_end_within_their_limits(rt: HostRuntime) -> Result<(), Fail> {
     )
 }
 
-/// How many bytes are needed, where no message was found, and whether a message to be dropped has `noreply`.
-fn wants(view: NextView) -> (Option<usize>, Option<bool>) {
+/// How many bytes are needed, where no message was found, and whether a message to be dropped takes out a key, and has `noreply`.
+fn wants(view: NextView) -> (Option<usize>, Option<(bool, bool)>) {
     match view {
         NextView::Found(..) => (None, None),
         NextView::More(need) => (Some(need), None),
-        NextView::Drop(need, noreply) => (Some(need), Some(noreply)),
+        NextView::Drop(need, key, noreply) => (Some(need), Some((key.is_some(), noreply))),
     }
 }
 

@@ -22,7 +22,7 @@ const BESIDE_VALUE: [&[u8]; 2] = [
 /// What a request is replied.
 #[derive(Clone, Copy)]
 pub enum Given {
-    /// What a store replies in which `a` has the player's value: Stored to a write.
+    /// What a store replies in which `a` has the player's value: Stored to a write, but TooLarge to a `set` that is.
     Known,
     /// Lines of a `stats` that make an answer of this length.
     Stats(usize),
@@ -141,13 +141,14 @@ fn reply_to(
             let value = vec![in alloc; b'x'; length.saturating_sub(beside.len())]?;
             values(alloc, Some(value.as_slice()), None)
         }
-        (Given::Known, Request::Get { with_cas, .. }) => {
+        (Given::Known, Request::Get { with_cas, .. } | Request::GetAndTouch { with_cas, .. }) => {
             let cas = if *with_cas { Some(1) } else { None };
             match found {
                 Some(text) => values(alloc, Some(text.as_bytes()), cas),
                 None => values(alloc, None, cas),
             }
         }
+        (Given::Known, Request::SetTooLarge { .. }) => Ok(Reply::TooLarge),
         _ => Ok(Reply::Stored),
     }
 }

@@ -3,7 +3,7 @@
 use crate::list_cache::ListCache;
 use crate::made::{Spelling, spell};
 use crate::same::check_same;
-use engine::StorageEngine;
+use engine::{StorageEngine, carry_out};
 use proto::{
     ByteString, Geometry, Keys, Message, NoMemory, PendingAnswer, Put, Request, Touch, Words,
 };
@@ -97,7 +97,7 @@ fn push_random_line(random: &mut Random, line: &mut Vec<u8>) -> Result<(), Alloc
     Ok(())
 }
 
-fn random_get(alloc: Global, random: &mut Random) -> Result<Request, NoMemory> {
+fn random_get(alloc: Global, random: &mut Random, now: u64) -> Result<Request, NoMemory> {
     let mut line = Vec::new(alloc);
     push_random_line(random, &mut line)?;
     let mut words = Words::new(line.as_slice());
@@ -105,9 +105,16 @@ fn random_get(alloc: Global, random: &mut Random) -> Result<Request, NoMemory> {
     let keys = Keys::from_words(alloc, words);
     drop(line);
     let with_cas = random.below(2) == 0;
-    Ok(Request::Get {
-        keys: keys?,
-        with_cas,
+    let keys = keys?;
+    Ok(if random.below(4) == 0 {
+        let exptime = random_exptime(random, now);
+        Request::GetAndTouch {
+            keys,
+            with_cas,
+            exptime,
+        }
+    } else {
+        Request::Get { keys, with_cas }
     })
 }
 
@@ -139,7 +146,10 @@ fn random_write(
 fn random_change(alloc: Global, random: &mut Random, pick: u64) -> Result<Request, NoMemory> {
     let key = bytes(alloc, random_key(random))?;
     if pick == 14 {
-        return Ok(Request::Delete { key });
+        return Ok(match random.below(4) {
+            0 => Request::SetTooLarge { key },
+            _ => Request::Delete { key },
+        });
     }
     // A counter may pass its ends by the amount.
     let amount = match random.below(3) {
@@ -161,7 +171,7 @@ fn random_request(
     list: &ListCache,
 ) -> Result<Request, NoMemory> {
     match random.below(26) {
-        0..=4 => random_get(alloc, random),
+        0..=4 => random_get(alloc, random, now),
         pick @ 14..=18 => random_change(alloc, random, pick),
         19 => Ok(match random.below(6) {
             delay @ 0..=3 => Request::FlushAll { delay },
@@ -182,7 +192,7 @@ fn answer_both(
 ) -> Result<(), NoMemory> {
     list.answer(alloc, now, &request, wanted)?;
     assert!(rt; store.last_moment() <= now && now < 3_000_000);
-    let mut reply = store.handle(now, &mut request);
+    let mut reply = carry_out(store, now, &mut request);
     let asked = Message::Ask(request, false);
     let shown = PendingAnswer::of(&asked).show(Some(&mut reply), given);
     drop((asked, reply));

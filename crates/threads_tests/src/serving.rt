@@ -110,6 +110,7 @@ where
         port,
         end,
         Dialect::Strict,
+        None,
         gate,
         &*signals,
         &signals,

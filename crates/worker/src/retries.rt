@@ -47,10 +47,15 @@ pub(crate) struct Seconds {
 }
 
 impl Seconds {
+    /// No session waits.
+    pub(crate) fn stop(&mut self) {
+        self.since = None;
+    }
+
     /// Whether another second has passed in which a session waited for memory. The clock is read only while one does.
     pub(crate) fn has_passed<R: Clock>(&mut self, rt: &R, is_waiting: bool) -> bool {
         if !is_waiting {
-            self.since = None;
+            self.stop();
             return false;
         }
         let Ok(now) = Instant::now(rt) else {

@@ -48,8 +48,9 @@ pub struct WorkerReport<P> {
     pub strangers: u64,
 }
 
-/// Takes a few events. After each it reads the requests that the event brought, so a session's requests are read before the
-/// event that its client has gone. If a session has requests that can't be read now, few events are taken, and storage
+/// Takes a few events, as long as the port may know of one. After each it reads the requests that the event brought, so a
+/// session's requests are read before the event that its client has gone; and it pauses sessions for whose large messages there
+/// is no room, so they bring no further piece. If a session has requests that can't be read now, few events are taken, and storage
 /// doesn't wait for them. It gives how many events it took.
 fn take_events<P: Port, G: Gate, E: Executor, R: Clock>(
     rt: &R,
@@ -78,11 +79,15 @@ fn take_events<P: Port, G: Gate, E: Executor, R: Clock>(
         }
         count = taken;
         ask_sessions(worker, gate, storage);
+        pause_sessions(worker);
         if worker.state.book.ready(Task::Ask) > 0 {
             worker.flush(executor, false);
             if taken >= EVENTS_WHILE_BUSY || worker.state.book.has_little_output() {
                 break;
             }
+        }
+        if !worker.state.port.may_know_event() {
+            break;
         }
     }
     count
@@ -146,6 +151,23 @@ fn ask_sessions<P: Port, G: Gate>(
     moved
 }
 
+/// Feeds what fits by now, and asks sessions, unless that was done after each of so many events. True if something was done.
+fn feed_and_ask<P: Port, G: Gate>(
+    worker: &mut Worker<P>,
+    events: usize,
+    gate: &G,
+    storage: &StorageSignals,
+) -> bool
+    ensures { Continues P.told P.leads_to worker.old worker.new }
+{
+    let fed = feed_pieces(worker);
+    if events > 0 && !fed {
+        return false;
+    }
+    let asked = ask_sessions(worker, gate, storage);
+    asked || fed
+}
+
 /// Takes and settles all answers that are there. True if something was done.
 fn settle_answers<P: Port, G: Gate>(worker: &mut Worker<P>, gate: &G) -> bool
     ensures { Continues P.told P.leads_to worker.old worker.new }
@@ -177,6 +199,9 @@ fn retry_output<P: Port>(worker: &mut Worker<P>, retries: &mut Retries) -> bool
     ensures { Continues P.told P.leads_to worker.old worker.new }
 {
     let waiting = worker.state.book.ready(Task::RetryWrite);
+    if waiting == 0 {
+        return false;
+    }
     let most = retries.next(worker.state.port.rooms(), waiting);
     give_output(worker, Task::RetryWrite, most)
 }
@@ -246,6 +271,10 @@ fn share_memory<P: Port, R: Clock>(
 ) -> bool
     ensures { Continues P.told P.leads_to worker.old worker.new }
 {
+    if worker.state.book.has_memory_for_all() {
+        seconds.stop();
+        return false;
+    }
     let shut = shut_stalled(rt, worker, seconds, storage);
     let paused = pause_sessions(worker);
     let resumed = resume_sessions(worker);
@@ -266,14 +295,13 @@ fn take_turn<P: Port, G: Gate, E: Executor, R: Clock>(
 {
     let held = worker.put_held(gate, storage);
     let came = take_events(rt, worker, pauses, gate, executor, storage);
-    let fed = feed_pieces(worker);
-    let asked = ask_sessions(worker, gate, storage);
+    let asked = feed_and_ask(worker, came, gate, storage);
     worker.flush(executor, came == EVENTS_A_TURN);
     let settled = settle_answers(worker, gate);
     let given = give_output(worker, Task::Give, usize::MAX);
     let given_again = retry_output(worker, &mut pauses.retries);
     let shared = share_memory(rt, worker, &mut pauses.seconds, storage);
-    held || came > 0 || fed || asked || settled || given || given_again || shared
+    held || came > 0 || asked || settled || given || given_again || shared
 }
 
 /// Whether all is done: the port has ended, nothing is held or outstanding, and no open session has input or output left. One
@@ -302,13 +330,15 @@ fn has_drained<P: Port>(worker: &mut Worker<P>) -> bool
 /// Serves a port until it has ended and all was answered and given, and then says bye.
 ///
 /// The end has sent nothing yet, and the list of a port that tells it is empty. It may wait: for events, for answers and for a
-/// port that accepts no bytes. Whoever executes is told of what it posts.
+/// port that accepts no bytes. Whoever executes is told of what it posts. Output that clients don't take has a budget, which is
+/// 67,108,864 bytes with None.
 pub fn run_worker<P: Port, G: Gate, E: Executor, R: Wait + Clock>(
     rt: &R,
     alloc: Global,
     port: P,
     worker_end: WorkerEnd,
     dialect: Dialect,
+    output_budget: Option<usize>,
     gate: &G,
     executor: &E,
     storage: &StorageSignals,
@@ -326,7 +356,7 @@ pub fn run_worker<P: Port, G: Gate, E: Executor, R: Wait + Clock>(
 {
     let parking = storage.worker_parking(worker_end.worker());
     let gauges = storage.gauges(worker_end.worker());
-    let mut worker = Worker::new(alloc, port, worker_end, dialect);
+    let mut worker = Worker::new(alloc, port, worker_end, dialect, output_budget);
     let mut pauses = Pauses::new(storage.spin(), Waits::new(rt, gauges));
     let mut turns = 0;
     for _ in rt.forever() {

@@ -17,7 +17,7 @@ use crate::session_list::SessionList;
 use bytes::Bytes;
 use exchange::{Answered, StorageSignals, WorkerBatch, WorkerEnd};
 use proto::{Dialect, Posted, Request};
-use session_book::{Book, EndCause, Received, Settled, Task, Unasked};
+use session_book::{Book, EndCause, OUTPUT_BUDGET, Received, Settled, Task, Unasked};
 use std::alloc::Global;
 use std::marker::Model;
 use worker_port::{CloseReason, Gone, Port, PortEvent};
@@ -196,14 +196,21 @@ impl<P: Port> Model for Worker<P> {
 
 impl<P: Port> Worker<P> {
     /// A worker whose end has sent nothing yet, over a port that has told nothing.
-    pub(crate) fn new(alloc: Global, port: P, worker_end: WorkerEnd, dialect: Dialect) -> Worker<P>
+    pub(crate) fn new(
+        alloc: Global,
+        port: P,
+        worker_end: WorkerEnd,
+        dialect: Dialect,
+        output_budget: Option<usize>,
+    ) -> Worker<P>
         requires port { IsPortAt P.told dialect port worker_end }
         requires fresh { HasSentNothing worker_end }
         ensures port { result.port ≡ port }
         ensures end { end_of result ≡ worker_end }
         ensures dialect { result.book.dialect ≡ dialect }
     {
-        let book = Book::new(alloc, worker_end.worker(), dialect);
+        let mut book = Book::new(alloc, worker_end.worker(), dialect);
+        book.set_output_budget(output_budget.unwrap_or(OUTPUT_BUDGET));
         Worker {
             state: WorkerState {
                 port,
@@ -224,8 +231,12 @@ impl<P: Port> Worker<P> {
         self.state.request.is_none()
             && self.state.batch.outstanding() == 0
             && (self.state.book.is_idle()
-                || (retries.are_done(self.state.port.rooms())
-                    && self.state.book.waits_for_clients()))
+                || (self.has_retried(retries) && self.state.book.waits_for_clients()))
+    }
+
+    /// Whether no output need be offered again before the port tells of room.
+    fn has_retried(&self, retries: &Retries) -> bool {
+        self.state.book.ready(Task::RetryWrite) == 0 || retries.are_done(self.state.port.rooms())
     }
 
     /// Takes one event of the port, for which it may wait or not, unless it has ended. True if there was one.

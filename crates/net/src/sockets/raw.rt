@@ -11,13 +11,15 @@ use mio::{Interest, Poll, Token};
 use std::fs::{self, Files, Permissions};
 use std::io::{self, ErrorKind, Read, Write};
 use std::net::{Net, Shutdown, SocketAddr};
+use std::os::fd::OwnedFd;
 use std::os::unix::fs::{FileTypeExt, PermissionsExt};
 
-/// A raw stream.
+/// A raw stream. One of a path is of the same type as one of TCP, which alone can look at what came and leave it there: the
+/// system calls take either.
 #[derive(Drop)]
 pub(crate) enum RawStream {
     Tcp(TcpStream),
-    Unix(UnixStream),
+    Unix(TcpStream),
 }
 
 impl RawStream {
@@ -35,21 +37,19 @@ impl RawStream {
         }
     }
 
-    /// Reads the first bytes, and leaves them to be read. No call does that for a path's stream.
+    /// Reads the first bytes, and leaves them to be read.
     pub(super) fn peek(&self, first: &mut [u8]) -> io::Result<usize>
         ensures { ReadsAtMost result first.new }
     {
         match self {
-            RawStream::Tcp(stream) => stream.peek(first),
-            RawStream::Unix(_) => Ok(0),
+            RawStream::Tcp(stream) | RawStream::Unix(stream) => stream.peek(first),
         }
     }
 
     /// Ends the sending half.
     pub(super) fn end_sending(&self) -> io::Result<()> {
         match self {
-            RawStream::Tcp(stream) => stream.shutdown(Shutdown::Write),
-            RawStream::Unix(stream) => stream.shutdown(Shutdown::Write),
+            RawStream::Tcp(stream) | RawStream::Unix(stream) => stream.shutdown(Shutdown::Write),
         }
     }
 
@@ -68,8 +68,7 @@ impl RawStream {
 impl Read for RawStream {
     fn read(&mut self, buf: &mut [u8]) -> io::Result<usize> {
         match self {
-            RawStream::Tcp(stream) => stream.read(buf),
-            RawStream::Unix(stream) => stream.read(buf),
+            RawStream::Tcp(stream) | RawStream::Unix(stream) => stream.read(buf),
         }
     }
 }
@@ -77,8 +76,7 @@ impl Read for RawStream {
 impl Write for RawStream {
     fn write(&mut self, buf: &[u8]) -> io::Result<usize> {
         match self {
-            RawStream::Tcp(stream) => stream.write(buf),
-            RawStream::Unix(stream) => stream.write(buf),
+            RawStream::Tcp(stream) | RawStream::Unix(stream) => stream.write(buf),
         }
     }
 
@@ -130,7 +128,10 @@ impl RawListener {
     pub(super) fn accept(&self) -> io::Result<RawStream> {
         match self {
             RawListener::Tcp(listener) => Ok(RawStream::Tcp(listener.accept()?.0)),
-            RawListener::Unix(listener) => Ok(RawStream::Unix(listener.accept()?.0)),
+            RawListener::Unix(listener) => {
+                let (stream, _) = listener.accept()?;
+                Ok(RawStream::Unix(TcpStream::from(OwnedFd::from(stream))))
+            }
         }
     }
 

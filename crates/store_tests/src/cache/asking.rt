@@ -3,7 +3,7 @@
 ghost use Rattle.std.specs.Prelude.{◌≡◌, is_some};
 ghost use Rattle.proto.specs.Answers.{is_ask};
 
-use engine::{MAX_MOMENT, StorageEngine};
+use engine::{MAX_MOMENT, StorageEngine, carry_out};
 use proto::{Dialect, Message, Next, NoMemory, Reply, next_message_in, show};
 use std::alloc::Global;
 
@@ -18,7 +18,7 @@ fn reply<S: StorageEngine>(store: &mut S, now: u64, message: &mut Message) -> Op
             if now > MAX_MOMENT {
                 return Some(Reply::NoMemory);
             }
-            Some(store.handle(now, request))
+            Some(carry_out(store, now, request))
         }
         _ => None,
     }

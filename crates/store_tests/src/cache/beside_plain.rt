@@ -78,6 +78,16 @@ fn random_touch(
     format!(in alloc; "touch k{key} {exptime}\r\n")
 }
 
+fn random_get_and_touch(
+    alloc: Global,
+    random: &mut Random,
+    lives: u64,
+    (key, other): (u64, u64),
+) -> Result<String, AllocError> {
+    let exptime = random_exptime(alloc, random, lives)?;
+    format!(in alloc; "gats {exptime} k{key} k{other}\r\n")
+}
+
 /// A request for one or two keys, with exptimes below this one.
 fn random_request(alloc: Global, random: &mut Random, lives: u64) -> Result<String, AllocError> {
     let key = random.below(KEYS);
@@ -93,7 +103,10 @@ fn random_request(alloc: Global, random: &mut Random, lives: u64) -> Result<Stri
         11 => with_number(alloc, "incr", key, " ", other),
         12 => format!(in alloc; "append k{key} 7 9 0\r\n\r\n"),
         13 => format!(in alloc; "prepend k{key} 7 9 1\r\nv\r\n"),
-        14 => random_touch(alloc, random, lives, key),
+        14 => match random.below(2) {
+            0 => random_touch(alloc, random, lives, key),
+            _ => random_get_and_touch(alloc, random, lives, (key, other)),
+        },
         _ => match random.below(40) {
             0 => String::from_str(alloc, "flush_all\r\n"),
             1 => String::from_str(alloc, "flush_all 2\r\n"),

@@ -76,6 +76,7 @@ where
         },
         dialect: Dialect::Strict,
         spin: None,
+        output_budget: None,
         storage,
     };
     let exchange = Exchange::new(alloc, ports.len(), config.terms).expect(rt, "an exchange");

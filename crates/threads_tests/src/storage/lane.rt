@@ -9,7 +9,7 @@ ghost use Rattle.storage_thread.specs.Serving.{IsUnused};
 use crate::clock::SteadyClock;
 use crate::same::check_same;
 use crate::storage::ends::{ask, made};
-use engine::StorageEngine;
+use engine::{StorageEngine, carry_out};
 use exchange::{Answered, Posted, StorageEnd, Taken, WorkerEnd};
 use proto::{AskedClock, Clock, Reply, Request};
 use segcache::Store;
@@ -51,7 +51,7 @@ fn execute<S: StorageEngine, C: Clock>(
         number,
         mut request,
     } = posted;
-    let stored = store.handle(moment, &mut request);
+    let stored = carry_out(store, moment, &mut request);
     let reply = uncounted(&request, stored);
     let _ = end.answer(Answered {
         worker,

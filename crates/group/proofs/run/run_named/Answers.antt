@@ -26,16 +26,15 @@ gather_report-requires-clause-together g c =
     (rejoined p.told p.leads_to end.terms end report.storage_end same c.args.ports.items c.in_ok-reports.reports.items
     c.in_ok-reports.ensures.joined)
 
-pub returns : goal.returns
-returns g c =
+pub returns-clause-run : goal.returns-clause-run
+returns-clause-run g c =
     let p = g.P.Port in let n = g.C.Clock in let end = c.args.end.value in let report = c.into_report-storage.result in
     let began = c.args.origin.now.value in let keeps = g.E.StorageEngine.keeps began.store.value [] in
     let exact = g.E.StorageEngine.is_exact began.store.value in let may_refuse = g.E.StorageEngine.may_refuse in
-    let same = c.into_report-storage.ensures.same.0 ∙ ap (λ (e : StorageView). e.exchange) (sym c.requires.end) in record {
-      run = c.gather_report.ensures began.store.value end.terms c.args.ports.items began.clock.value
-          (stored p.told p.leads_to n.told n.leads_to keeps exact may_refuse _ end.terms _ end c.requires.made c.args.ports.items
-          c.args.ports.ok.0 began.clock.value began.clock.value began.end.value report refl (sym c.requires.end)
-          (kept_by_side n.told n.leads_to keeps exact may_refuse began.clock.value began.end.value report c.into_report-storage.ensures))
-          (rejoined p.told p.leads_to end.terms end report.storage_end same c.args.ports.items c.in_ok-reports.reports.items
-          c.in_ok-reports.ensures.joined);
-    }
+    let same = c.into_report-storage.ensures.same.0 ∙ ap (λ (e : StorageView). e.exchange) (sym c.requires.end) in
+    c.gather_report.ensures began.store.value end.terms c.args.ports.items began.clock.value
+    (stored p.told p.leads_to n.told n.leads_to keeps exact may_refuse _ end.terms _ end c.requires.made c.args.ports.items
+    c.args.ports.ok.0 began.clock.value began.clock.value began.end.value report refl (sym c.requires.end)
+    (kept_by_side n.told n.leads_to keeps exact may_refuse began.clock.value began.end.value report c.into_report-storage.ensures))
+    (rejoined p.told p.leads_to end.terms end report.storage_end same c.args.ports.items c.in_ok-reports.reports.items
+    c.in_ok-reports.ensures.joined)

@@ -11,6 +11,7 @@ invariant-loop-left l = record {
   within : length l.slots.slots ≤ l.initial.slots.room;
   grown : length l.slots.slots + l.left ≡ length l.initial.slots.slots + 3;
   left : l.left ≤ 3;
+  kept : l.left ≡ 3 → l.slots ≡ l.initial.slots;
   few : (length l.slots.slots ≡ length l.initial.slots.slots) ⊎ (length l.slots.slots ≤ 3 * l.keys);
 }
 

@@ -10,7 +10,8 @@ use Rattle.proto.proofs.storage_line.storage_line.Goals.{in-Set, in-Add, in-Repl
 
 pub returns : goal.returns
 returns c =
-    let fits : SFits w64 c.in_ok-exptime.exptime = search rules in
+    let fits : SFits w64 c.meant.result = search rules in
+    let written : SFits w64 c.in_ok-written.written = search rules in
     let quiet = c.in_ok-noreply.noreply in
     let behind = c.next_number-2.new.self in
     let rest = c.match-word.words in
@@ -25,9 +26,9 @@ returns c =
       | in-Cas+in_ok-next_number-in-Cas w ↦ rw (w.in-Cas.is, w.mode-is)
           (unique_taken _ quiet behind _ rest w.in_ok-next_number-in-Cas.ensures.read read w.words-is)
     ] in
-    rw (to_z-of_z w64 c.in_ok-exptime.exptime fits)
-    (storage_taken (tail_of c.args.word) c.args.words c.next_key.new.self c.next_number.new.self
+    rw (to_z-of_z w64 c.meant.result fits, c.meant.ensures, to_z-of_z w64 c.in_ok-written.written written)
+    (storage_taken c.args.dialect (tail_of c.args.word) c.args.words c.next_key.new.self c.next_number.new.self
     c.next_signed.new.self c.next_number-2.new.self c.in_ok-key.key.now c.in_ok-flags.flags
-    c.in_ok-exptime.exptime c.in_ok-size.size
+    c.in_ok-written.written c.in_ok-size.size
     (c.match-word.mode, quiet) c.in_ok-key.ensures c.in_ok-flags.ensures.read
-    c.in_ok-exptime.ensures c.in_ok-size.ensures.read tail)
+    c.in_ok-written.ensures c.in_ok-size.ensures.read tail)

@@ -5,7 +5,7 @@ use Rattle.proto.specs.declared.dialect.Dialect.{Dialect}
 use Rattle.proto.specs.declared.dialect.Dialect.TheVariants.{Strict, Lenient}
 use Rattle.proto.specs.Grammar.{longest_block}
 use Rattle.proto.specs.Views.{message_of, need_seen, storage_line_of}
-use Rattle.proto.specs.PlainReader.{meaning, need}
+use Rattle.proto.specs.PlainReader.{large_message, meaning, need}
 use Rattle.proto.specs.declared.message.FatalKind.TheVariants as fatal
 use Rattle.proto.specs.declared.view.MessageView.TheVariants as messages
 use Rattle.proto.specs.Lines.{has_line_end, longest_line}
@@ -55,7 +55,7 @@ returns-in-Block-clause-view c =
     let needed : (c.in-Some.length + 2) + (c.in-Block.head.size + 2) ≡ need c.args.dialect b =
     need_behind_line c.args.dialect b c.in-Some.length c.split_at-in-Some.result.0.now (storage_line_of c.in-Block.head)
     first.1 first.2 first.0 line.front means in
-    is_view c.args.dialect b c.in-Block.head.noreply c.block.result
+    is_view c.args.dialect b (large_message (storage_line_of c.in-Block.head)) c.block.result
     (c.block.ensures.seen
     ∙ next_behind c.args.dialect b c.in-Some.length c.split_at-in-Some.result.0.now c.split_at-in-Block.result.1.now
     (inr (storage_line_of c.in-Block.head)) first.1 first.2 first.0

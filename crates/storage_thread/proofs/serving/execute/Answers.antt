@@ -5,7 +5,7 @@ use Rattle.proto.specs.ClockAnswers.{GivenAnswer}
 use Rattle.proto.specs.History.{answers_by, RefusesBy}
 use Rattle.proto.proofs.HistoryLemmas.{refuses_more}
 use Rattle.proto.specs.Sizes.{Sizes}
-use Rattle.proto.specs.Steps.{Step}
+use Rattle.proto.specs.Steps.{Steps, IsCarriedOut}
 use Rattle.proto.specs.declared.counts.Counts.{Counts}
 use Rattle.proto.specs.Tallies.{no_counts, counted, TellsCounts, counts_after}
 use Rattle.exchange.specs.Ends.{StorageView}
@@ -13,12 +13,12 @@ use Rattle.engine.specs.Reaching.{Reaches}
 use Rattle.storage_thread.specs.Serving.{IsReadSince}
 use Rattle.storage_thread.specs.Keeping.{LeadsKeeping}
 use Rattle.storage_thread.specs.Deadlines.{LeadsAsAsked}
-use Rattle.engine.specs.Deadlines.{StoresAsAsked}
+use Rattle.engine.specs.Deadlines.{IsExactStep}
 use Rattle.engine.proofs.ReachingLemmas.{reaches_more, legal_of, counted_more}
-use Rattle.engine.proofs.Refusals.{refused_get}
+use Rattle.proto.proofs.Outcomes.{IsGet}
 use Rattle.storage_thread.proofs.Turns.{read_more}
-use Rattle.storage_thread.proofs.Kept.{KeepsStep, keeps_told, needs_none, refused_told, leads_more}
-use Rattle.storage_thread.proofs.Dated.{stores_told, dated_more}
+use Rattle.storage_thread.proofs.Kept.{KeepsStep, keeps_told, refused_told, leads_more}
+use Rattle.storage_thread.proofs.Dated.{dated_more}
 use Rattle.storage_thread.proofs.serving.execute.Goals as goal
 
 -- what an entry tells, by the counts before it
@@ -32,7 +32,7 @@ returns-clause-counts g c = let p = c.args.posted in
       worker = c.args.worker;
       session = p.session;
       number = p.number;
-      request = c.handle-stored.new.request;
+      request = c.carry_out-stored.new.request;
       moment = c.next_moment-moment.result;
       clock = c.answers.result;
       reply = c.reply-reply.result;
@@ -47,7 +47,7 @@ answer_later-told-requires-clause-legal g c = let p = c.args.posted in
       worker = c.args.worker;
       session = p.session;
       number = p.number;
-      request = c.handle-stored.new.request;
+      request = c.carry_out-stored.new.request;
       moment = c.next_moment-moment.result;
       clock = c.answers.result;
       reply = c.reply-reply.result;
@@ -57,12 +57,12 @@ answer_later-told-requires-clause-legal g c = let p = c.args.posted in
     ∙ ap (λ (l : List GivenAnswer). l ++ c.next_moment-moment.ensures.moment.0 ∷ []) c.requires.answers in
     let legal = legal_of _ _ _ _
     (reaches_more c.args.end.now.end.terms.geometry c.args.end.now.end.history (g.S.StorageEngine.cache c.args.store.now)
-    (g.S.StorageEngine.cache c.handle-stored.new.self) (g.S.StorageEngine.moment c.args.store.now) e c.requires.reaches (
-      c.handle-stored.result,
+    (g.S.StorageEngine.cache c.carry_out-stored.new.store) (g.S.StorageEngine.moment c.args.store.now) e c.requires.reaches (
+      c.carry_out-stored.result,
       c.reply-reply.ensures.same,
-      subst (λ (z : Sizes × Request). Step z.0 (g.S.StorageEngine.cache c.args.store.now) e.moment z.1 c.handle-stored.result
-          (g.S.StorageEngine.cache c.handle-stored.new.self))
-          (λ i. (c.requires.sizes i, sym c.handle-stored.ensures.request i)) c.handle-stored.ensures.step,
+      subst (λ (z : Sizes × Request). Steps z.0 (g.S.StorageEngine.cache c.args.store.now) e.moment z.1 c.carry_out-stored.result
+          (g.S.StorageEngine.cache c.carry_out-stored.new.store))
+          (λ i. (c.requires.sizes i, sym c.carry_out-stored.ensures.request i)) c.carry_out-stored.ensures.steps,
     )
     (tells c.args.counts.now c.args.end.now.end.history e c.requires.counts c.reply-reply.ensures.tells)
     (search rules) c.next_moment-moment.ensures.moment.0 (c.answers.ensures ∙ c.next_moment-moment.ensures.moment.2
@@ -71,10 +71,9 @@ answer_later-told-requires-clause-legal g c = let p = c.args.posted in
       read = λ is. let f = read_more _ _ _ c.args.end.now.end.history e c.next_moment-moment.ensures.moment.0 by c.requires.read
           c.next_moment-moment.ensures.moment.4 c.next_moment-moment.ensures.moment.5 is in (f.0, f.2);
       refused = λ none. refuses_more g.S.StorageEngine.may_refuse c.args.end.now.end.history e c.requires.refused
-          (λ is. refused_told e c.handle-stored.result c.reply-reply.ensures.same
-          (refused_get g.S.StorageEngine.may_refuse (g.S.StorageEngine.sizes c.args.store.now) (g.S.StorageEngine.cache c.args.store.now)
-          c.next_moment-moment.result p.request c.handle-stored.new.request c.handle-stored.result c.handle-stored.ensures.succeeds
-          c.handle-stored.ensures.request is)) (c.requires.refuses none);
+          (λ is. refused_told e c.carry_out-stored.result c.reply-reply.ensures.same
+          (λ refused. subst IsGet (sym c.carry_out-stored.ensures.request) (c.carry_out-stored.ensures.refused is refused)))
+          (c.requires.refuses none);
     }
 
 pub returns-clause-reaches : goal.returns-clause-reaches
@@ -83,26 +82,26 @@ returns-clause-reaches g c = let p = c.args.posted in
       worker = c.args.worker;
       session = p.session;
       number = p.number;
-      request = c.handle-stored.new.request;
+      request = c.carry_out-stored.new.request;
       moment = c.next_moment-moment.result;
       clock = c.answers.result;
       reply = c.reply-reply.result;
     } in
     let more = reaches_more c.args.end.now.end.terms.geometry c.args.end.now.end.history
     (g.S.StorageEngine.cache c.args.store.now)
-    (g.S.StorageEngine.cache c.handle-stored.new.self) (g.S.StorageEngine.moment c.args.store.now) e c.requires.reaches (
-      c.handle-stored.result,
+    (g.S.StorageEngine.cache c.carry_out-stored.new.store) (g.S.StorageEngine.moment c.args.store.now) e c.requires.reaches (
+      c.carry_out-stored.result,
       c.reply-reply.ensures.same,
-      subst (λ (z : Sizes × Request). Step z.0 (g.S.StorageEngine.cache c.args.store.now) e.moment z.1 c.handle-stored.result
-          (g.S.StorageEngine.cache c.handle-stored.new.self))
-          (λ i. (c.requires.sizes i, sym c.handle-stored.ensures.request i)) c.handle-stored.ensures.step,
+      subst (λ (z : Sizes × Request). Steps z.0 (g.S.StorageEngine.cache c.args.store.now) e.moment z.1 c.carry_out-stored.result
+          (g.S.StorageEngine.cache c.carry_out-stored.new.store))
+          (λ i. (c.requires.sizes i, sym c.carry_out-stored.ensures.request i)) c.carry_out-stored.ensures.steps,
     )
     (tells c.args.counts.now c.args.end.now.end.history e c.requires.counts c.reply-reply.ensures.tells)
     (search rules) c.next_moment-moment.ensures.moment.0 (c.answers.ensures ∙ c.next_moment-moment.ensures.moment.2
     ∙ ap (λ (l : List GivenAnswer). l ++ c.next_moment-moment.ensures.moment.0 ∷ []) c.requires.answers) (search rules) c.requires.next in
     subst (λ (z : StorageView × ℕ). Reaches z.0.terms.geometry z.0.history
-    (g.S.StorageEngine.cache c.handle-stored.new.self) z.1)
-    (λ i. (sym c.answer_later-told.ensures.answered i, sym c.handle-stored.ensures.moment i)) more
+    (g.S.StorageEngine.cache c.carry_out-stored.new.store) z.1)
+    (λ i. (sym c.answer_later-told.ensures.answered i, sym c.carry_out-stored.ensures.moment i)) more
 
 pub returns-clause-kept : goal.returns-clause-kept
 returns-clause-kept g c l = let p = c.args.posted in let m = g.S.StorageEngine in
@@ -110,28 +109,27 @@ returns-clause-kept g c l = let p = c.args.posted in let m = g.S.StorageEngine i
       worker = c.args.worker;
       session = p.session;
       number = p.number;
-      request = c.handle-stored.new.request;
+      request = c.carry_out-stored.new.request;
       moment = c.next_moment-moment.result;
       clock = c.answers.result;
       reply = c.reply-reply.result;
     } in
-    let old = m.cache c.args.store.now in let after = m.cache c.handle-stored.new.self in
+    let old = m.cache c.args.store.now in let after = m.cache c.carry_out-stored.new.store in
     let sizes : m.sizes c.args.store.now ≡ c.args.end.now.end.terms.geometry = c.requires.sizes in
-    let request : p.request ≡ c.handle-stored.new.request = sym c.handle-stored.ensures.request in
+    let request : p.request ≡ c.carry_out-stored.new.request = sym c.carry_out-stored.ensures.request in
     let more = leads_more c.args.end.now.end.terms.geometry c.args.end.now.end.history old after e (m.keeps c.args.store.now)
-    (m.keeps c.handle-stored.new.self) l (
-      c.handle-stored.result,
+    (m.keeps c.carry_out-stored.new.store) l (
+      c.carry_out-stored.result,
       c.reply-reply.ensures.same,
-      subst (λ (z : Sizes × Request). Step z.0 old e.moment z.1 c.handle-stored.result after)
-          (λ i. (sizes i, request i)) c.handle-stored.ensures.step,
+      subst (λ (z : Sizes × Request). Steps z.0 old e.moment z.1 c.carry_out-stored.result after)
+          (λ i. (sizes i, request i)) c.carry_out-stored.ensures.steps,
     )
-    (keeps_told c.args.end.now.end.terms.geometry old e c.handle-stored.result after (m.keeps c.args.store.now)
-    (m.keeps c.handle-stored.new.self) c.reply-reply.ensures.same
-    (λ is. c.handle-stored.ensures.succeeds (needs_none m.may_refuse (m.sizes c.args.store.now) old
-    c.next_moment-moment.result p.request (request ∙ is)))
-    (subst (λ (z : Sizes × Request). KeepsStep z.0 old (record e { request = z.1; reply = c.handle-stored.result }) after
-    (m.keeps c.args.store.now) (m.keeps c.handle-stored.new.self)) (λ i. (sizes i, request i)) c.handle-stored.ensures.kept)) in
-    subst (λ (z : StorageView). LeadsKeeping z.terms.geometry z.history after (m.keeps c.handle-stored.new.self))
+    (keeps_told c.args.end.now.end.terms.geometry old e c.carry_out-stored.result after (m.keeps c.args.store.now)
+    (m.keeps c.carry_out-stored.new.store) c.reply-reply.ensures.same
+    (λ is. c.carry_out-stored.ensures.told (request ∙ is))
+    (subst (λ (z : Sizes × Request). KeepsStep z.0 old (record e { request = z.1; reply = c.carry_out-stored.result }) after
+    (m.keeps c.args.store.now) (m.keeps c.carry_out-stored.new.store)) (λ i. (sizes i, request i)) c.carry_out-stored.ensures.kept)) in
+    subst (λ (z : StorageView). LeadsKeeping z.terms.geometry z.history after (m.keeps c.carry_out-stored.new.store))
     (sym c.answer_later-told.ensures.answered) more
 
 pub returns-clause-dated : goal.returns-clause-dated
@@ -140,26 +138,29 @@ returns-clause-dated g c l = let p = c.args.posted in let m = g.S.StorageEngine 
       worker = c.args.worker;
       session = p.session;
       number = p.number;
-      request = c.handle-stored.new.request;
+      request = c.carry_out-stored.new.request;
       moment = c.next_moment-moment.result;
       clock = c.answers.result;
       reply = c.reply-reply.result;
     } in
-    let old = m.cache c.args.store.now in let after = m.cache c.handle-stored.new.self in
+    let old = m.cache c.args.store.now in let after = m.cache c.carry_out-stored.new.store in
     let sizes : m.sizes c.args.store.now ≡ c.args.end.now.end.terms.geometry = c.requires.sizes in
-    let request : p.request ≡ c.handle-stored.new.request = sym c.handle-stored.ensures.request in
+    let request : p.request ≡ c.carry_out-stored.new.request = sym c.carry_out-stored.ensures.request in
     let more = dated_more c.args.end.now.end.terms.geometry c.args.end.now.end.history old after e (m.is_exact c.args.store.now)
-    (m.is_exact c.handle-stored.new.self) l (
-      c.handle-stored.result,
+    (m.is_exact c.carry_out-stored.new.store) l (
+      c.carry_out-stored.result,
       c.reply-reply.ensures.same,
-      subst (λ (z : Sizes × Request). Step z.0 old e.moment z.1 c.handle-stored.result after)
-          (λ i. (sizes i, request i)) c.handle-stored.ensures.step,
+      subst (λ (z : Sizes × Request). Steps z.0 old e.moment z.1 c.carry_out-stored.result after)
+          (λ i. (sizes i, request i)) c.carry_out-stored.ensures.steps,
     )
-    c.handle-stored.ensures.deadlines.0
-    (λ on. stores_told c.args.end.now.end.terms.geometry old e c.handle-stored.result after c.reply-reply.ensures.same
-    (subst (λ (z : Sizes × Request). StoresAsAsked z.0 old e.moment z.1 c.handle-stored.result after)
-    (λ i. (sizes i, request i)) (c.handle-stored.ensures.deadlines.1 on))) in
-    subst (λ (z : StorageView). LeadsAsAsked z.terms.geometry z.history after (m.is_exact c.handle-stored.new.self))
+    c.carry_out-stored.ensures.exact
+    (λ on. (
+      c.carry_out-stored.result,
+      c.reply-reply.ensures.same,
+      subst (λ (z : Sizes × Request). IsCarriedOut (IsExactStep z.0 e.moment) old z.1 c.carry_out-stored.result after)
+          (λ i. (sizes i, request i)) (c.carry_out-stored.ensures.deadlines on),
+    )) in
+    subst (λ (z : StorageView). LeadsAsAsked z.terms.geometry z.history after (m.is_exact c.carry_out-stored.new.store))
     (sym c.answer_later-told.ensures.answered) more
 
 pub returns-clause-read : goal.returns-clause-read
@@ -168,7 +169,7 @@ returns-clause-read g c = let p = c.args.posted in
       worker = c.args.worker;
       session = p.session;
       number = p.number;
-      request = c.handle-stored.new.request;
+      request = c.carry_out-stored.new.request;
       moment = c.next_moment-moment.result;
       clock = c.answers.result;
       reply = c.reply-reply.result;
@@ -187,13 +188,12 @@ returns-clause-refused g c = let p = c.args.posted in let m = g.S.StorageEngine 
       worker = c.args.worker;
       session = p.session;
       number = p.number;
-      request = c.handle-stored.new.request;
+      request = c.carry_out-stored.new.request;
       moment = c.next_moment-moment.result;
       clock = c.answers.result;
       reply = c.reply-reply.result;
     } in
     subst (λ (z : StorageView). RefusesBy m.may_refuse z.history) (sym c.answer_later-told.ensures.answered)
     (refuses_more m.may_refuse c.args.end.now.end.history e c.requires.refused
-    (λ is. refused_told e c.handle-stored.result c.reply-reply.ensures.same (refused_get m.may_refuse (m.sizes c.args.store.now)
-    (m.cache c.args.store.now) c.next_moment-moment.result p.request c.handle-stored.new.request c.handle-stored.result
-    c.handle-stored.ensures.succeeds c.handle-stored.ensures.request is)))
+    (λ is. refused_told e c.carry_out-stored.result c.reply-reply.ensures.same
+    (λ refused. subst IsGet (sym c.carry_out-stored.ensures.request) (c.carry_out-stored.ensures.refused is refused))))

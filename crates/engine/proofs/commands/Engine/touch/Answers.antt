@@ -1,12 +1,9 @@
 use mir.Val.{SFits}
-use Rattle.std.proofs.Common.{rules, w64, ◌≡◌, ℕ, ℤ, List, Option, Some, false, sym, ap, subst, ◌∙◌, append-nil, refl}
+use Rattle.std.proofs.Common.{rules, w64, ◌≡◌, ℕ, ℤ, Option, Some, false, sym, ap, ◌∙◌, append-nil, refl}
 use Rattle.std.proofs.lemmas.Int.{to_z-of_z}
 use Rattle.std.specs.FinMap as map
-use Rattle.proto.specs.declared.message.Reply.TheVariants.{Touched}
 use Rattle.proto.specs.Cache.{Entry, has_arrived, deadline_of}
-use Rattle.proto.specs.Commands.{touch}
 use Rattle.engine.specs.Shown.{entry_of}
-use Rattle.engine.specs.Engines.{cache_in, as_touched, Leaves}
 use Rattle.engine.proofs.TouchLemmas.{asking, leaves_there, leaves_anew}
 use Rattle.engine.proofs.commands.Engine.touch.Goals as goal
 
@@ -14,8 +11,8 @@ pub returns-then-may_stay : goal.returns-then-may_stay
 returns-then-may_stay g c =
     let m = g.M.LiveMap in
     let old = c.args.self.now in
-    let key = c.as_slice-key.result.now in
-    let exptime = c.args.asked.now.exptime in
+    let key = c.args.key.now in
+    let exptime = c.args.exptime in
     let fits : SFits w64 exptime = search rules in
     let e : Entry = entry_of c.in-Some.entry in
     let asked : Option ℕ = c.deadline_of-deadline.result in
@@ -26,20 +23,18 @@ returns-then-may_stay g c =
     let waits : has_arrived asked (m.moment old.map) ≡ false =
     ap (has_arrived asked) (sym c.last_moment-2.ensures) ∙ sym c.has_arrived.ensures ∙ c.if-has_arrived.false in
     let new = record old { map = c.count_touch.new.self } in
-    subst (λ (k : List ℕ). Leaves m as_touched old new
-    (touch (map.get (m.entries old.map) k) (cache_in m.entries old) (m.moment old.map) k exptime) Touched) c.as_slice-key.ensures
-    (leaves_there m old new key exptime e asked c.may_stay.result there is waits
+    leaves_there m old new key exptime e asked c.may_stay.result there is waits
     c.if-may_stay.true (c.may_stay.ensures.decides e there) (c.may_stay.ensures.may_stay c.if-may_stay.true e there)
     (c.may_stay.ensures.kept c.if-may_stay.true e there) refl refl refl refl
     c.count_touch.ensures.sizes c.count_touch.ensures.moment c.count_touch.ensures.entries c.count_touch.ensures.counted
-    c.count_touch.ensures.kept)
+    c.count_touch.ensures.kept
 
 pub returns-in-Ok : goal.returns-in-Ok
 returns-in-Ok g c =
     let m = g.M.LiveMap in
     let old = c.args.self.now in
-    let key = c.as_slice-key.result.now in
-    let exptime = c.args.asked.now.exptime in
+    let key = c.args.key.now in
+    let exptime = c.args.exptime in
     let fits : SFits w64 exptime = search rules in
     let e : Entry = entry_of c.in-Some.entry in
     let asked : Option ℕ = c.deadline_of-deadline.result in
@@ -54,8 +49,6 @@ returns-in-Ok g c =
     let w : Entry = record { value = c.as_slice.result.now; flags = e.flags; deadline = asked; cas = e.cas } in
     let same : w ≡ asking e asked = (λ i. record { value = value i; flags = e.flags; deadline = asked; cas = e.cas }) in
     let new = record old { map = c.write.new.self; scratch = c.put.new.self } in
-    subst (λ (k : List ℕ). Leaves m as_touched old new
-    (touch (map.get (m.entries old.map) k) (cache_in m.entries old) (m.moment old.map) k exptime) Touched) c.as_slice-key.ensures
-    (leaves_anew m old new key exptime e w asked
+    leaves_anew m old new key exptime e w asked
     c.may_stay.result there is waits c.if-may_stay.false (c.may_stay.ensures.decides e there) c.in-Ok.ensures.sizes_same
-    c.in-Ok.ensures.moment_same refl refl refl refl same c.in-Ok.ensures.written c.in-Ok.ensures.exactly c.in-Ok.ensures.kept)
+    c.in-Ok.ensures.moment_same refl refl refl refl same c.in-Ok.ensures.written c.in-Ok.ensures.exactly c.in-Ok.ensures.kept

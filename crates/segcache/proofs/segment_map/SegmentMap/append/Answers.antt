@@ -8,7 +8,10 @@ use Rattle.segcache.proofs.TiedParts.{some_item, tied_put, source_within}
 use Rattle.segcache.proofs.AppendedItems.{AsksAppend, put_deadline}
 use Rattle.segcache.proofs.AppendNeeds.{appended_here, appended_room, appended_index, appended_current, had_current}
 use Rattle.segcache.proofs.segment_map.SegmentMap.append.Goals as goal
-use Rattle.index.proofs.PoolKeys.{item_key}
+use Rattle.index.proofs.PoolKeys.{item_key, key_added}
+use Rattle.index.proofs.FoundEntries.{found_kept}
+use Rattle.segments.specs.Pools.{key_at}
+use Rattle.segcache.specs.Writes.{FindsKey}
 use Rattle.segcache.specs.State.{MapState}
 
 pub insert-source-requires-clause-index : goal.insert-source-requires-clause-index
@@ -20,6 +23,15 @@ insert-source-requires-clause-index c =
     c.in_ok-place.ensures.appended in
     (appended_current a.pool c.append.new.self c.args.bucket a.moment i c.in_ok-place.place a.index
     c.self.invariant.tied.indexed added).index
+
+pub insert-source-requires-clause-found : goal.insert-source-requires-clause-found
+insert-source-requires-clause-found c =
+    let a = c.self.inside in
+    let key = c.args.item.key.now in
+    let added = key_added a.pool c.append.new.self c.args.bucket a.moment (item_of c.args.item) c.in_ok-place.place
+    c.self.invariant.tied.known.pool c.in_ok-place.ensures.appended in
+    found_kept (key_at a.pool) (key_at c.append.new.self) a.index key c.args.found c.self.invariant.tied.indexed added.kept
+    (subst (λ (s : MapState). FindsKey s key c.args.found) (sym c.self.view_is) c.requires.found)
 
 pub insert-source-requires-clause-key : goal.insert-source-requires-clause-key
 insert-source-requires-clause-key c =

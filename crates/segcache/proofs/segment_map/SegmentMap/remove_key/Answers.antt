@@ -8,5 +8,5 @@ pub returns-in_default-clause-left : goal.returns-in_default-clause-left
 returns-in_default-clause-left c =
     let a = c.self.inside in
     let none : None ≡ finite.get (current a.pool a.index) c.args.key.now =
-    sym c.in_default.is ∙ c.look_up.ensures.place in
+    sym c.in_default.is ∙ c.place_found.ensures.place in
     rw (← c.self.view_is) (removed_none (current a.pool a.index) c.args.key.now (sym none))

@@ -13,10 +13,17 @@ use Rattle.index.proofs.SlotsAsMap.{get-remove}
 use Rattle.segcache.specs.State.{MapState}
 use Rattle.segcache.specs.Shown.{current}
 use Rattle.segcache.specs.LiveItems.{live_others}
+use Rattle.segcache.specs.Writes.{FindsKey}
 use Rattle.segcache.proofs.ForgottenKeys.{placed_left, room_was, room_there}
 use Rattle.segcache.proofs.AppendedItems.{put_over, put_left, put_placed, was_refused, was_done}
 use Rattle.segcache.proofs.segment_map.SegmentMap.write_item.Goals as goal
 use Rattle.segcache.specs.OwnDeadlines.{own_deadline_by}
+
+pub remove_key-requires : goal.remove_key-requires
+remove_key-requires c =
+    let first = was_refused c.append.result _ _ c.append.ensures.appended
+    (sym c.is_err.ensures.value ∙ c.if-is_err.true) in
+    subst (λ (s : MapState). FindsKey s c.args.item.key.now c.args.found) (sym first.1) c.requires.found
 
 pub append_to_freed-requires-clause-storable : goal.append_to_freed-requires-clause-storable
 append_to_freed-requires-clause-storable c =

@@ -36,8 +36,8 @@ write_item-requires-clause-storable c =
     may_store s.pool s.index s.marks s.moment i kept.tied c.requires.fits (search rules) (search rules) refl
     (subst (λ (n : ℕ). n < 2 ^ 48) (sym own) (own_small s.pool.exact e.deadline))
 
-pub place_over-requires : goal.place_over-requires
-place_over-requires c =
+pub place_over-requires-clause-storable : goal.place_over-requires-clause-storable
+place_over-requires-clause-storable c =
     let s = c.args.self.now in
     let e = c.args.entry in
     let i : Item = record { cas = e.cas; flags = e.flags; key = c.args.key.now; value = e.value.now; reads = 0; own_deadline = c.own_deadline_by.result } in

@@ -1,4 +1,4 @@
-use Rattle.std.proofs.Common.{◌≤◌, List, Option, None, refl, ap, sym, ◌∙◌, subst, length, arith}
+use Rattle.std.proofs.Common.{List, Option, None, refl, ap, sym, ◌∙◌, subst, length, arith}
 use Rattle.std.specs.Prelude.{option_map}
 use Rattle.std.proofs.lemmas.List.{length-set}
 use Rattle.std.proofs.lemmas.List.Elements.{All-set}
@@ -58,7 +58,7 @@ invariant_of-self c =
       count = length-set a.segments.items c.args.place.segment t ∙ i.count;
       kept = All-set (IsSegment a.geometry) a.segments.items c.args.place.segment t
           (change_kept (λ _. new) a.geometry s t o.opening c.args.place.offset
-          (kept_one a c.args.place.segment s i lt at) o.is o.is c.overwrite.ensures.items (λ _ _. storable) q.sized) i.kept;
+          (kept_one a c.args.place.segment s i lt at) o.is o.is c.overwrite.ensures (λ _ _. storable) q.sized) i.kept;
       linked = linked_items a.geometry.segments a.segments.items a.free.items a.order.items a.tails.items
           c.args.place.segment s t
           o.opening i.linked lt at o.is o.is;
@@ -72,7 +72,7 @@ invariant_of-self c =
         candidate_room = m.candidate_room;
         rank_room = m.rank_room;
         merged_room = m.merged_room;
-        spare_sized = c.overwrite.ensures.size ∙ m.spare_sized;
+        spare_sized = m.spare_sized;
         start_count = m.start_count;
         rest_count = m.rest_count;
       };
@@ -87,7 +87,7 @@ returns-clause-overwritten c =
     let t : Segment = record { opening = s.opening; packed = c.overwrite.new.self } in
     let at = c.index_mut-segment.ensures.value in
     let q = changing (λ _. new) a c.args.self.now c.args.place s c.self.view_is (keeps_over new _ c.requires.fits) at in
-    let items = ap (λ p. p.items) c.overwrite.ensures.items in
+    let items = ap (λ p. p.items) c.overwrite.ensures in
     ap (λ (us : List (Option Used)). record {
       sizes = a.geometry;
       segments = us;

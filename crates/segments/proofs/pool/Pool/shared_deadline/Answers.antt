@@ -1,4 +1,4 @@
-use Rattle.std.proofs.Common.{◌≡◌, ap, sym, ◌∙◌}
+use Rattle.std.proofs.Common.{ap, sym, ◌∙◌}
 use Rattle.segments.specs.Pools.{PoolState, segment_at, deadline_in}
 use Rattle.segments.proofs.PoolLemmas.{dated, in_range, segment_inside}
 use Rattle.segments.proofs.pool.Pool.shared_deadline.Goals as goal

@@ -1,9 +1,11 @@
 use mir.Val.{SFits}
-use Rattle.std.proofs.Common.{rules, w64, ◌≡◌, ◌≤◌, ◌+◌, ◌-◌, ℤ, ℕ, List, length, take, drop, sym, ap, subst, ◌∙◌, arith}
+use Rattle.std.proofs.Common.{rules, w64, ◌≡◌, ◌≤◌, ◌+◌, ◌-◌, ℤ, ℕ, Option, List, length, take, drop, sym, ap, subst, ◌∙◌, arith}
 use Rattle.std.proofs.lemmas.Int.{to_z-of_z}
 use Rattle.proto.specs.declared.message.Put.{Put}
-use Rattle.proto.specs.Grammar.{Spells}
+use Rattle.proto.specs.Grammar.{Spells, refused_by}
 use Rattle.proto.specs.PlainReader.{message_by}
+use Rattle.proto.specs.declared.message.Message.{Message}
+use Rattle.session_book.specs.Input.{Begins}
 use Rattle.session_book.proofs.Blocks.{data_within, taken_put, taken_anew}
 use Rattle.session_book.proofs.Inputs.{none_gone, dropping, whole_dropped}
 use Rattle.session_book.proofs.input.Input.next.Goals as goal
@@ -11,8 +13,12 @@ use Rattle.session_book.proofs.input.Input.next.Goals as goal
 pub returns-then-self-most_kept : goal.returns-then-self-most_kept
 returns-then-self-most_kept c =
     let i = c.self.inside in
-    let h = dropping i.dialect i.gone.items i.kept i.need i.noreply c.self.invariant.3 (rw c.most_kept.ensures.value at c.if-self-most_kept.true) in
-    (whole_dropped c.args.self.now i.dialect i.gone.items i.kept i.need i.noreply c.self.view_is h c.requires, c.self.view_is)
+    let h = dropping i.dialect i.gone.items i.kept i.need (refused_by i.key i.noreply) c.self.invariant.3 (rw c.most_kept.ensures.value at c.if-self-most_kept.true) in
+    let is = c.in_ok-message.ensures ∙ c.too_large-view.ensures ∙ ap (λ (key : Option (List ℕ)). refused_by key i.noreply) c.lent_key.ensures in (
+      subst (λ (m : Message). Begins c.args.self.now m i.need) (sym is)
+          (whole_dropped c.args.self.now i.dialect i.gone.items i.kept i.need (refused_by i.key i.noreply) c.self.view_is h c.requires),
+      c.self.view_is,
+    )
 
 pub overflow_sub-end : goal.overflow_sub-end
 overflow_sub-end c =
@@ -35,14 +41,14 @@ overflow_sub-start c =
 pub invariant_of-self-then-is_worth_taking : goal.invariant_of-self-then-is_worth_taking
 invariant_of-self-then-is_worth_taking c =
     let i = c.self.inside in
-    taken_anew i.dialect i.gone.items i.kept c.take_part.new.self i.need i.dropped i.noreply i.noreply _ c.self.invariant.3
+    taken_anew i.dialect i.gone.items i.kept c.take_part.new.self i.need i.dropped (refused_by i.key i.noreply) (refused_by i.key i.noreply) _ c.self.invariant.3
     (rw c.most_kept.ensures.value at c.if-self-most_kept.false) c.self.invariant.0 (search rules)
 
 pub returns-in_ok-value-in-Found-Put-default : goal.returns-in_ok-value-in-Found-Put-default
 returns-in_ok-value-in-Found-Put-default c =
     let i = c.self.inside in let f = c.in-Found-Put-default in let seen = c.as_slice.result.now in
     let key = c.in_ok-key-in-Found-Put-default.key in let value = c.in_ok-value-in-Found-Put-default.value in
-    let none = none_gone i.dialect i.gone.items i.kept i.need i.noreply c.self.invariant.3 (rw c.most_kept.ensures.value at c.if-self-most_kept.false) in
+    let none = none_gone i.dialect i.gone.items i.kept i.need (refused_by i.key i.noreply) c.self.invariant.3 (rw c.most_kept.ensures.value at c.if-self-most_kept.false) in
     let put : Put = record { key = f.head.key.now; flags = f.head.flags; exptime = f.head.exptime; value = f.data.now } in
     let spells : Spells i.dialect (take f.length seen) (message_by f.head.mode put f.head.noreply) = search rules in
     let within : f.length ≤ length seen = (search rules) in

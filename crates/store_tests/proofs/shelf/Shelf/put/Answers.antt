@@ -1,4 +1,4 @@
-use Rattle.std.proofs.Common.{◌≡◌, ◌+◌, ◌≤◌, sym, ap, subst, arith}
+use Rattle.std.proofs.Common.{rules, ◌≡◌, ◌+◌, ◌≤◌, sym, ap, subst, arith}
 use Rattle.segments.specs.Pools.{PoolState}
 use Rattle.segments.proofs.Places.{appended}
 use Rattle.index.specs.Keys.{KeysOf, IsKeyAdded}
@@ -11,6 +11,16 @@ use Rattle.index.proofs.PoolKeys.{key_added}
 use Rattle.index.proofs.PoolPlaces.{room_for_one}
 use Rattle.index.proofs.PlacesInLayout.{appended_in_layout}
 use Rattle.store_tests.proofs.shelf.Shelf.put.Goals as goal
+
+pub find-found-requires : goal.find-found-requires
+find-found-requires c =
+    let pool = c.self.inside.pool in
+    let before : KeysOf = key_at pool in
+    let t : Table = c.self.inside.index in
+    let added : IsKeyAdded pool c.append.new.self c.in-Ok.place c.args.key.now =
+    key_added pool c.append.new.self _ _ _ c.in-Ok.place c.geometry.ensures.pool c.in-Ok.ensures.appended in
+    (keys_agree before (key_at c.append.new.self) t c.self.invariant.0
+    (λ p h. added.kept p (held_key before t c.self.invariant.0 p h))).index
 
 pub insert-requires : goal.insert-requires
 insert-requires c =
@@ -30,6 +40,7 @@ insert-requires c =
     let room = c.self.invariant.2 in
     record {
       index = same.index;
+      found = search rules;
       key = added.new;
       place = appended_in_layout pool c.append.new.self _ _ _ place c.self.inside.index.layout c.append.ensures.pool stands
           (rw c.self.invariant.1 c.self.invariant.3);

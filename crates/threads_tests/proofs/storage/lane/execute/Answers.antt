@@ -3,7 +3,7 @@ use Rattle.proto.specs.declared.history.Answered.{Answered}
 use Rattle.proto.specs.declared.message.Request.{Request}
 use Rattle.proto.specs.ClockAnswers.{GivenAnswer}
 use Rattle.proto.specs.Sizes.{Sizes}
-use Rattle.proto.specs.Steps.{Step}
+use Rattle.proto.specs.Steps.{Steps}
 use Rattle.engine.proofs.ReachingLemmas.{reaches_more, legal_of}
 use Rattle.threads_tests.proofs.storage.lane.execute.Goals as goal
 
@@ -14,7 +14,7 @@ answer-requires-clause-legal g c =
       worker = c.args.worker;
       session = p.session;
       number = p.number;
-      request = c.handle-stored.new.request;
+      request = c.carry_out-stored.new.request;
       moment = c.next_moment-moment.result;
       clock = c.answers-told.result;
       reply = c.uncounted-reply.result;
@@ -22,12 +22,12 @@ answer-requires-clause-legal g c =
     record {
       legal = legal_of _ _ _ _
           (reaches_more c.args.end.now.terms.geometry c.args.end.now.history (g.S.StorageEngine.cache c.args.store.now)
-          (g.S.StorageEngine.cache c.handle-stored.new.self) (g.S.StorageEngine.moment c.args.store.now) e c.requires.reaches (
-            c.handle-stored.result,
+          (g.S.StorageEngine.cache c.carry_out-stored.new.store) (g.S.StorageEngine.moment c.args.store.now) e c.requires.reaches (
+            c.carry_out-stored.result,
             c.uncounted-reply.ensures.same,
-            subst (λ (z : Sizes × Request). Step z.0 (g.S.StorageEngine.cache c.args.store.now) e.moment z.1 c.handle-stored.result
-                (g.S.StorageEngine.cache c.handle-stored.new.self))
-                (λ i. (c.requires.sizes i, sym c.handle-stored.ensures.request i)) c.handle-stored.ensures.step,
+            subst (λ (z : Sizes × Request). Steps z.0 (g.S.StorageEngine.cache c.args.store.now) e.moment z.1 c.carry_out-stored.result
+                (g.S.StorageEngine.cache c.carry_out-stored.new.store))
+                (λ i. (c.requires.sizes i, sym c.carry_out-stored.ensures.request i)) c.carry_out-stored.ensures.steps,
           )
           (λ is. inl (c.uncounted-reply.ensures.refused is))
           (search rules) c.next_moment-moment.ensures.moment.0 (c.answers-told.ensures ∙ c.next_moment-moment.ensures.moment.2

@@ -10,14 +10,14 @@ use Rattle.segcache.proofs.ShownItems.{get-live_in, not_live, entry_live}
 use Rattle.engine.specs.Shown.{entry_of}
 use Rattle.segcache.proofs.TiedParts.{current_item}
 use Rattle.segcache.proofs.LeftEntries.{value_small}
-use Rattle.segcache.proofs.segment_map.SegmentMapLiveMap.get.Goals as goal
+use Rattle.segcache.proofs.segment_map.SegmentMapLiveMap.entry_found.Goals as goal
 
 pub returns-in_err-place-clause-found : goal.returns-in_err-place-clause-found
 returns-in_err-place-clause-found c =
     let a = c.self.inside in
     let p = a.pool in
     let m = current p a.index in
-    let none : None ≡ finite.get m c.args.key.now = sym c.in_err-place.was ∙ c.look_up.ensures.place in
+    let none : None ≡ finite.get m c.args.key.now = sym c.in_err-place.was ∙ c.place_found.ensures.place in
     let is : finite.get (shown_entries p a.index a.moment) c.args.key.now ≡ None =
     get-live_in p m a.moment c.args.key.now
     ∙ ap (λ (o : Option Place). if_live a.moment (option_map (entry_at p) o)) (sym none) in

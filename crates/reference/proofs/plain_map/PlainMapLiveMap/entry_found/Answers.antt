@@ -2,7 +2,7 @@ use Rattle.std.proofs.Common.{Some, not, ap, sym, ◌∙◌}
 use Rattle.proto.specs.Cache.{Entry}
 use Rattle.engine.specs.Shown.{entry_of}
 use Rattle.reference.proofs.PlainLemmas.{live_where_live, live_where_dead, live_where_none}
-use Rattle.reference.proofs.plain_map.PlainMapLiveMap.get.Goals as goal
+use Rattle.reference.proofs.plain_map.PlainMapLiveMap.entry_found.Goals as goal
 
 pub returns-in_err-get-clause-found : goal.returns-in_err-get-clause-found
 returns-in_err-get-clause-found c = rw c.from_residual.ensures (live_where_none _ _ _ c.in_err-get.ensures.value)

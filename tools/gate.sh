@@ -2,8 +2,8 @@
 # The gate. `rt ci` proves every crate from nothing, and runs the tests and the programs. On the processors that it leaves
 # idle each wrong body must be refused by the prover, now or in an earlier run on this machine over the same files. Then each
 # growth is refused in turn, and real sockets and real clients are tried against a served program, with nothing beside.
-# Each crate that is proved gets a line with the time so far. What the gate took is left in out/gate_took, too. The last line
-# is 'N passed, M failed'.
+# Each crate that is proved gets a line with the time so far. What the gate took is left in out/gate_took, too. What failed is
+# named once more at the end. The last line is 'N passed, M failed'.
 set -u
 cd "$(dirname "$0")/.."
 passed=0
@@ -34,13 +34,14 @@ with_progress() {
   done
 }
 
-# Adds the count that ends what a part of the gate said.
+# Adds the count that ends what a part of the gate said. Its third argument is how a line begins that names what failed.
 count() {
   if [[ $(tail -n 1 "$2") =~ ^([0-9]+)\ passed,\ ([0-9]+)\ failed$ ]]; then
     passed=$((passed + BASH_REMATCH[1]))
     failed=$((failed + BASH_REMATCH[2]))
+    ((BASH_REMATCH[2] == 0)) || grep -E "$3" "$2" >>"$work/failed"
   else
-    echo "gate: $1 ended without its count"
+    echo "$1 ended without its count" >>"$work/failed"
     failed=$((failed + 1))
   fi
 }
@@ -49,10 +50,11 @@ count() {
 part() {
   local name=$1
   shift
-  if "$@"; then
+  "$@" 2>&1 | tee "$work/part"
+  if [ "${PIPESTATUS[0]}" -eq 0 ]; then
     passed=$((passed + 1))
   else
-    echo "gate: $name failed"
+    { echo "$name failed"; grep -E '^(FAILED|ERROR) ' "$work/part"; } >>"$work/failed"
     failed=$((failed + 1))
   fi
 }
@@ -70,7 +72,7 @@ at_once=$(python3 -B -c 'import sys; sys.path.insert(0, "tools"); import machine
 # (`time` tells what all of its processes took, in seconds of user and of system)
 TIMEFORMAT='%U %S'
 { time RT_JOBS=$at_once rt ci 2>&1; } 2>"$work/took" | tee -p "$work/log" "$work/said" | with_progress
-count rt "$work/log"
+count rt "$work/log" '^rt: FAILED'
 
 program=crates/segcached/out/segcached
 # Each file of tests is a part. Those that time nothing run beside the last wrong bodies.
@@ -84,7 +86,7 @@ part "try_deb" tools/try_deb.sh "$work/log"
 wait "$tries_pid"
 tries_pid=
 cat "$work/wrong_bodies"
-count wrong_bodies "$work/wrong_bodies"
+count wrong_bodies "$work/wrong_bodies" '^  [a-z_]+/'
 minutes_of_ci=$(awk '{ printf "%.0f", ($1 + $2) / 60 }' "$work/took")
 minutes_of_edits=$(sed -n 's/ processor minutes of the prover$//p' "$work/wrong_bodies")
 read -r all stolen < <(ticks)
@@ -100,6 +102,7 @@ part "hostile" python3 tools/hostile.py --program "$program" --late 2 \
   --only fairness,unread,shared_counters,history,bad_peers,few_descriptors,refused_memory,little_memory,fuzz
 
 took="$(((SECONDS - began) / 60)) minutes on $(nproc) processors"
+[ ! -e "$work/failed" ] || sed 's/^ */gate: /' "$work/failed"
 echo "gate: took $took; $costs"
 echo "$(date -u '+%F %H:%M UTC'), make test: $took; $passed passed, $failed failed" >out/gate_took
 echo "$passed passed, $failed failed"

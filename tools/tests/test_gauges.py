@@ -180,6 +180,15 @@ def test_lookups_of_expired_items_are_counted(serve):
     assert (found["get_expired"], found["get_misses"]) == (2, 3)
 
 
+def test_connections_that_are_set_aside_are_counted(serve):
+    """A worker has 64 requests on their way at most."""
+    with serve("--lenient", "--workers", "1").connect() as stream:
+        ask(stream, b"get none\r\n" * 50, END * 50)
+        assert numbers(stream)["conn_yields"] == 0
+        ask(stream, b"get none\r\n" * 10_000, END * 10_000)
+        assert 100 <= numbers(stream)["conn_yields"] < 10_000
+
+
 def test_failed_accepts_are_no_rejected_connections(serve):
     """A process of 64 descriptors can't accept 150 connections, which wait in the system's queue."""
     server = serve("--lenient", limits={resource.RLIMIT_NOFILE: 64})

@@ -10,14 +10,14 @@ use Rattle.index.specs.Keys.{KeysOf, hash_of, home_of}
 use Rattle.index.specs.Layouts.{tag_of}
 use Rattle.index.specs.Slots.{is_used, place_of, slot_at}
 use Rattle.index.specs.Table.{Table, Hashing, hashing, IsIndex, IsMap, places, place_at}
-use Rattle.index.specs.Searches.{IsFound, IsOfKey, NoneUpTo}
+use Rattle.index.specs.Searches.{IsEntryOf, IsOfKey, NoneUpTo}
 use Rattle.index.proofs.SlotsAsMap.{get_none, get_from_stands, none_stands, removed_places, stands_once, Stands}
 use Rattle.index.proofs.KeySlots.{none_found}
 use Rattle.index.proofs.SplitHomes.{home_below}
 
 -- a place that was found is the key's
 pub found_place : (keys : KeysOf) (t : Table) (key : List ℕ) (hash slot : ℕ) (place : Place) → IsIndex keys t
-    → IsFound keys t key (At hash slot place) → place_at keys t key ≡ Some place
+    → IsEntryOf keys t key (At hash slot place) → place_at keys t key ≡ Some place
 found_place keys t key hash slot place index found =
     let h : Hashing = hashing (length t.slots) t.layout t.hasher in
     let f : IsOfKey keys t.slots (tag_of t.layout hash) key slot = found.1.0 in
@@ -27,7 +27,7 @@ found_place keys t key hash slot place index found =
 
 -- where a gap was found, no place is the key's
 pub found_none : (keys : KeysOf) (t : Table) (key : List ℕ) (hash slot : ℕ) → IsIndex keys t
-    → IsFound keys t key (Gap hash slot) → place_at keys t key ≡ None
+    → IsEntryOf keys t key (Gap hash slot) → place_at keys t key ≡ None
 found_none keys t key hash slot index found =
     let some : 1 ≤ length t.slots = (let r = found.1.0.in_range in omega (arith, r)) in
     let h : Hashing = hashing (length t.slots) t.layout t.hasher in
@@ -38,7 +38,7 @@ found_none keys t key hash slot index found =
 
 -- and to take the key out changes nothing
 pub removed_nothing : (keys : KeysOf) (t : Table) (key : List ℕ) (hash slot : ℕ) → IsIndex keys t
-    → IsFound keys t key (Gap hash slot) → IsMap keys t (map.remove (places keys t) key)
+    → IsEntryOf keys t key (Gap hash slot) → IsMap keys t (map.remove (places keys t) key)
 removed_nothing keys t key hash slot index found =
     let none = none_stands keys t.slots key (found_none keys t key hash slot index found) in
     record {
@@ -50,7 +50,7 @@ removed_nothing keys t key hash slot index found =
 
 -- what was found stays so where each place that has a key keeps it
 pub found_kept : (before after : KeysOf) (t : Table) (key : List ℕ) (e : Entry) → IsIndex before t
-    → ((p : Place) → IsSome (before p) → after p ≡ before p) → IsFound before t key e → IsFound after t key e
+    → ((p : Place) → IsSome (before p) → after p ≡ before p) → IsEntryOf before t key e → IsEntryOf after t key e
 found_kept before after t key (At hash slot place) index kept found =
     let f : IsOfKey before t.slots (tag_of t.layout hash) key slot = found.1.0 in
     let has = f.key_is in (

@@ -7,7 +7,7 @@ use Rattle.segments.specs.declared.place.Place.{Place}
 use Rattle.segments.specs.Items.{Item, with_reads_halved}
 use Rattle.segments.specs.Pools.{PoolState, Plan, IsPool, Liveness, Standing, segment_at, items_of, item_in, place_deadline, deadline_in, standing}
 use Rattle.segments.specs.Pools.{live_standing}
-use Rattle.segments.specs.Places.{IsCarriedOut}
+use Rattle.segments.specs.Places.{FollowsPlan}
 use Rattle.segments.specs.Merges.{IsPlan, with_merge_planned, carried_out, merged_segments, live_items, contains_number}
 use Rattle.segments.proofs.AgreeingTests.{in_segment}
 use Rattle.segments.proofs.PlanLemmas.{found_from}
@@ -89,7 +89,7 @@ pub plan_relocates : (lives : Liveness) (p : PoolState) (plan : Plan) (t : Table
     → CanRelocate (key_at (with_merge_planned p plan)) (keys_after_merge (with_merge_planned p plan)) t plan.moves
 plan_relocates lives p plan t k h behind layout index holds =
     let after = carried_out (with_merge_planned p plan) plan in
-    let c : IsCarriedOut p plan after = carried lives p plan after k h refl in
+    let c : FollowsPlan p plan after = carried lives p plan after k h refl in
     let starts = starts_live lives p plan h in
     record {
       held = λ i d lt some. (let s = starts i d lt in holds.held (get_or plan.moves i d).source s.item s.stands s.live);

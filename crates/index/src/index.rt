@@ -8,7 +8,7 @@ ghost use Rattle.segments.specs.Merges.{planned_moves};
 ghost use Rattle.segments.specs.Places.{moved_by};
 ghost use Rattle.index.specs.Keys.{KeysOf, seeded_hasher, hash_of, home_of};
 ghost use Rattle.index.specs.Slots.{used_in, empty_slot, slot_with, IsFirstGap};
-ghost use Rattle.index.specs.Searches.{IsFound};
+ghost use Rattle.index.specs.Searches.{IsEntryOf};
 ghost use Rattle.index.specs.Reinserting.{HasSamePlaces};
 ghost use Rattle.index.specs.Layouts.{IsLayout, IsInLayout, CanHold, tag_of};
 ghost use Rattle.index.specs.Relocating.{IsRelocated, CanRelocate, forget_place, forget_lost, keys_after_merge};
@@ -185,7 +185,7 @@ impl Index {
     #[inline(always)]
     pub fn find(&self, pool: &Pool, key: &[u8]) -> Entry
         requires { IsIndex (key_at pool.now) self.now }
-        ensures { IsFound (key_at pool.now) self.now key.now result }
+        ensures { IsEntryOf (key_at pool.now) self.now key.now result }
     {
         let Start { hash, home, tag } = start_of(&self.slots, self.hasher, key);
         match find_key(&self.slots, pool, home, tag, key) {
@@ -198,7 +198,7 @@ impl Index {
     #[inline(always)]
     pub fn place_found(&self, _pool: &Pool, _key: &[u8], entry: Entry) -> Option<Place>
         requires index { IsIndex (key_at _pool.now) self.now }
-        requires found { IsFound (key_at _pool.now) self.now _key.now entry }
+        requires found { IsEntryOf (key_at _pool.now) self.now _key.now entry }
         ensures place { result ≡ place_at (key_at _pool.now) self.now _key.now }
         ensures key { IfSome result (λ place. key_at _pool.now place ≡ Some _key.now) }
         ensures item { IfSome result (λ place. IsSome (item_in _pool.now place)) }
@@ -213,7 +213,7 @@ impl Index {
     /// of the table grows first, up to three slots for each key; a gap is searched for again only if it grew.
     pub fn insert(&mut self, pool: &Pool, _key: &[u8], entry: Entry, place: Place) -> Option<Place>
         requires index { IsIndex (key_at pool.now) self.old }
-        requires found { IsFound (key_at pool.now) self.old _key.now entry }
+        requires found { IsEntryOf (key_at pool.now) self.old _key.now entry }
         requires key { key_at pool.now place ≡ Some _key.now }
         requires place { IsInLayout self.old.layout place }
         requires room { 2 * (used_in self.old.slots + 1) ≤ self.old.room }
@@ -278,7 +278,7 @@ impl Index {
     /// Takes the key whose search found this out, if it has a place.
     pub fn remove_found(&mut self, pool: &Pool, _key: &[u8], entry: Entry)
         requires index { IsIndex (key_at pool.now) self.old }
-        requires found { IsFound (key_at pool.now) self.old _key.now entry }
+        requires found { IsEntryOf (key_at pool.now) self.old _key.now entry }
         ensures map { IsMap (key_at pool.now) self.new (map.remove (places (key_at pool.now) self.old) _key.now) }
         ensures size { IsSameSize self.old self.new }
     {

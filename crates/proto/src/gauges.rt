@@ -41,6 +41,8 @@ pub enum Gauge {
     TcpPort,
     /// Connections that were ended as idle.
     IdleKicks,
+    /// How often a connection that may have further requests was set aside.
+    ConnYields,
     BytesRead,
     BytesWritten,
     /// Bytes that were received and aren't read yet.
@@ -88,10 +90,11 @@ pub enum Gauge {
 }
 
 /// What each worker tells of itself. A `stats` is told their sums.
-pub const WORKER_GAUGES: [Gauge; 14] = [
+pub const WORKER_GAUGES: [Gauge; 15] = [
     Gauge::CurrConnections,
     Gauge::TotalConnections,
     Gauge::IdleKicks,
+    Gauge::ConnYields,
     Gauge::BytesRead,
     Gauge::BytesWritten,
     Gauge::InputBytes,
@@ -123,7 +126,7 @@ const GAUGES: usize = Gauge::MergeLongest as usize + 1;
 /// Each gauge that is told as a whole number, with its name, in the order in which they are told. Those that memcached tells as
 /// settings come once more, under their names there.
 #[tactic(auto, unfolding(crate::specs::StatTexts::names_gauge, crate::specs::StatTexts::count_lines, crate::specs::StatTexts::total_lines, crate::specs::StatTexts::tally_lines))]
-pub(crate) fn gauge_names() -> [(Gauge, &'static [u8]); 46]
+pub(crate) fn gauge_names() -> [(Gauge, &'static [u8]); 47]
     ensures { (c : Counts) → IsTrue (list_all (λ row. names_gauge c row.1.now) result) }
 {
     [
@@ -140,6 +143,7 @@ pub(crate) fn gauge_names() -> [(Gauge, &'static [u8]); 46]
         (Gauge::MaxConnections, b"max_connections"),
         (Gauge::AcceptingConnections, b"accepting_conns"),
         (Gauge::IdleKicks, b"idle_kicks"),
+        (Gauge::ConnYields, b"conn_yields"),
         (Gauge::BytesRead, b"bytes_read"),
         (Gauge::BytesWritten, b"bytes_written"),
         (Gauge::InputBytes, b"input_bytes"),

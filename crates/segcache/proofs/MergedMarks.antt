@@ -14,7 +14,7 @@ use Rattle.segments.specs.declared.place.Place.{Place}
 use Rattle.segments.specs.declared.place.Move.{Move}
 use Rattle.segments.specs.Items.{Item, with_reads_halved}
 use Rattle.segments.specs.Pools.{PoolState, Plan, IsPool, Liveness, item_in, place_deadline}
-use Rattle.segments.specs.Places.{same_place, moved_by, IsCarriedOut}
+use Rattle.segments.specs.Places.{same_place, moved_by, FollowsPlan}
 use Rattle.segments.specs.Merges.{IsPlan, with_merge_planned, carried_out, planned_moves, merged_segments, contains_number}
 use Rattle.segments.proofs.MovedPlaces.{carried, moved_other, live_source, same_place_is, same_place_itself}
 use Rattle.segments.specs.Marks.{Marks, is_marked, is_mark_of, mark_at, lives_by, carried_marks}
@@ -143,7 +143,7 @@ pub record IsMergeRelocated (p : PoolState) (plan : Plan) (after : PoolState) (i
   pub tied : IsTied p index marks
   pub is_plan : IsPlan (lives_by marks) p plan
   pub after_is : after ≡ carried_out p plan
-  pub out : IsCarriedOut p plan after
+  pub out : FollowsPlan p plan after
   pub pool : IsPool after
   pub relocated : IsRelocated (key_at p) (key_at after) (moved_by plan.moves) index found
   pub size : IsSameSize index found

@@ -10,7 +10,7 @@ use Rattle.segments.specs.declared.place.Place.{Place}
 use Rattle.segments.specs.Items.{Item, IsStorable, fits_over, item_deadline}
 use Rattle.segments.specs.Pools.{key_at, item_in, place_deadline, shared_at}
 use Rattle.index.specs.declared.index.Entry.{Entry as Found}
-use Rattle.index.specs.Searches.{IsFound}
+use Rattle.index.specs.Searches.{IsEntryOf}
 use Rattle.segments.specs.Changes.{with_read, with_item_at, with_segment_hit, goes_over_by}
 use Rattle.segcache.specs.State.{MapState, IsSegmentedMap}
 use Rattle.segcache.specs.Shown.{current, entry_at, kept_entry, shown_entries}
@@ -25,7 +25,7 @@ StandsAt m key place = finite.get (current m.pool m.index) key ≡ Some place
 
 -- a search of the index for the key finds this
 abbrev pub FindsKey : MapState → List ℕ → Found → Type 0
-FindsKey m key found = IsFound (key_at m.pool) m.index key found
+FindsKey m key found = IsEntryOf (key_at m.pool) m.index key found
 
 -- the item of an entry, which nobody has read yet
 abbrev pub unread_by : Bool → List ℕ → Entry → Item

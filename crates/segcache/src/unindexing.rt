@@ -7,7 +7,7 @@ ghost use Rattle.segcache.specs.Shown.{current};
 ghost use Rattle.segcache.specs.State.{IsSegmentedMap};
 ghost use Rattle.segcache.specs.Writes.{HasSamePool, FindsKey};
 ghost use Rattle.segments.specs.Pools.{key_at};
-ghost use Rattle.index.specs.Searches.{IsFound};
+ghost use Rattle.index.specs.Searches.{IsEntryOf};
 ghost use Rattle.segcache.specs.Removals.{HasLeft, HaveArrivedLeft, HaveExpiredLeft};
 
 use crate::segment_map::SegmentMap;
@@ -36,7 +36,7 @@ fn unindex_found(
     place: Place,
 )
     requires tied { IsTied pool.now index.old marks.old }
-    requires found { IsFound (key_at pool.now) index.old key.now found }
+    requires found { IsEntryOf (key_at pool.now) index.old key.now found }
     requires there { map.get (current pool.now index.old) key.now ≡ Some place }
     ensures tied { IsTied pool.now index.new marks.new }
     ensures left { current pool.now index.new ≡ map.remove (current pool.now index.old) key.now }

@@ -17,7 +17,7 @@ use Rattle.segments.specs.Items.{Item, with_reads_halved}
 use Rattle.segments.specs.Pools.{PoolState, Plan, IsPool, Standing, Liveness, item_in, items_of, segment_at, standing, has_live, place_deadline, deadline_in}
 use Rattle.segments.specs.Changes.{IsGivenBack, without_segment, with_change}
 use Rattle.segments.specs.Merges.{IsPlan, carried_out, planned_moves, with_merge_planned, without_plan, contains_number, merged_segments}
-use Rattle.segments.specs.Places.{IsAppended, IsCarriedOut, same_place}
+use Rattle.segments.specs.Places.{IsAppended, FollowsPlan, same_place}
 use Rattle.segments.proofs.Places.{standing_by, live_stays, live_given, mark_within, cleared_item, changed_item}
 use Rattle.segments.proofs.ItemChanges.{KeepsSize}
 use Rattle.segments.proofs.MovedPlaces.{carried, same_place_is, same_place_itself, live_source, moved_other}
@@ -394,7 +394,7 @@ target_within s p after source (Some place) k e h x =
 
 -- and all targets of a merge that was carried out
 pub targets_within : (t : Marks) (p : PoolState) (plan : Plan) (after : PoolState) → KnowsPool t p → IsPool after
-    → IsCarriedOut p plan after → All (λ m. IsSome (item_in p m.source)) plan.moves
+    → FollowsPlan p plan after → All (λ m. IsSome (item_in p m.source)) plan.moves
     → All (λ m. IfSome m.target (IsWithin t.sizes)) plan.moves
 targets_within t p plan after known k c all n d lt =
     let m = get_or plan.moves n d in
@@ -574,7 +574,7 @@ kept_mark false false x e h = (refl, h)
 -- A merge was planned with these marks, or with a test that says the same of each item, and carried out; the marks were
 -- carried along.
 pub knows_carried : (t : Marks) (p : PoolState) (plan : Plan) (after : PoolState) → KnowsPool t p → IsPool after
-    → IsPlan (lives_by t) p plan → IsCarriedOut p plan after
+    → IsPlan (lives_by t) p plan → FollowsPlan p plan after
     → All (λ m. IsSome (item_in p m.source)) plan.moves → KnowsPool (carried_marks t plan.moves) after
 knows_carried t p plan after known k h c starts =
     let sources = sources_within t p plan.moves known starts in

@@ -127,8 +127,8 @@ mate_at us order b k r moment lt h m e =
 -- ---- the first place
 
 -- what was found so far of the places up to one
-abbrev pub IsFound : List (Option Used) → List ℕ → ℕ → ℕ → Option Choice → Type 0
-IsFound us order low high found = MatchOption found (NoneBetween us order low high) (IsFirstBetween us order low high)
+abbrev pub IsFirstMate : List (Option Used) → List ℕ → ℕ → ℕ → Option Choice → Type 0
+IsFirstMate us order low high found = MatchOption found (NoneBetween us order low high) (IsFirstBetween us order low high)
 
 -- none from a place on, and none at it, is none from it on
 none_more : (us : List (Option Used)) (order : List ℕ) (k high : ℕ) → (k < high → HasNoMate us order k)
@@ -141,7 +141,7 @@ none_more us order k high here none j le lt =
 
 -- what was found stays where a place has none
 pub found_same : (us : List (Option Used)) (order : List ℕ) (k high : ℕ) (found : Option Choice)
-    → (k < high → HasNoMate us order k) → IsFound us order (suc k) high found → IsFound us order k high found
+    → (k < high → HasNoMate us order k) → IsFirstMate us order (suc k) high found → IsFirstMate us order k high found
 found_same us order k high None here none = none_more us order k high here none
 found_same us order k high (Some c) here f =
     let before = f.before in

@@ -290,13 +290,14 @@ impl Book {
         None
     }
 
-    /// The session is asked again.
+    /// The session is asked again, after others: it yields.
     pub fn ask_later(&mut self, session: u64)
         ensures { self.new ≡ self.old }
     {
         if let Some(place) = find(&self.sessions, session, &mut self.upkeep.ready.place) {
             let (_, open) = self.sessions.pair_mut(place);
             open.ask_later(session, &mut self.upkeep.ready);
+            self.upkeep.load.yielded();
         }
     }
 
@@ -427,6 +428,11 @@ impl Book {
     /// How many sessions are to be taken up for the task.
     pub fn ready(&self, task: Task) -> usize {
         self.upkeep.ready.count(task)
+    }
+
+    /// How many bytes of output were given, over all sessions. After the greatest number it goes on from 0.
+    pub fn written(&self) -> u64 {
+        self.upkeep.load.written()
     }
 
     /// No session has anything to do.

@@ -39,6 +39,8 @@ struct BookCounts {
     malformed: u64,
     binary: u64,
     too_large: u64,
+    /// How often a session that may have further requests was set aside.
+    yields: u64,
 }
 
 /// The bytes that a key is likely to take in an answer: what each took in the last one, or half of what it was before, if that is
@@ -196,6 +198,16 @@ impl Load {
         self.counts.too_large = self.counts.too_large.wrapping_add(1);
     }
 
+    /// A session that may have further requests is asked later.
+    pub(crate) fn yielded(&mut self) {
+        self.counts.yields = self.counts.yields.wrapping_add(1);
+    }
+
+    /// How many bytes of output were given.
+    pub(crate) fn written(&self) -> u64 {
+        self.counts.written
+    }
+
     /// So many bytes of output are to be given.
     pub(crate) fn showed_output(&mut self, n: usize) {
         self.output = self.output.saturating_add(n);
@@ -227,6 +239,7 @@ impl Load {
             (Gauge::BadLines, counts.bad_lines),
             (Gauge::ClosedMalformed, counts.malformed),
             (Gauge::ClosedBinary, counts.binary),
+            (Gauge::ConnYields, counts.yields),
         ]);
     }
 }

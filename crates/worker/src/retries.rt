@@ -19,18 +19,21 @@ pub(crate) struct Retries {
 }
 
 impl Retries {
-    /// How many sessions are to be offered their output in this turn, if so many wait.
-    pub(crate) fn next(&mut self, rooms: Option<u64>, waiting: usize) -> usize {
+    /// The most sessions that are to be offered their output in this turn, if so many wait.
+    pub(crate) fn most(&mut self, rooms: Option<u64>, waiting: usize) -> usize {
         if rooms.is_none() {
-            return RETRIES_A_TURN;
+            return waiting.min(RETRIES_A_TURN);
         }
         if self.rooms != rooms {
             self.rooms = rooms;
             self.left = waiting;
         }
-        let count = self.left.min(TOLD_RETRIES_A_TURN);
+        self.left.min(TOLD_RETRIES_A_TURN)
+    }
+
+    /// So many of them were offered it.
+    pub(crate) fn offered(&mut self, count: usize) {
         self.left = self.left.saturating_sub(count);
-        count
     }
 
     /// Whether no output need be offered before the port tells of room.

@@ -32,6 +32,9 @@ const EVENTS_WHILE_BUSY: usize = 8;
 /// that a window has, since the pipelines of fewer sessions are then under way, and stay in the processor's cache.
 const ASKS_IN_A_ROW: usize = 8;
 
+/// The bytes of output above which no further session is offered its own in a turn: so turns stay short beside large answers.
+const OUTPUT_A_TURN: u64 = 1_048_576;
+
 /// A worker that doesn't wait sets its gauges each time that it has taken so many turns.
 const TURNS_PER_GAUGES: u32 = 16;
 
@@ -182,15 +185,29 @@ fn settle_answers<P: Port, G: Gate>(worker: &mut Worker<P>, gate: &G) -> bool
     moved
 }
 
-/// Gives the output of the sessions that are to be taken up for the task, of `most` at most, and shuts those that have finished.
-/// True if something was done.
-fn give_output<P: Port>(worker: &mut Worker<P>, task: Task, most: usize) -> bool
+/// Gives the output of sessions that are to be taken up for the task, of so many at most, and shuts those that have finished. After
+/// `OUTPUT_A_TURN` bytes the others wait for the next turn. How many were taken up, and whether something was done.
+fn give_output<P: Port>(worker: &mut Worker<P>, task: Task, most: usize) -> (usize, bool)
     ensures { Continues P.told P.leads_to worker.old worker.new }
 {
-    let mut moved = false;
-    for _ in 0..worker.state.book.ready(task).min(most) {
+    let written = worker.state.book.written();
+    let (mut count, mut moved) = (0, false);
+    for taken in 1..=most {
         moved |= worker.give_next(task);
+        count = taken;
+        if worker.state.book.written().wrapping_sub(written) >= OUTPUT_A_TURN {
+            break;
+        }
     }
+    (count, moved)
+}
+
+/// Gives the output that wasn't offered yet. True if something was done.
+fn give_new_output<P: Port>(worker: &mut Worker<P>) -> bool
+    ensures { Continues P.told P.leads_to worker.old worker.new }
+{
+    let most = worker.state.book.ready(Task::Give);
+    let (_, moved) = give_output(worker, Task::Give, most);
     moved
 }
 
@@ -202,8 +219,10 @@ fn retry_output<P: Port>(worker: &mut Worker<P>, retries: &mut Retries) -> bool
     if waiting == 0 {
         return false;
     }
-    let most = retries.next(worker.state.port.rooms(), waiting);
-    give_output(worker, Task::RetryWrite, most)
+    let most = retries.most(worker.state.port.rooms(), waiting);
+    let (count, moved) = give_output(worker, Task::RetryWrite, most);
+    retries.offered(count);
+    moved
 }
 
 /// Counts a session that is closed as its client has stopped, for `stats`.
@@ -298,7 +317,7 @@ fn take_turn<P: Port, G: Gate, E: Executor, R: Clock>(
     let asked = feed_and_ask(worker, came, gate, storage);
     worker.flush(executor, came == EVENTS_A_TURN);
     let settled = settle_answers(worker, gate);
-    let given = give_output(worker, Task::Give, usize::MAX);
+    let given = give_new_output(worker);
     let given_again = retry_output(worker, &mut pauses.retries);
     let shared = share_memory(rt, worker, &mut pauses.seconds, storage);
     held || came > 0 || asked || settled || given || given_again || shared

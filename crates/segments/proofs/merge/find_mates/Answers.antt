@@ -6,7 +6,7 @@ use Rattle.std.proofs.lemmas.List.{get_or_default, get_or-replicate}
 use Rattle.segments.specs.declared.merge.Rest.TheVariants.{Nothing}
 use Rattle.segments.specs.Inside.{shown_segments}
 use Rattle.segments.specs.Starts.{AreRests, with_front}
-use Rattle.segments.proofs.MateLemmas.{IsFound, rests_more, rests_same, found_same, found_here, free_mate, no_mate}
+use Rattle.segments.proofs.MateLemmas.{IsFirstMate, rests_more, rests_same, found_same, found_here, free_mate, no_mate}
 use Rattle.segments.proofs.merge.find_mates.Goals as goal
 use Rattle.segments.proofs.merge.find_mates.Goals.{else-place-looked-via-then-place-looked+else-has_mate, else-place-looked-via-else-place-looked}
 
@@ -75,7 +75,7 @@ loop-place-preserved-else-place-looked c =
     let next : c.with_front.result ≡ with_front (get_or T.items o.bucket Nothing) o.moment =
     c.with_front.ensures ∙ ap (λ r. with_front r o.moment) read in
     let a = subst (λ n. AreRests us (drop n order) T.items) up c.loop-place.invariant.rests in
-    let f = subst (λ n. IsFound us order n c.args.looked c.loop-place.found) up c.loop-place.invariant.found in
+    let f = subst (λ n. IsFirstMate us order n c.args.looked c.loop-place.found) up c.loop-place.invariant.found in
     record {
       count = count;
       rests = subst (λ r. AreRests us (drop k order) (set T.items o.bucket r)) (sym next)
@@ -102,7 +102,7 @@ loop-place-preserved c =
     let lt : k < length order = omega (arith, some, most) in
     let known = c.requires.in_range k 0 lt in
     let a = subst (λ n. AreRests us (drop n order) c.loop-place.rests.items) up c.loop-place.invariant.rests in
-    let f = subst (λ n. IsFound us order n c.args.looked c.loop-place.found) up c.loop-place.invariant.found in
+    let f = subst (λ n. IsFirstMate us order n c.args.looked c.loop-place.found) up c.loop-place.invariant.found in
     record {
       count = c.loop-place.invariant.count;
       rests = rests_same c.args.segments.now order c.loop-place.rests.items k _ lt known c.in_default.is a;
@@ -115,4 +115,4 @@ returns-clause-next c =
     let us = shown_segments c.args.segments.now in
     let past = c.loop-place-test.false in
     let done : c.loop-place.place ≡ 0 = omega (arith, past) in
-    subst (λ n. IsFound us c.args.order.now n c.args.looked c.loop-place.found) done c.loop-place.invariant.found
+    subst (λ n. IsFirstMate us c.args.order.now n c.args.looked c.loop-place.found) done c.loop-place.invariant.found

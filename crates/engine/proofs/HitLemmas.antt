@@ -13,7 +13,7 @@ use Rattle.proto.specs.Hits.{hit_bytes, hit_room}
 use Rattle.proto.specs.declared.hits.Hit.{Hit}
 use Rattle.proto.specs.Cache.{Entry, Entries}
 use Rattle.proto.specs.Commands.{hits_of}
-use Rattle.engine.specs.declared.hits.Found.{Found}
+use Rattle.engine.specs.declared.showing.Found.{Found}
 use Rattle.engine.specs.Finding.{IsFound, AreFound, keys_found}
 use Rattle.engine.specs.Members.{MapOf}
 

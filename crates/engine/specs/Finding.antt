@@ -2,7 +2,7 @@
 use Rattle.std.specs.Prelude.{◌≡◌, Bool, List, ℕ, map, IsSome, All}
 use Rattle.std.specs.FinMap as finite
 use Rattle.proto.specs.Commands.{hits_of}
-use Rattle.engine.specs.declared.hits.Found.{Found}
+use Rattle.engine.specs.declared.showing.Found.{Found}
 use Rattle.engine.specs.Members.{MapOf}
 
 -- the keys of what was found

@@ -3,8 +3,8 @@ use Rattle.std.specs.Prelude.{◌≡◌, ◌<◌, Bool, false, List, ℕ, length
 use Rattle.proto.specs.declared.dialect.Dialect.{Dialect}
 use Rattle.proto.specs.Commands.{hits_of}
 use Rattle.proto.specs.Hits.{Writing}
-use Rattle.engine.specs.declared.hits.Unshown.{Unshown}
-use Rattle.engine.specs.declared.hits.Unshown.TheVariants.{TooLong}
+use Rattle.engine.specs.declared.showing.Unshown.{Unshown}
+use Rattle.engine.specs.declared.showing.Unshown.TheVariants.{TooLong}
 use Rattle.engine.specs.AnswerSizes.{shown_size, is_too_long}
 use Rattle.engine.specs.Members.{MapOf}
 use Rattle.engine.specs.Keeping.{StaysKept}

@@ -13,10 +13,10 @@ ghost use Rattle.engine.specs.Keeping.{StaysKept};
 ghost use Rattle.engine.specs.AnswerSizes.{shown_size, answer_size, is_too_long};
 
 use crate::deadline::{deadline_of, has_arrived};
-use crate::hits::{hit_of_only, hits_of_keys};
 use crate::live_map::{EntryRef, LiveMap};
 use crate::number::{Change, number_of};
 use crate::scratch::Scratch;
+use crate::showing::{hit_of_only, hits_of_keys};
 use itoa::Buffer;
 use proto::{Dialect, HitWriter, Keys, MAX_KEY, Put, Reply, Request, item_size};
 

@@ -4,11 +4,11 @@
 mod carrying;
 mod commands;
 mod deadline;
-mod hits;
 mod laws;
 mod live_map;
 mod number;
 mod scratch;
+mod showing;
 mod storage_engine;
 mod store;
 

@@ -212,8 +212,8 @@ pub struct Gauges {
     /// How long the thread was busy. While it waits this stands still, and is here twice, and one more; while it doesn't, the time
     /// that it has waited is here twice.
     busy: AtomicU64,
-    /// How long it was busy, by what was told last.
-    told: AtomicU64,
+    /// How long it was busy when it was asked for last.
+    busy_before: AtomicU64,
 }
 
 impl Gauges {
@@ -228,7 +228,7 @@ impl Gauges {
         Ok(Gauges {
             words,
             busy: AtomicU64::new(0),
-            told: AtomicU64::new(0),
+            busy_before: AtomicU64::new(0),
         })
     }
 
@@ -285,8 +285,8 @@ impl Gauges {
         } else {
             micros(passed).saturating_sub(word / 2)
         };
-        let told = busy.max(self.told.load(Ordering::Relaxed));
-        self.told.store(told, Ordering::Relaxed);
-        told
+        let busy = busy.max(self.busy_before.load(Ordering::Relaxed));
+        self.busy_before.store(busy, Ordering::Relaxed);
+        busy
     }
 }

@@ -1,8 +1,8 @@
 use Rattle.std.proofs.Common.{◌≡◌, ℕ, ◌<◌, ◌^◌, Some, sym, subst, ◌∙◌, arith}
 use Rattle.std.proofs.lemmas.Option.{none-some}
 use Rattle.engine.proofs.HitLemmas.{hit_within}
-use Rattle.engine.proofs.hits.hit_with.Goals.{then-with_cas, else-with_cas}
-use Rattle.engine.proofs.hits.hit_with.Goals as goal
+use Rattle.engine.proofs.showing.hit_with.Goals.{then-with_cas, else-with_cas}
+use Rattle.engine.proofs.showing.hit_with.Goals as goal
 
 pub returns-clause-room : goal.returns-clause-room
 returns-clause-room c =

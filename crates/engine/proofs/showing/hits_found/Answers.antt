@@ -11,7 +11,7 @@ use Rattle.engine.specs.Counting.{CountsEach, keys_of}
 use Rattle.engine.specs.Finding.{keys_found}
 use Rattle.engine.proofs.HitLemmas.{hit_of, found_there, hits_more, room_less, room_first}
 use Rattle.engine.proofs.CountLemmas.{counts_hit}
-use Rattle.engine.proofs.hits.hits_found.Goals as goal
+use Rattle.engine.proofs.showing.hits_found.Goals as goal
 
 pub entry_at-entry-requires-clause-stands : goal.entry_at-entry-requires-clause-stands
 entry_at-entry-requires-clause-stands g c =

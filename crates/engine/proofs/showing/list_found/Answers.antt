@@ -10,7 +10,7 @@ use Rattle.proto.specs.declared.hits.Hit.{Hit}
 use Rattle.engine.specs.Shown.{entry_of}
 use Rattle.engine.specs.Finding.{AreFound, keys_found}
 use Rattle.engine.proofs.HitLemmas.{hit_of, hits_there, found_more, hits_found_more}
-use Rattle.engine.proofs.hits.list_found.Goals as goal
+use Rattle.engine.proofs.showing.list_found.Goals as goal
 
 -- one key more was found
 pub loop-key-preserved-in-Continue-branch-3 : goal.loop-key-preserved-in-Continue-branch-3

@@ -1,6 +1,6 @@
 use Rattle.std.proofs.Common.{◌≡◌, ◌/◌, ◌++◌, map, take, drop}
 use Rattle.std.specs.Prelude.{slice_set}
-use Rattle.segments.proofs.hits.SegmentHits.open.Given as goal
+use Rattle.segments.proofs.segment_hits.SegmentHits.open.Given as goal
 
 abbrev pub invariant-loop-count : goal.invariant-loop-count
 invariant-loop-count l =

@@ -4,7 +4,7 @@ use Rattle.proto.specs.Hits.{hit_room}
 use Rattle.engine.specs.Keeping.{StaysKept}
 use Rattle.engine.specs.Counting.{CountsEach, keys_of}
 use Rattle.engine.specs.Finding.{AreFound, keys_found}
-use Rattle.engine.proofs.hits.hits_found.Given as goal
+use Rattle.engine.proofs.showing.hits_found.Given as goal
 
 -- the hits so far are there and counted, the others stand where they were found, and their room is left
 abbrev pub invariant-loop-i : goal.invariant-loop-i

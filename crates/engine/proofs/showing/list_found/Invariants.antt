@@ -3,7 +3,7 @@ use Rattle.proto.specs.Commands.{hits_of}
 use Rattle.proto.specs.Hits.{hit_room}
 use Rattle.engine.specs.AnswerSizes.{shown_size}
 use Rattle.engine.specs.Finding.{AreFound, keys_found}
-use Rattle.engine.proofs.hits.list_found.Given as goal
+use Rattle.engine.proofs.showing.list_found.Given as goal
 
 -- what was found so far, and the room of its hits
 abbrev pub invariant-loop-key : goal.invariant-loop-key

@@ -5,7 +5,7 @@ ghost use Rattle.std.specs.Prelude.{Some, None, IfOk, OnOk, OnErr, MatchOption, 
 ghost use Rattle.proto.specs.Commands.{hits_of};
 ghost use Rattle.proto.specs.Hits.{hit_bytes, hit_room};
 ghost use Rattle.proto.specs.SeenHits.{seen_hit};
-ghost use Rattle.engine.specs.declared.hits.Found.{Found};
+ghost use Rattle.engine.specs.declared.showing.Found.{Found};
 ghost use Rattle.engine.specs.Finding.{AreFound, HasFound, keys_found};
 ghost use Rattle.engine.specs.AnswerSizes.{shown_size, is_too_long};
 ghost use Rattle.engine.specs.Showing.{HasShown, ShowsOrRefuses};
@@ -28,7 +28,7 @@ pub enum Unshown {
 
 impl From<NoMemory> for Unshown {
     ghost use Rattle.std.specs.Prelude.{◌≡◌};
-    ghost use Rattle.engine.specs.declared.hits.Unshown.TheVariants as unshown;
+    ghost use Rattle.engine.specs.declared.showing.Unshown.TheVariants as unshown;
 
     ghost from_gives = { λ _ e. e ≡ unshown.NoMemory };
 

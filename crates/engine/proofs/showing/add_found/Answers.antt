@@ -1,5 +1,5 @@
 use Rattle.std.proofs.Common.{refl}
-use Rattle.engine.proofs.hits.add_found.Goals as goal
+use Rattle.engine.proofs.showing.add_found.Goals as goal
 
 pub returns : goal.returns
 returns g c = (

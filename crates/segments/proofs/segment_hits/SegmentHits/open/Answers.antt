@@ -2,7 +2,7 @@ use Rattle.std.proofs.Common.{◌<◌, ◌/◌, length, get_or, ap, ◌∙◌, a
 use Rattle.std.specs.Prelude.{slice_set}
 use Rattle.std.proofs.lemmas.List.{get_or_default}
 use Rattle.std.proofs.lemmas.List.Edits.{map_over_more}
-use Rattle.segments.proofs.hits.SegmentHits.open.Goals as goal
+use Rattle.segments.proofs.segment_hits.SegmentHits.open.Goals as goal
 
 pub loop-count-init : goal.loop-count-init
 loop-count-init c =

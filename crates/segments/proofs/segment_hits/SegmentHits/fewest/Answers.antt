@@ -4,8 +4,8 @@ use Rattle.std.proofs.lemmas.List.{get_or_default, take_more}
 use Rattle.std.proofs.lemmas.List.Elements.{All-head, All-tail, All-cons, All-take}
 use Rattle.segments.specs.Hits.{HitCounts, segment_hits, IsFewest}
 use Rattle.segments.proofs.HitLemmas.{fewest_one, fewest_less, fewest_more, fewest_among}
-use Rattle.segments.proofs.hits.SegmentHits.fewest.Goals as goal
-use Rattle.segments.proofs.hits.SegmentHits.fewest.Goals.{then-index, else-index}
+use Rattle.segments.proofs.segment_hits.SegmentHits.fewest.Goals as goal
+use Rattle.segments.proofs.segment_hits.SegmentHits.fewest.Goals.{then-index, else-index}
 
 pub loop-number-init : goal.loop-number-init
 loop-number-init c = fewest_one c.args.self.now c.in_ok-first.first.now

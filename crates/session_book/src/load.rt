@@ -130,9 +130,9 @@ impl Load {
         self.coming <= LARGE_ANSWER
     }
 
-    /// Whether an answer that is likely to take so much waits for those that are on their way.
-    pub(crate) fn is_too_large(&self, likely: usize) -> bool {
-        likely > LARGE_ANSWER && !self.is_free()
+    /// Whether an answer that is likely to take so much is large.
+    pub(crate) fn is_large(&self, likely: usize) -> bool {
+        likely > LARGE_ANSWER
     }
 
     /// So many bytes came of an open session.

@@ -11,7 +11,7 @@ pub enum Task {
     Feed,
     /// They have input.
     Ask,
-    /// They have input, and wait for the answers on their way: the next one is likely to be large.
+    /// They have input, and wait for others and for the answers on their way: the next one is likely to be large.
     AskLarge,
     /// They have input, and wait until there is room for the next answer.
     AskForRoom,
@@ -89,8 +89,8 @@ pub(crate) struct ReadyQueues {
     pub(crate) place: usize,
     /// How many sessions were taken out to be asked while another one waited for its turn.
     passed: u64,
-    /// Whether the session that was taken out last to be asked waited for room, and has it.
-    pub(crate) is_let_in: bool,
+    /// What the session waited for that was taken out last to be asked; none if it waited for nothing.
+    pub(crate) let_in: Option<Task>,
 }
 
 impl ReadyQueues {
@@ -108,7 +108,7 @@ impl ReadyQueues {
             ],
             place: 0,
             passed: 0,
-            is_let_in: false,
+            let_in: None,
         }
     }
 
@@ -176,7 +176,7 @@ impl ReadyQueues {
     /// way, comes if no other is to be asked, or once as many others as a window has requests went before it. If a large answer is
     /// on its way then, none is taken out until it has come, so that it doesn't wait for ever.
     pub(crate) fn take_to_ask(&mut self, is_free: bool, has_room: bool) -> Option<u64> {
-        self.is_let_in = false;
+        self.let_in = None;
         if !has_room && self.count(Task::AskLarge) == 0 {
             self.passed = 0;
             return self.take(Task::Ask);
@@ -188,13 +188,19 @@ impl ReadyQueues {
         if !is_free {
             return None;
         }
-        self.passed = 0;
-        self.is_let_in = has_room;
-        if has_room {
-            self.take(Task::AskForRoom)
+        let task = if has_room {
+            Task::AskForRoom
         } else {
-            self.take(Task::AskLarge)
-        }
+            Task::AskLarge
+        };
+        self.passed = 0;
+        self.let_in = Some(task);
+        self.take(task)
+    }
+
+    /// Whether no session is to be asked, or waits for the answers on their way.
+    pub(crate) fn none_is_to_ask(&self) -> bool {
+        self.count(Task::Ask) == 0 && self.count(Task::AskLarge) == 0
     }
 
     /// Whether no session is paused, or to be paused, until there is room for its large message.

@@ -8,7 +8,6 @@ use crate::load::{KeyBytes, Load};
 use crate::ready_queues::{ReadyQueues, Task};
 use proto::{Answered, Keys, Reply, Request, SpareBuffer};
 use std::alloc::Global;
-use std::mem;
 
 /// The seconds, as they are counted, after which a client that took and sent nothing has stopped.
 const STOPPED_SECONDS: u64 = 10;
@@ -68,11 +67,12 @@ impl Upkeep {
     }
 
     /// What a `get` for so many keys waits for, if keys took so much in the last answer of its session; none if it is to be asked
-    /// now. None goes before one that waits for room, but those whose answers are small.
+    /// now. None goes before one that waits for room, but those whose answers are small. One whose answer is likely to be large lets
+    /// the others go first that are to be asked.
     pub(crate) fn waiting(&mut self, keys: usize, own: KeyBytes) -> Option<Waiting> {
-        let is_let_in = mem::take(&mut self.ready.is_let_in);
+        let let_in = self.ready.let_in.take();
         let likely = self.load.likely(keys, own);
-        if is_let_in || self.load.is_small(keys, likely, own) {
+        if matches!(let_in, Some(Task::AskForRoom)) || self.load.is_small(keys, likely, own) {
             return None;
         }
         let must_queue = self.ready.count(Task::AskForRoom) > 0;
@@ -82,7 +82,9 @@ impl Upkeep {
                 likely,
             });
         }
-        self.load.is_too_large(likely).then_some(Waiting {
+        let is_its_turn = let_in.is_some() || self.ready.none_is_to_ask();
+        let goes_on = !self.load.is_large(likely) || (is_its_turn && self.load.is_free());
+        (!goes_on).then_some(Waiting {
             task: Task::AskLarge,
             likely,
         })

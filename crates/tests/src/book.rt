@@ -534,6 +534,39 @@ fn what_is_likely_to_be_large_waits(rt: HostRuntime) -> Result<(), Fail> {
     Ok(())
 }
 
+/// A key of session 1 took 29,128 bytes. Session 2 asks for one after session 1 has asked for nine again, and goes first.
+const OTHERS_FIRST: [Step; 12] = [
+    Open(1),
+    Open(2),
+    Feed(1, FOR_9_BYTES),
+    See(NextToAsk(Some(1))),
+    AskNext(1),
+    SettleHit(262_152),
+    Feed(1, FOR_9_BYTES),
+    Feed(2, b"get b\r\n"),
+    See(NextToAsk(Some(1))),
+    See(Waits(1)),
+    See(NextToAsk(Some(2))),
+    AskNext(2),
+];
+
+const FOR_9_BYTES: &[u8] = b"get b b b b b b b b b\r\n";
+
+const OTHERS_FIRST_ROWS: [Row; 1] = [Row {
+    name: "a get whose answer is likely to be large lets others go first",
+    dialect: Dialect::Strict,
+    found: None,
+    parts: &[
+        (1, &OTHERS_FIRST),
+        (1, &[See(NextToAsk(Some(1))), AskNext(1)]),
+    ],
+}];
+
+#[test]
+fn large_answers_let_others_go_first(rt: HostRuntime) -> Result<(), Fail> {
+    check_rows(&rt, rt.alloc(), &OTHERS_FIRST_ROWS)
+}
+
 /// Session 1 has had a small answer, and has asked again. Session 2 is new, and asks next.
 const BEFORE_ROOM: [Step; 9] = [
     Open(1),

@@ -28,6 +28,7 @@ item is too large, --segment-size B, 1048576 unless it is given, and --max-item-
 Sessions are numbered from 1, and go to the workers in turn (one worker, unless --workers says more).
 """
 import argparse
+import asyncio
 import collections
 import concurrent.futures
 import contextlib
@@ -37,7 +38,6 @@ import signal
 import socket
 import subprocess
 import sys
-import threading
 
 MOST_BYTES = 16_777_216
 PIECE = 16_384
@@ -48,11 +48,10 @@ class Trouble(Exception):
 
 
 class Script:
-    """The lines of a script, which several threads may add to."""
+    """The lines of a script."""
 
     def __init__(self, workers):
         self.workers, self.lines, self.length, self.newest = workers, [], 0, 0
-        self.lock = threading.Lock()
 
     def worker_of(self, session):
         return (session - 1) % self.workers
@@ -64,15 +63,13 @@ class Script:
         self.lines.append(line)
 
     def open(self):
-        with self.lock:
-            self.newest += 1
-            self.add(f"open {self.worker_of(self.newest)} {self.newest}")
-            return self.newest
+        self.newest += 1
+        self.add(f"open {self.worker_of(self.newest)} {self.newest}")
+        return self.newest
 
     def send(self, session, data):
-        with self.lock:
-            for at in range(0, len(data), PIECE):
-                self.add(f"send {self.worker_of(session)} {session} {data[at : at + PIECE].hex()}")
+        for at in range(0, len(data), PIECE):
+            self.add(f"send {self.worker_of(session)} {session} {data[at : at + PIECE].hex()}")
 
     def text(self):
         return "".join(f"{line}\n" for line in self.lines)
@@ -104,71 +101,58 @@ class Recording:
 
     def __init__(self, script, answers):
         self.script, self.session = script, script.open()
-        self.answers = answers[self.session] = bytearray()
+        self.answer = answers.setdefault(self.session, bytearray()).extend
 
     def send(self, data):
         self.script.send(self.session, data)
-
-    def answer(self, data):
-        self.answers.extend(data)
 
 
 class Proxy:
     """A proxy in front of a server, which gives what goes through to an observer a session."""
 
     def __init__(self, words, observer):
-        self.words, self.observer, self.trouble = words, observer, None
-        self.listener = socket.create_server(words.listen, backlog=128)
-        # An interrupt that comes just before a call that waits is seen when that returns.
-        self.listener.settimeout(0.5)
+        self.words, self.observer, self.begun, self.ended = words, observer, 0, 0
 
-    def run(self):
-        host, port = self.listener.getsockname()[:2]
+    async def run(self):
+        """Ends when it is interrupted, when all sessions have come and gone, or with its trouble."""
+        self.is_over, self.trouble = asyncio.Event(), None
+        for number in (signal.SIGINT, signal.SIGTERM):
+            asyncio.get_running_loop().add_signal_handler(number, self.is_over.set)
+        listening = socket.create_server(self.words.listen, backlog=128)
+        self.listener = await asyncio.start_server(self.serve, sock=listening)
+        host, port = listening.getsockname()[:2]
         print(f"recording on {host}:{port}", file=sys.stderr, flush=True)
-        sessions, threads = 0, []
-        with contextlib.suppress(KeyboardInterrupt):
-            while self.words.sessions is None or sessions < self.words.sessions:
-                try:
-                    client, _ = self.listener.accept()
-                except TimeoutError:
-                    continue
-                server = socket.create_connection(self.words.to, 10)
-                server.settimeout(None)
-                sessions += 1
-                threads = [thread for thread in threads if thread.is_alive()]
-                threads.append(threading.Thread(target=self.serve, args=(client, server), daemon=True))
-                threads[-1].start()
-            for thread in threads:
-                thread.join()
+        await self.is_over.wait()
         if self.trouble:
             raise self.trouble
 
-    def serve(self, client, server):
-        """One session: the requests in a thread of their own, the answers in this one."""
+    async def serve(self, requests, client):
+        """One session, in both directions."""
+        self.begun += 1
+        if self.begun == self.words.sessions:
+            self.listener.close()
         try:
             observer = self.observer()
-        except Trouble as trouble:
+            opening = asyncio.open_connection(*self.words.to)
+            answers, server = await asyncio.wait_for(opening, 10)
+            await asyncio.gather(self.pass_on(requests, server, observer.send),
+                                 self.pass_on(answers, client, observer.answer))
+            server.close()
+        except (Trouble, OSError) as trouble:
             self.trouble = trouble
-            return
-        requests = threading.Thread(target=self.pass_on, args=(client, server, observer.send), daemon=True)
-        requests.start()
-        self.pass_on(server, client, observer.answer)
-        requests.join()
         client.close()
-        server.close()
+        self.ended += 1
+        if self.trouble or self.ended == self.words.sessions:
+            self.is_over.set()
 
-    def pass_on(self, source, target, keep):
-        try:
-            while data := source.recv(PIECE):
+    async def pass_on(self, source, target, keep):
+        with contextlib.suppress(OSError):
+            while data := await source.read(PIECE):
                 keep(data)
-                target.sendall(data)
-        except Trouble as trouble:
-            self.trouble = trouble
-        except OSError:
-            pass
-        for end, how in ((target, socket.SHUT_WR), (source, socket.SHUT_RD)):
-            with contextlib.suppress(OSError):
-                end.shutdown(how)
+                target.write(data)
+                await target.drain()
+        with contextlib.suppress(OSError):
+            target.write_eof()
 
 
 # Of each command with a data block, at which place of the line the block's length stands.
@@ -258,49 +242,42 @@ def refusals(program, words, asked):
 
 
 class Refusals:
-    """Counts what is refused, of all sessions together."""
+    """Counts what is refused, of all sessions together, in one thread of its own."""
 
     def __init__(self, program, words):
         self.program, self.words, self.lines, self.asked, self.size = program, words, 0, [], 0
         self.counts, self.firsts = collections.Counter(), {}
-        self.lock, self.pool = threading.Lock(), concurrent.futures.ThreadPoolExecutor(1)
-        self.batches = []
-
-    def session(self):
-        return Cutter(self.keep)
+        self.pool, self.counted = concurrent.futures.ThreadPoolExecutor(1), []
 
     def keep(self, line, why=None, length=0, has_end=True):
         """Keeps a line to be asked about, or counts one for which the program isn't asked."""
-        with self.lock:
-            self.lines += 1
-            if why:
-                self.count(line, why)
-                return
-            self.asked.append((line, length, has_end))
-            self.size += len(line) + min(length, MOST_BLOCK)
-            if len(self.asked) >= LINES_AT_ONCE or self.size >= BYTES_AT_ONCE:
-                self.ask()
+        self.lines += 1
+        if why:
+            self.count_later([line], [why])
+            return
+        self.asked.append((line, length, has_end))
+        self.size += len(line) + min(length, MOST_BLOCK)
+        if len(self.asked) >= LINES_AT_ONCE or self.size >= BYTES_AT_ONCE:
+            self.ask()
 
     def ask(self):
-        self.batches.append(self.pool.submit(self.judge, self.asked))
+        found = refusals(self.program, self.words, self.asked)
+        self.count_later([line for line, *_ in self.asked], found)
         self.asked, self.size = [], 0
 
-    def judge(self, asked):
-        found = list(refusals(self.program, self.words, asked))
-        with self.lock:
-            for (line, *_), why in zip(asked, found):
-                if why:
-                    self.count(line, why)
+    def count_later(self, lines, found):
+        self.counted.append(self.pool.submit(self.count, lines, found))
 
-    def count(self, line, why):
-        kind = line.split(b" ")[0].strip()[:20].decode("latin-1"), why.decode()
-        self.counts[kind] += 1
-        self.firsts.setdefault(kind, line)
+    def count(self, lines, found):
+        for line, why in zip(lines, found):
+            if why:
+                kind = line.split(b" ")[0].strip()[:20].decode("latin-1"), why.decode()
+                self.counts[kind] += 1
+                self.firsts.setdefault(kind, line)
 
     def text(self):
-        with self.lock:
-            self.ask()
-        for it in self.batches:
+        self.ask()
+        for it in self.counted:
             it.result()
         rows = [f"{sum(self.counts.values()):,} refused of {self.lines:,} lines\n"]
         for (word, why), count in self.counts.most_common():
@@ -317,25 +294,14 @@ def found_program():
     return str(next(filter(pathlib.Path.exists, places), "segcached"))
 
 
-def run_proxy(words, observer):
-    # A shell that starts it in the background has it ignore interrupts.
-    for number in (signal.SIGINT, signal.SIGTERM):
-        signal.signal(number, signal.default_int_handler)
-    Proxy(words, observer).run()
-
-
-def answer_lines(script, answers):
-    """By worker and then session, as `segcached replay` prints them."""
-    places = sorted((script.worker_of(session), session) for session in answers)
-    return "".join(f"{worker} {session} {answers[session].hex() or '-'}\n" for worker, session in places)
-
-
 def run_record(words):
     script, answers = Script(words.workers), {}
-    run_proxy(words, lambda: Recording(script, answers))
+    asyncio.run(Proxy(words, lambda: Recording(script, answers)).run())
     sys.stdout.write(script.text())
     if words.answers:
-        pathlib.Path(words.answers).write_text(answer_lines(script, answers), encoding="ascii")
+        # (by worker and then session, as `segcached replay` prints them)
+        lines = sorted((script.worker_of(it), it, f"{answers[it].hex() or '-'}\n") for it in answers)
+        pathlib.Path(words.answers).write_text("".join("%d %d %s" % it for it in lines))
 
 
 def run_refused(words):
@@ -344,9 +310,9 @@ def run_refused(words):
         options += ["--max-item-size", str(words.max_item_size)]
     refused = Refusals(words.program or found_program(), options)
     if words.to:
-        run_proxy(words, refused.session)
+        asyncio.run(Proxy(words, lambda: Cutter(refused.keep)).run())
     for name in words.files:
-        refused.session().send(read_file(name))
+        Cutter(refused.keep).send(read_file(name))
     sys.stdout.write(refused.text())
 
 

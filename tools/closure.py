@@ -2,8 +2,7 @@
 """Finds what a reader has to know of a contract: each definition of the repository's specs on which its clauses rest.
 
     tools/closure.py [FILE:FUNCTION ..]     lists them; with no contract those of docs/HEADLINE.md
-    tools/closure.py fill                   writes the definitions' texts into docs/HEADLINE.md
-    tools/closure.py check                  says where that page and the sources differ; status 1
+    tools/closure.py fill                   writes the definitions' texts into docs/HEADLINE.md, and says what lacks an entry; status 1
 
 FILE stands below crates (group/src/run.rt), FUNCTION is a name, or TYPE::NAME in a trait or an impl; behind it may stand #CLAUSE, the
 name of the only clause to show. A clause's names
@@ -13,7 +12,6 @@ that is declared in the code is listed, and not followed further: its fields sta
 The first cells of the page's tables have to name each of these types, each type in a field of one, or in the head of a
 contract's function, that contracts see as another value, and each word of the kit that is cited.
 """
-import argparse
 import functools
 import glob
 import itertools
@@ -24,7 +22,8 @@ import sys
 import textwrap
 from collections import namedtuple
 
-TOP = os.path.dirname(os.path.dirname(os.path.abspath(__file__)))
+from prove import TOP, read
+
 PAGE = "docs/HEADLINE.md"
 
 # Where a definition begins, and what it is called.
@@ -37,12 +36,8 @@ BINDERS = (re.compile(r"[({]\s*([^\W\d][\w' ]*?)\s*:[^:]"), re.compile(r"λ ([\w
 Definition = namedtuple("Definition", "crate file name first last", defaults=(0, 0))
 
 
-class Trouble(Exception):
+class Trouble(SystemExit):
     """Why there is no closure."""
-
-
-def read(path):
-    return pathlib.Path(path).read_text(encoding="utf-8")
 
 
 def without_comments(text):
@@ -206,12 +201,6 @@ WIDTH = 100
 BINDING = {"→": 1, "then": 1, "else": 1, "in": 1, "×": 2, "⊎": 2, "≡": 3, "≤": 3, "++": 4, "∷": 4, "&&": 4, "||": 4, "+": 4}
 
 
-def depths(line):
-    """How many brackets are open at each place of a line."""
-    steps = ((before in "({[") - (mark in ")}]") for before, mark in zip(" " + line, line))
-    return list(itertools.accumulate(steps))
-
-
 def indent_of(line):
     return len(line) - len(line.lstrip())
 
@@ -220,7 +209,10 @@ def broken(line, following=""):
     """A line of a definition as lines of the page, each broken where the fewest brackets are open, as a source could be."""
     if len(line) <= WIDTH:
         return [line]
-    first, indent, open_at = line.split()[0], indent_of(line), depths(line)
+    first, indent = line.split()[0], indent_of(line)
+    # (how many brackets are open at each place)
+    open_at = list(itertools.accumulate(
+        (before in "({[") - (mark in ")}]") for before, mark in zip(" " + line, line)))
     enough = min(len(line) + indent + 4 - WIDTH, WIDTH // 2)
 
     def cost(at):
@@ -285,20 +277,13 @@ def filled(page, sources):
 
 
 def main():
-    parser = argparse.ArgumentParser(description=__doc__, formatter_class=argparse.RawDescriptionHelpFormatter)
-    parser.add_argument("contracts", nargs="*")
-    given = parser.parse_args()
-    sources, path = Sources(TOP), os.path.join(TOP, PAGE)
-    if given.contracts in (["fill"], ["check"]):
-        page = read(path)
-        now, wrong = filled(page, sources)
-        if given.contracts == ["fill"]:
-            pathlib.Path(path).write_text(now, encoding="utf-8")
-        elif now != page:
-            wrong.append(f"{PAGE} has not the texts of the sources: tools/closure.py fill")
+    contracts, sources, path = sys.argv[1:], Sources(TOP), os.path.join(TOP, PAGE)
+    if contracts == ["fill"]:
+        page, wrong = filled(read(path), sources)
+        pathlib.Path(path).write_text(page, encoding="utf-8")
         print("\n".join(wrong) or counts_of(sources.closure(contracts_of(page))[0]))
         return bool(wrong)
-    definitions, types, _ = sources.closure(given.contracts or contracts_of(read(path)))
+    definitions, types, _ = sources.closure(contracts or contracts_of(read(path)))
     for it in definitions:
         print(f"crates/{place_of(it)}:{it.first}-{it.last} {it.name}")
     for it in types:
@@ -308,7 +293,4 @@ def main():
 
 
 if __name__ == "__main__":
-    try:
-        sys.exit(main())
-    except Trouble as trouble:
-        sys.exit(str(trouble))
+    sys.exit(main())

@@ -121,17 +121,15 @@ class Round:
         change any function, stands alone."""
         if any(named_in(it) for it in [edit, *self.placed]):
             return False
-        callers = any(set(edit.functions) & reach[it.functions[0]] for it in self.copied)
-        return not callers and not any(are_joined(f, g, reach) for it in self.placed for f in edit.functions for g in it.functions)
+        here = {g for it in self.placed for g in it.functions}
+        callers = [*here, *(it.functions[0] for it in self.copied)]
+        return not any(f in here or f in reach[g] or g in reach[f] & here
+                       for f in edit.functions for g in callers)
 
 
 def named_in(edit):
     """Whether an edit names the function that must fall, as it isn't in a body."""
     return "\n# in: " in edit.text
-
-
-def are_joined(one, other, reach):
-    return one == other or one in reach[other] or other in reach[one]
 
 
 def rounds_of(crate, edits):

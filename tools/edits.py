@@ -1,8 +1,7 @@
 #!/usr/bin/env python3
 """Makes docs/EDITS.md from the wrong bodies of crates/NAME/wrong: which the prover refuses, and by whose contract.
 
-    tools/edits.py write    writes the page's tables
-    tools/edits.py check    says where the page or an edit is amiss, or where an edit can't be placed, with status 1
+    tools/edits.py write    writes the page's tables; says with status 1 where an edit is amiss, or can't be placed
 
 The first line of an edit is '# CALL: WRONG BODY': the call whose contract it turns, as docs/PROOFS.md names it, and what
 the body does. tools/wrong_bodies.py doesn't read that line.
@@ -53,10 +52,9 @@ def unplaced(crates):
 
 def main():
     found, path = list(edits()), f"{TOP}/docs/EDITS.md"
-    if sys.argv[1:] == ["write"]:
-        prove.write(path, page_of(found, read(path)))
-    elif sys.argv[1:] != ["check"]:
+    if sys.argv[1:] != ["write"]:
         sys.exit(__doc__)
+    prove.write(path, page_of(found, read(path)))
     wrong = amiss(found, read(path), read(f"{TOP}/docs/PROOFS.md"))
     wrong += unplaced(edited_copies.Crate(it) for it in prove.read_crates())
     print("\n".join(wrong) or f"{len(found)} edits")

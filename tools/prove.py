@@ -128,27 +128,13 @@ def minutes_and_seconds(seconds):
     return f"{int(seconds) // 60}:{int(seconds) % 60:02}"
 
 
-class Progress:
-    """Says a line for each crate that is proved, with the time so far."""
-
-    def __init__(self, names, kept):
-        self.began, self.all, self.left = time.monotonic(), len(names), names - kept
-        if kept:
-            print(f"{len(kept)} of {self.all} crates are proved, and nothing has changed since.",
-                  flush=True)
-        print(f"{len(self.left)} crates to prove, on {machine.processors()} processors", flush=True)
-
-    def proved(self):
-        return self.all - len(self.left)
-
-    def say(self, name):
-        self.left.remove(name)
-        took = minutes_and_seconds(time.monotonic() - self.began)
-        print(f"  {self.proved():2} of {self.all}  {name:18} ({took})", flush=True)
-
-
 def kit_folder():
     return os.path.dirname(subprocess.run(["rt", "doc"], stdout=subprocess.PIPE, text=True, check=True).stdout.strip())
+
+
+def logic_words(kit):
+    logic = f"{kit}/rattle/logic/antt-project.json"
+    return ["--antt-project", logic, "--logic-built", f"{kit}/logic_built"]
 
 
 class Prover:
@@ -166,7 +152,7 @@ class Prover:
 
     def words(self, name, copies):
         words = ["rattle", "build", "--crate-name", name, "--jobs", str(copies), *self.libraries(name)]
-        words += ["--antt-project", f"{self.kit}/rattle/logic/antt-project.json", "--logic-built", f"{self.kit}/logic_built"]
+        words += logic_words(self.kit)
         if name == NAME:
             return [*words, "--toolchain", f"{self.kit}/toolchain", "-o", f"{PROOFS}/{name}.o", "src/main.rt"]
         return [*words, "--statements", "-o", f"{LIBRARIES}/{name}.rlib", "src/lib.rt"]
@@ -197,9 +183,6 @@ class Proof:
             to = {"stdin": subprocess.DEVNULL, "stdout": log, "stderr": subprocess.STDOUT, "process_group": 0}
             self.ran = subprocess.Popen(words, cwd=f"{TOP}/crates/{name}", **to)
 
-    def has_ended(self):
-        return self.ran.poll() is not None
-
     def note(self):
         """Notes that the crate is proved, if it is, and no file of it has changed meanwhile. Whether the prover proved it."""
         if self.ran.returncode == 0 and sum_of_sources(self.name) == self.sources:
@@ -223,22 +206,24 @@ def copies_for(name, ways, proved):
     return machine.processors() if ways[name] == longest else 1
 
 
-def prove_side_by_side(crates, proved, progress, interrupts):
-    """Proves the crates that are left, and gives the name of one that isn't proved, if there is one. It ends early if a signal was added to interrupts."""
-    lines, running = {it: lines_of(it) for it in progress.left}, {}
+def prove_side_by_side(crates, names, proved, interrupts):
+    """Proves those of these crates that are left, with a line for each, and gives the name of one
+    that isn't proved, if there is one. It ends early if a signal was added to interrupts."""
+    began, lines, running = time.monotonic(), {it: lines_of(it) for it in names - proved}, {}
     prover, ways = Prover(kit_folder()), ways_to_the_top(crates, lines)
     try:
-        while progress.left and not interrupts:
+        while names != proved and not interrupts:
             for name in to_start(crates, ways, proved, running):
                 running[name] = Proof(prover.words(name, copies_for(name, ways, proved)), name)
             time.sleep(EVERY)
-            for name in [it for it, proof in running.items() if proof.has_ended()]:
+            for name in [it for it, proof in running.items() if proof.ran.poll() is not None]:
                 if not running.pop(name).note():
                     return name
                 if name == NAME:
                     prover.link()
                 proved.add(name)
-                progress.say(name)
+                took = minutes_and_seconds(time.monotonic() - began)
+                print(f"  {len(proved):2} of {len(names)}  {name:18} ({took})", flush=True)
     finally:
         for proof in running.values():
             proof.stop()
@@ -251,10 +236,14 @@ def prove(interrupts):
     names = with_those_below(crates, NAME)
     # The program is linked after its proof, so it is proved anew if it isn't kept.
     proved = {name for name in names - {NAME} if is_proved(name)}
-    progress = Progress(names, proved)
-    refused = prove_side_by_side(crates, proved, progress, interrupts)
+    if proved:
+        print(f"{len(proved)} of {len(names)} crates are proved, and nothing has changed since.")
+    left = len(names - proved)
+    print(f"{left} crates to prove, on {machine.processors()} processors", flush=True)
+    refused = prove_side_by_side(crates, names, proved, interrupts)
     if interrupts:
-        print(f"Interrupted: {progress.proved()} of {progress.all} crates are proved and kept; the next run goes on from there.", flush=True)
+        print(f"Interrupted: {len(proved)} of {len(names)} crates are proved and kept; the next run"
+              " goes on from there.", flush=True)
         return INTERRUPTED
     if refused:
         print(read(log_of(refused))[-SHOWN:])

@@ -10,7 +10,6 @@ them. Of a crate it has the prover's line.
 """
 import argparse
 import os
-import re
 import subprocess
 import sys
 import tempfile
@@ -46,11 +45,6 @@ def sum_of_files():
         return output_of("git", "write-tree", **index)
 
 
-def version_line(program):
-    """The first line of `segcached --version`: the name and the number."""
-    return output_of(program, "--version").splitlines()[0]
-
-
 def read_record(program):
     """The record beside a program; empty if there is none."""
     path = f"{os.path.dirname(program)}/PROVED"
@@ -82,13 +76,12 @@ def write(log, alone):
     crates = read_crates()
     names = [name for name in crates if name in with_those_below(crates, NAME)]
     verdicts, last = verdicts_of_log(log)
-    for name in names:
-        if not verdicts.get(name):
-            raise Trouble(f"{name} isn't proved")
+    if unproved := [name for name in names if name not in verdicts]:
+        raise Trouble(f"{unproved[0]} isn't proved")
     files, at = sum_of_files(), output_of("git", "rev-parse", "HEAD")
     changed = "" if files == output_of("git", "rev-parse", "HEAD^{tree}") else CHANGED
     record = [
-        version_line(PROGRAM),
+        output_of(PROGRAM, "--version").splitlines()[0],
         f"commit: {at}{changed}",
         f"files: {files}",
         f"kit: {output_of('rt', 'version')}",
@@ -126,7 +119,8 @@ def main():
         elif words.kind == "check":
             check(words.program)
         else:
-            print(package_version(version_line(PROGRAM).split()[1], read_record(PROGRAM)["commit"]))
+            number = output_of(PROGRAM, "--version").split()[1]
+            print(package_version(number, read_record(PROGRAM)["commit"]))
     except Trouble as trouble:
         sys.exit(f"segcached: {trouble}")
 

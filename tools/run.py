@@ -67,23 +67,20 @@ def started(words, **how):
                 time.sleep(EVERY)
 
 
-def show_script():
-    say(f"The script {SCRIPT}:")
-    show(prove.read(SCRIPT))
-    say(f"It opens session 1 and sends: {spelled(REQUESTS)}")
-    say()
+def show_answers(given):
+    """Shows these bytes, and ends with status 1 if they aren't what the protocol says."""
+    show(given.decode())
+    if given != ANSWERS:
+        sys.exit("segcached: that is not what the protocol says")
 
 
 def show_replay(printed):
-    """Shows what a replay of the script printed, decoded, and ends with status 1 if it isn't what the protocol says."""
+    """Shows what a replay of the script printed, decoded."""
     say(printed.rstrip("\n"))
     say()
     say("Worker 0 gave session 1 these bytes:")
-    given = bytes.fromhex(printed.split()[-1]) if printed.split() else b""
-    show(given.decode())
+    show_answers(bytes.fromhex(printed.split()[-1]) if printed.split() else b"")
     say()
-    if given != ANSWERS:
-        sys.exit("segcached: that is not what the protocol says")
 
 
 def try_script():
@@ -121,12 +118,6 @@ def try_and_prove():
         note_times(first, time.monotonic() - began)
 
 
-def replay():
-    """Replays the script with the proved program."""
-    say(f"$ segcached replay {SCRIPT}")
-    show_replay(subprocess.run([PROGRAM, "replay", SCRIPT], stdout=subprocess.PIPE, text=True, check=True).stdout)
-
-
 def serve():
     """Serves on a free port, and talks to it."""
     say("$ segcached serve --listen 127.0.0.1:0")
@@ -137,10 +128,7 @@ def serve():
         say(f"A client sends {spelled(REQUESTS + QUIT)} to {host}:{port}, and reads:")
         with socket.create_connection((host, int(port)), timeout=SECONDS) as client, client.makefile("rb") as answers:
             client.sendall(REQUESTS + QUIT)
-            read = answers.read()
-        show(read.decode())
-    if read != ANSWERS:
-        sys.exit("segcached: that is not what the protocol says")
+            show_answers(answers.read())
 
 
 def end(number, _):
@@ -157,11 +145,15 @@ def main():
     is_kept = prove.is_kept()
     if not is_kept:
         machine.stop_where_lacking(machine.lacks_memory())
-    show_script()
+    say(f"The script {SCRIPT}:")
+    show(prove.read(SCRIPT))
+    say(f"It opens session 1 and sends: {spelled(REQUESTS)}")
+    say()
     if not is_kept:
         try_and_prove()
         say()
-    replay()
+    say(f"$ segcached replay {SCRIPT}")
+    show_replay(subprocess.check_output([PROGRAM, "replay", SCRIPT], text=True))
     serve()
 
 

@@ -122,8 +122,7 @@ def words_of(crate, asked):
         words += ["--extern", f"{it}={below.get(it, f'{kit}/rlibs/{it}.rlib')}"]
     for folder in sorted({os.path.dirname(it) for it in below.values()} | {f"{kit}/rlibs"}):
         words += ["-L", f"dependency={folder}"]
-    words += ["--antt-project", f"{kit}/rattle/logic/antt-project.json", "--logic-built", f"{kit}/logic_built"]
-    return [*words, *(word for it in sorted(asked) for word in ("--only", it))]
+    return [*words, *prove.logic_words(kit), *(word for it in sorted(asked) for word in ("--only", it))]
 
 
 def checked(room):
@@ -188,15 +187,20 @@ class Tries:
             self.try_round(half, label + name, True)
 
 
-@dataclasses.dataclass
 class Asked:
-    """What is asked for of a crate: its edits, those that can't be placed with the reason, whether they were named, and what earlier runs passed."""
+    """What is asked for of a crate: its edits, those that can't be placed with the reason, whether
+    they were named, and what earlier runs passed."""
 
-    crate: edited_copies.Crate
-    kept: kept_verdicts.Kept
-    edits: list
-    bad: dict
-    is_named: bool
+    def __init__(self, name, chosen):
+        # (Before the crate is read, so that a change in between is seen.)
+        self.kept = kept_verdicts.Kept(name)
+        self.crate = edited_copies.Crate(name)
+        known = {it.name for it in self.crate.edits} | set(self.crate.bad)
+        if chosen - known or not known:
+            sys.exit(f"crates/{name}/wrong has no {', '.join(sorted(chosen - known)) or 'edit'}")
+        self.is_named, chosen = bool(chosen), chosen or known
+        self.edits = [it for it in self.crate.edits if it.name in chosen]
+        self.bad = {it: why for it, why in self.crate.bad.items() if it in chosen}
 
 
 def names_in(words):
@@ -208,36 +212,17 @@ def names_in(words):
     return names
 
 
-def asked_of(name, chosen):
-    """What is asked for of a crate: the edits that are named, or all."""
-    # (Before the crate is read, so that a change in between is seen.)
-    kept = kept_verdicts.Kept(name)
-    crate = edited_copies.Crate(name)
-    known = {it.name for it in crate.edits} | set(crate.bad)
-    if chosen - known or not known:
-        sys.exit(f"crates/{name}/wrong has no {', '.join(sorted(chosen - known)) or 'edit'}")
-    is_named, chosen = bool(chosen), chosen or known
-    bad = {it: why for it, why in crate.bad.items() if it in chosen}
-    return Asked(crate, kept, [it for it in crate.edits if it.name in chosen], bad, is_named)
-
-
-class Proofs:
-    """Which crates `rt ci` has proved so far, by what it says, and whether it has ended."""
+class Proofs(threading.Thread):
+    """Reads which crates `rt ci` has proved so far, by what it says, until it has ended."""
 
     def __init__(self, lines):
-        self.names, self.have_ended = set(), False
-        self.reader = threading.Thread(target=self.read, args=(lines,), daemon=True)
-        self.reader.start()
+        super().__init__(daemon=True)
+        self.names, self.lines = set(), lines
+        self.start()
 
-    def read(self, lines):
-        try:
-            self.names.update(found[1].decode() for it in lines if (found := IS_PROVED.match(it.rstrip())))
-        finally:
-            self.have_ended = True
-
-    def wait(self):
-        """Waits until all is read: Python aborts if it ends while a thread reads standard input."""
-        self.reader.join()
+    def run(self):
+        found = (IS_PROVED.match(it.rstrip()) for it in self.lines)
+        self.names.update(it[1].decode() for it in found if it)
 
     def has_those_below(self, name):
         return self.names.issuperset(prove.with_those_below(prove.read_crates(), name) - {name})
@@ -280,17 +265,17 @@ class Run:
 
     def plan_what_is_ready(self):
         """Plans the crates that can be tried now. If the proofs have ended, the others never can."""
-        has_ended = not self.proofs or self.proofs.have_ended
+        has_ended = not self.proofs or not self.proofs.is_alive()
         for name in list(self.names):
             if not self.proofs or self.proofs.has_those_below(name):
-                self.plan(asked_of(name, self.names.pop(name)))
+                self.plan(Asked(name, self.names.pop(name)))
             elif has_ended:
                 edits = self.names.pop(name) or [it.name for it in edited_copies.Crate(name).edits]
                 self.note(name, {it: Verdict(UNTRIED, "a crate below isn't proved") for it in edits}, "as a crate below isn't proved")
 
     def room(self, running):
         """How many checks may run side by side now, of which some run already."""
-        if self.proofs and not self.proofs.have_ended:
+        if self.proofs and self.proofs.is_alive():
             return at_once(running, True)
         # (once, since a check that has just begun will take more memory than it has)
         self.most = self.most or at_once(running, False)
@@ -315,7 +300,8 @@ class Run:
                 pool.shutdown(wait=False, cancel_futures=True)
                 raise
         if self.proofs:
-            self.proofs.wait()
+            # (Python aborts if it ends while a thread reads standard input.)
+            self.proofs.join()
 
     def try_task(self, asked, tried, label):
         began, tries = time.monotonic(), Tries(asked.crate, self.interrupted)

@@ -3,7 +3,7 @@ contracts rest on. They take a second.
 """
 import closure
 import pytest
-from prove import write
+from prove import read, write
 from served import TOP
 
 FILES = {
@@ -190,7 +190,7 @@ def test_with_several_contracts_what_the_first_rests_on_is_counted_too(tree):
 
 
 def test_the_headlines_page_has_what_its_contracts_rest_on():
-    page = closure.read(f"{TOP}/{closure.PAGE}")
+    page = read(f"{TOP}/{closure.PAGE}")
     assert len(closure.contracts_of(page)) == 8
     now, wrong = closure.filled(page, closure.Sources(TOP))
     assert wrong == []

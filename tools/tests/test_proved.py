@@ -1,5 +1,4 @@
 """tools/proved.py: what the record of the proofs takes from the gate's log, and the version of the package."""
-import os
 import re
 import subprocess
 
@@ -33,7 +32,7 @@ def test_a_log_says_what_was_proved_of_each_crate_and_not_of_its_tests(tmp_path)
 
 
 def test_the_program_names_its_version_and_the_logic_that_it_is_proved_with(program):
-    lines = subprocess.run([program, "--version"], capture_output=True, text=True, check=True).stdout.splitlines()
+    lines = proved.output_of(program, "--version").splitlines()
     assert lines[0] == f"segcached {served.version()}"
     assert lines[1] == f"proved with Rattle's {machine.logic()}"
 
@@ -41,11 +40,9 @@ def test_the_program_names_its_version_and_the_logic_that_it_is_proved_with(prog
 @pytest.fixture
 def commit(tmp_path):
     """Makes a commit at a moment, and says its hash."""
-
     def git(*words, **variables):
         name = ("-c", "user.name=a", "-c", "user.email=a@example")
-        ran = subprocess.run(["git", *name, *words], cwd=tmp_path, env={**os.environ, **variables}, capture_output=True, text=True, check=True)
-        return ran.stdout.strip()
+        return proved.output_of("git", *name, *words, folder=tmp_path, **variables)
 
     def make(moment):
         git("commit", "--quiet", "--allow-empty", "--message", moment, GIT_COMMITTER_DATE=moment)

@@ -1,12 +1,8 @@
-#!/usr/bin/python3
-"""Debian's monitors of memcached against a served program: munin's plugins, collectd, netdata, check_memcached, libmemcached's and memcached's tools.
+"""Debian's monitors of memcached against a served program, for tools/peers.py: munin's plugins,
+collectd, netdata, check_memcached, libmemcached's and memcached's tools.
 
-    tools/monitors.py [--program PROGRAM]
-
-The program serves them with the package's options. Each has to show what it shows of memcached, but for what docs/OPERATIONS.md names. Ends with
-status 1 if one doesn't.
+Each has to show what it shows of memcached, but for what docs/OPERATIONS.md names.
 """
-import argparse
 import contextlib
 import glob
 import os
@@ -18,7 +14,7 @@ import sys
 import tempfile
 import time
 
-from served import OF_THE_PACKAGE, PROGRAM, Client, Server, install
+from served import OF_THE_PACKAGE, Client, Server, install
 
 PACKAGES = """munin-plugins-extra libcache-memcached-perl collectd-core netdata-plugins-python netdata-core monitoring-plugins-contrib memcached
     libmemcached-tools""".split()
@@ -141,28 +137,14 @@ MONITORS = (munin, collectd, netdata, nagios, tools)
 
 def watch(program):
     """Of each thing that a monitor has to show whether it does; what it said where it doesn't is printed."""
+    install(*PACKAGES)
     results = {}
     with Server(program, *OF_THE_PACKAGE) as server:
         use(server)
         for monitor in MONITORS:
             with tempfile.TemporaryDirectory() as folder:
                 for name, holds, said in monitor(server, folder):
-                    results[name] = holds
+                    results[f"monitors/{name.replace(' ', '_')}"] = holds
                     if not holds:
                         print(f"{name}:\n{said}", file=sys.stderr)
     return results
-
-
-def main():
-    parser = argparse.ArgumentParser(description="Debian's monitors of memcached against segcached.")
-    parser.add_argument("--program", default=PROGRAM, help="another build than the proved one")
-    words = parser.parse_args()
-    install(*PACKAGES)
-    results = watch(os.path.abspath(words.program))
-    for name, holds in results.items():
-        print(f"{'well' if holds else 'NOT '}  {name}")
-    return 0 if results and all(results.values()) else 1
-
-
-if __name__ == "__main__":
-    sys.exit(main())

@@ -11,6 +11,7 @@ file's form. The last line is 'N passed, M failed as the documents say, K otherw
 """
 import argparse
 import glob
+import itertools
 import os
 import pathlib
 import re
@@ -129,14 +130,8 @@ def limits(program):
     return {f"limits/{it}": bool(works.get(it, "").strip()) for it in ("Flask-Limiter", "Postfix")}
 
 
-def of_monitors(program):
-    """What they show is told by tools/monitors.py."""
-    install(*monitors.PACKAGES)
-    return {f"monitors/{name.replace(' ', '_')}": holds for name, holds in monitors.watch(program).items()}
-
-
 SUITES = {"memcached": memcached, "fast": fast, "pymemcache": pymemcache, "memccapable": memccapable, "limits": limits,
-          "monitors": of_monitors}
+          "monitors": monitors.watch}
 
 
 def numbers_of(word):
@@ -163,19 +158,15 @@ def read_expected():
 
 def in_ranges(failed):
     """Failed tests as lines of the file of what is expected."""
-    numbers = {}
+    by_file = {}
     for name in failed:
-        file, _, number = name.partition(" ") if ".t " in name else (name, "", "")
-        numbers.setdefault(file, []).append(number)
-    for file, given in numbers.items():
-        parts, last = [], None
-        for it in sorted(given, key=lambda it: (not it.isdigit(), int(it) if it.isdigit() else 0)):
-            if it.isdigit() and last is not None and int(it) == last + 1:
-                parts[-1] = parts[-1].partition("-")[0] + f"-{it}"
-            else:
-                parts.append(it)
-            last = int(it) if it.isdigit() else None
-        yield f"{file} {','.join(parts)}".rstrip()
+        file, _, number = name.partition(" ")
+        by_file.setdefault(file, []).append(number)
+    for file, given in by_file.items():
+        numbers = enumerate(sorted(int(it) for it in given if it.isdigit()))
+        runs = [[*it] for _, it in itertools.groupby(numbers, lambda it: it[1] - it[0])]
+        parts = ["-".join(f"{it}" for it in dict.fromkeys((run[0][1], run[-1][1]))) for run in runs]
+        yield f"{file} {','.join(parts + [it for it in given if not it.isdigit()])}".rstrip()
 
 
 def main():

@@ -10,13 +10,11 @@ takes half an hour. Ends with status 0 if nothing was wrong, lost or late.
 import argparse
 import collections
 import contextlib
-import os
 import random
 import re
 import resource
 import select
 import socket
-import subprocess
 import sys
 import tempfile
 import time
@@ -25,8 +23,9 @@ import traceback
 import histories
 import served
 import waits
+from asking import DELETED, END, ERROR, NOT_FOUND, OUT_OF_MEMORY, STORED, ask, hit, put
 from served import (
-    OF_THE_PACKAGE, TOP, Client, NotServing, Trouble, comes_true, read_till_closed, read_to_end,
+    OF_THE_PACKAGE, Client, NotServing, Trouble, comes_true, read_till_closed, read_to_end,
     reset)
 from standstills import Beside, Standstills
 
@@ -75,27 +74,21 @@ def sing(is_over, server):
     return rounds, longest, late
 
 
-class Canary(Beside):
-    """Writes, reads, counts and deletes keys of its own until it is stopped; notes the longest
-    wait, and what was wrong. It has a process of its own: in a thread beside the bad peers it would
-    wait for them too, and that isn't the server's doing."""
-
-    def __init__(self, server):
-        super().__init__(sing, server)
-        self.standstills = Standstills()
-        self.standstills.start()
-        self.start()
-
-    def stop(self):
-        rounds, longest, late = super().stop()
-        self.standstills.stop()
-        said = f"canary: {rounds} rounds, the longest {longest * 1000:.0f} ms"
-        for began, ended in late:
-            took, still = ended - began, self.standstills.seconds_in(began, ended)
-            once = f"once {took:.2f} s, of which the machine stood still for {still:.2f}"
-            must(took - still <= LATE, f"{said}, {once}")
-            said += f", {once}"
-        return said
+@contextlib.contextmanager
+def canary(server):
+    """A client beside the block that writes, reads, counts and deletes keys of its own. It gives a
+    list to which is added what is said of its longest wait. It has a process of its own: in a
+    thread beside the bad peers it would wait for them too, and that isn't the server's doing."""
+    words = []
+    with Standstills() as standstills, Beside(sing, server) as singing:
+        yield words
+    rounds, longest, late = singing.noted
+    said = f"canary: {rounds} rounds, the longest {longest * 1000:.0f} ms"
+    for began, ended in late:
+        took, still = ended - began, standstills.seconds_in(began, ended)
+        said += f", once {took:.2f} s, of which the machine stood still for {still:.2f}"
+        must(took - still <= LATE, said)
+    words.append(said)
 
 
 GOOD = (
@@ -109,7 +102,7 @@ GOOD = (
 
 
 def bad_bytes(chance):
-    """Random, mutated, cut and repeated requests. (None flushes, so that the canary keeps its keys.)"""
+    """Random, mutated, cut and repeated requests. (None flushes: the canary keeps its keys.)"""
     kind = chance.random()
     if kind < 0.15:
         return bytes(chance.randrange(256) for _ in range(chance.randrange(1, 3000)))
@@ -166,8 +159,8 @@ class Crowd:
 def fuzz(is_long):
     """Bad bytes on up to 1,000 connections, beside the canary."""
     seconds, chance = 1800 if is_long else 60, random.Random(20260101)
-    with serve("--workers", "2") as server:
-        canary, crowd = Canary(server), Crowd(server, 1000 if is_long else 300)
+    with serve("--workers", "2") as server, canary(server) as sung:
+        crowd = Crowd(server, 1000 if is_long else 300)
         until, settled = time.monotonic() + seconds, None
         while time.monotonic() < until:
             crowd.fill()
@@ -179,28 +172,26 @@ def fuzz(is_long):
         grown, opened = server.kilobytes("VmRSS") - settled[0], crowd.opened - settled[1]
         for peer in list(crowd.peers.values()):
             crowd.drop(peer)
-        said = canary.stop()
-        # (a session that has gone leaves nothing)
-        grew = f"memory grew by {grown} kB with {opened} sessions in three quarters of it; {said}"
-        must(grown <= 16 * 1024, grew)
-        return f"{crowd.sent // 1024} kB of bad bytes, {grew}"
+    # (a session that has gone leaves nothing)
+    grew = f"memory grew by {grown} kB with {opened} sessions in three quarters of it; {sung[0]}"
+    must(grown <= 16 * 1024, grew)
+    return f"{crowd.sent // 1024} kB of bad bytes, {grew}"
 
 
 def bad_peers(is_long):
     """Slow, silent, half-closed and reset peers, and many that come and go, beside the canary."""
     storm = 10000 if is_long else 2000
-    with serve("--workers", "2") as server:
+    with serve("--workers", "2") as server, canary(server) as sung:
         must_store(Client(server), b"big", b"b" * 8000)
-        canary = Canary(server)
         for _ in range(20):
             server.connect().sendall(b"get big\r\n" * 2000)
         for _ in range(100):
             server.connect()
         slow = server.connect()
-        for byte in b"set slow 0 0 3\r\nabc\r\nget slow\r\n":
+        for byte in put(b"slow", b"abc") + b"get slow\r\n":
             slow.sendall(bytes([byte]))
             time.sleep(0.002)
-        must(slow.recv(100).startswith(b"STORED\r\n"), "a slow writer got another answer")
+        ask(slow, b"", STORED)
         for _ in range(storm):
             server.connect().close()
         for text in (b"set cut 0 0 100\r\nabc", b"get big\r\n" * 500, b"get"):
@@ -214,11 +205,10 @@ def bad_peers(is_long):
             peer.shutdown(socket.SHUT_WR)
         for peer in half_closed:
             got = read_to_end(peer)
-            must(got == b"VALUE big 0 8000\r\n" + b"b" * 8000 + b"\r\nEND\r\n",
-                 f"a half-closed peer got {len(got)} bytes")
+            must(got == hit(b"big", b"b" * 8000), f"a half-closed peer got {len(got)} bytes")
         server.must_run()
-        said = f"20 that read nothing, 100 silent, {storm} that came and went, 300 reset"
-        return f"{said}, 20 half-closed; {canary.stop()}"
+    said = f"20 that read nothing, 100 silent, {storm} that came and went, 300 reset"
+    return f"{said}, 20 half-closed; {sung[0]}"
 
 
 def few_descriptors(_):
@@ -241,21 +231,18 @@ def few_descriptors(_):
         return "at 64 open files the others go on, and new ones are served once there are some"
 
 
-REFUSED = b"SERVER_ERROR out of memory\r\n"
-
-
 def refused_session(name):
-    """A session's requests, each with the answers that it may be given if one request for memory was refused."""
+    """A session's requests, each with the answers that it may be given if one request for memory
+    was refused."""
     value = b"v" * 480
-    stored, hit = b"STORED\r\n", b"VALUE %s 0 480\r\n%s\r\n" % (name, value)
     return [
-        (b"set %s 0 0 480\r\n%s\r\n" % (name, value), [stored]),
-        (b"set %s-n 0 0 1\r\n7\r\n" % name, [stored]),
-        (b"incr %s-n 5\r\n" % name, [b"12\r\n", b"NOT_FOUND\r\n"]),
-        *[(b"get %s\r\n" % name, [hit + b"END\r\n", b"END\r\n"])] * 50,
-        (b"get %s %s-none %s\r\n" % (name, name, name), [hit + hit + b"END\r\n", b"END\r\n"]),
-        (b"delete %s-n\r\n" % name, [b"DELETED\r\n", b"NOT_FOUND\r\n"]),
-        (b"nonsense\r\n", [b"ERROR\r\n"]),
+        (put(name, value), [STORED]),
+        (put(name + b"-n", b"7"), [STORED]),
+        (b"incr %s-n 5\r\n" % name, [b"12\r\n", NOT_FOUND]),
+        *[(b"get %s\r\n" % name, [hit(name, value), END])] * 50,
+        (b"get %s %s-none %s\r\n" % (name, name, name), [hit(name, value, times=2), END]),
+        (b"delete %s-n\r\n" % name, [DELETED, NOT_FOUND]),
+        (b"nonsense\r\n", [ERROR]),
         (b"quit\r\n", [b""]),
     ]
 
@@ -264,9 +251,9 @@ def check_refused(session, got):
     """Whether the session was served whole, told that memory is out, or cut; anything else is trouble."""
     was_told = False
     for request, answers in session:
-        whole = [it for it in [*answers, REFUSED] if got.startswith(it)]
+        whole = [it for it in [*answers, OUT_OF_MEMORY] if got.startswith(it)]
         if not whole:
-            is_cut = any(it.startswith(got) for it in [*answers, REFUSED])
+            is_cut = any(it.startswith(got) for it in [*answers, OUT_OF_MEMORY])
             must(is_cut, f"{request[:20]!r} was answered {got[:60]!r}")
             return "a session cut"
         was_told |= whole[0] not in answers[:1]
@@ -276,20 +263,15 @@ def check_refused(session, got):
 
 
 def refused_memory(_):
-    """Each request for memory refused in turn, in a served run: sessions may be cut or told so, no wrong answer comes."""
-    ways, refusal = collections.Counter(), 0
+    """Each request for memory refused in turn, in a served run: sessions may be cut or told so, no
+    wrong answer comes."""
+    ways = collections.Counter()
     with tempfile.TemporaryDirectory() as folder:
-        shim, note = f"{folder}/refuse_nth.so", f"{folder}/note"
-        subprocess.run(["gcc", "-O2", "-shared", "-fPIC", "-o", shim, f"{TOP}/tools/refuse_nth.c"], check=True)
-        was_met = True
-        while was_met:
-            refusal += 1
+        for refusal, environment in served.refusals("REFUSE_NTH", folder):
             try:
-                ways[one_refusal(LD_PRELOAD=shim, REFUSE_NTH=str(refusal), REFUSED_FILE=note)] += 1
+                ways[one_refusal(environment)] += 1
             except Trouble as trouble:
                 raise Trouble(f"request {refusal} for memory refused: {trouble}") from None
-            if was_met := os.path.exists(note):
-                os.remove(note)
     return f"{refusal - 1} requests for memory refused in turn: " + ", ".join(f"{count} with {way}" for way, count in sorted(ways.items()))
 
 
@@ -302,14 +284,14 @@ def answers_to(server, session):
     return b""
 
 
-def one_refusal(**variables):
+def one_refusal(environment):
     """How a run of two sessions ended."""
     found, words = [], "--sessions 2 --workers 1 --segments 8 --segment-size 4096".split()
     try:
-        with serve(*words, environment={**os.environ, **variables}) as server:
+        with serve(*words, environment=environment) as server:
             for session in map(refused_session, (b"a", b"b")):
                 found.append(check_refused(session, answers_to(server, session)))
-            status, fault = server.wait(30), server.errors()
+            status, fault = server.process.wait(30), server.errors()
             # (it may have ended with a fault)
             server.stop()
     except NotServing as ended:
@@ -324,11 +306,10 @@ def one_refusal(**variables):
     return next((it for it in found if it != "sessions whole"), "sessions whole")
 
 
-def eight_at_once(server, seconds, task):
+def eight_at_once(server, task):
     """Runs the task eight times at once, each with its number and a client of its own: what they
     give."""
-    return served.together(lambda part=part: task(part, Client(server, seconds))
-                           for part in range(8))
+    return served.together(lambda part=part: task(part, Client(server, 60)) for part in range(8))
 
 
 def value_of(key, size):
@@ -354,7 +335,7 @@ def large_use(is_long):
 
     words = "--workers", "3", "--segment-size", "1048576", "--segments", str(segments)
     with serve(*words) as server:
-        found = sum(eight_at_once(server, 60, fill))
+        found = sum(eight_at_once(server, fill))
         resident = server.kilobytes("VmRSS")
         # (a 256th of the segments for the marks, at most three slots of 4 bytes an item for the index, and 32 MiB for merges, workers and program)
         most = segments * 1024 * (1 + 1 / 256 + 12 / size) + 32768
@@ -386,7 +367,7 @@ def shared_counters(is_long):
         for key in (b"sum", b"swapped"):
             setup.set(key, b"0")
         until = time.monotonic() + seconds
-        added, won, adds = zip(*eight_at_once(server, 30, count))
+        added, won, adds = zip(*eight_at_once(server, count))
         total, swaps = int(setup.get(b"sum")), int(setup.get(b"swapped"))
         added, won, adds = sum(added), sum(won, []), sum(adds)
         must(total == added, f"the counter is {total}, and {added} were acknowledged")
@@ -409,19 +390,18 @@ def press(server, chance):
 
 def pressed_session(server, number):
     """Whether a session was served to its end; a wrong answer is trouble, out of memory isn't."""
-    refused = b"SERVER_ERROR out of memory"
+    key, value, got = b"key-%d" % number, b"value-%d" % number, b""
     try:
         client = Client(server)
         with client.stream:
-            value = b"value-%d" % number
-            stored = client.set(b"key-%d" % number, value)
-            must(stored in (b"STORED", refused), f"a write was answered {stored!r}")
-            lines = [client.ask(b"get key-%d" % number)]
-            while lines[-1] not in (b"END", refused):
-                lines.append(client.line())
-            hit = [b"VALUE key-%d 0 %d" % (number, len(value)), value] * (stored == b"STORED")
-            must(lines in ([refused], [*hit, b"END"]), f"a read was answered {lines!r}")
-            return stored != refused and lines != [refused]
+            stored = client.set(key, value) + b"\r\n"
+            must(stored in (STORED, OUT_OF_MEMORY), f"a write was answered {stored!r}")
+            client.stream.sendall(b"get %s\r\n" % key)
+            while not got.endswith((END, OUT_OF_MEMORY)):
+                got += client.line() + b"\r\n"
+            wanted = hit(key, value) if stored == STORED else END
+            must(got in (OUT_OF_MEMORY, wanted), f"a read was answered {got!r}")
+            return OUT_OF_MEMORY not in (stored, got)
     except (OSError, EOFError):
         return False
 

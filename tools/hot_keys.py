@@ -6,13 +6,14 @@ times a second: it increments a counter and reads three others. A key that is go
 TTL is over is lost, and is written again. memcached gets an -m with which about the memory is
 resident, segcached as many segments as have its bytes.
 """
+import collections
 import concurrent.futures
-import dataclasses
 import time
 
 import served
-from misses import MIB, PLAIN, SETTINGS, markdown
-from served import Memcached, Server, Trouble
+from asking import put
+from misses import MIB, PLAIN, SETTINGS, markdown, megabytes_in, segcached
+from served import Memcached, Trouble
 
 RATE, TICKS_A_SECOND, SECONDS, VALUE = 1_500, 10, 75, b"v" * 1_000
 # The TTLs of the keys in use, of which the first is the counter, and how much earlier one may end:
@@ -20,15 +21,8 @@ RATE, TICKS_A_SECOND, SECONDS, VALUE = 1_500, 10, 75, b"v" * 1_000
 TTLS, EARLY = (60, 60, 600, 0), 16
 
 
-@dataclasses.dataclass(frozen=True)
-class Flood:
-    """MiB of memory, bytes of a segment, and the TTLs of the new keys in turn."""
-
-    memory: int
-    segment_size: int
-    ttls: tuple
-
-
+# MiB of memory, bytes of a segment, and the TTLs of the new keys in turn.
+Flood = collections.namedtuple("Flood", "memory segment_size ttls")
 FLOODS = (
     Flood(16, 256 << 10, (0,)),
     Flood(16, 256 << 10, (0, 60, 600)),
@@ -40,12 +34,10 @@ FLOODS = (
 
 def servers(flood, program):
     """memcached, and segcached with each of its options."""
-    megabytes = flood.memory - 5 - flood.memory // 32
-    yield Memcached(megabytes=megabytes, environment=PLAIN)
-    segments = flood.memory * MIB // flood.segment_size
-    sizes = ["--segment-size", str(flood.segment_size), "--segments", str(segments)]
-    for options in SETTINGS.values():
-        yield Server(program, *sizes, *options, environment=PLAIN)
+    yield Memcached(megabytes=megabytes_in(flood.memory), environment=PLAIN)
+    for setting in SETTINGS:
+        segments = flood.memory * MIB // flood.segment_size
+        yield segcached(program, setting, flood.segment_size, segments)
 
 
 class Client(served.Client):
@@ -71,8 +63,8 @@ class Client(served.Client):
     def flood(self, ttls, count):
         """Writes new keys, and tells of none that wasn't stored."""
         numbers = range(self.written, self.written + count)
-        line = b"set new-%%d 0 %%d %d\r\n%s\r\n" % (len(VALUE), VALUE)
-        self.stream.sendall(b"".join(line % (it, ttls[it % len(ttls)]) for it in numbers))
+        sets = (put(b"new-%d" % it, VALUE, exptime=ttls[it % len(ttls)]) for it in numbers)
+        self.stream.sendall(b"".join(sets))
         for _ in numbers:
             self.line()
         self.written += count

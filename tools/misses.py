@@ -9,6 +9,7 @@ both are warmed by a number of reads, and a further number is counted: of reads,
 a slow machine counts the same misses. If keys have TTLs the clock counts too, and both servers are
 asked at one fixed rate. segcached is measured with the package's options, and with its defaults.
 """
+import collections
 import concurrent.futures
 import dataclasses
 import math
@@ -16,7 +17,7 @@ import os
 import subprocess
 import tempfile
 
-from served import OPTIONS, Memcached, Server
+from served import OPTIONS, Memcached, Server, together
 
 MIB = 1 << 20
 KEY_BYTES, HEAD_BYTES = 11, 24
@@ -107,15 +108,9 @@ class Point:
         return max(WARMED * self.keys, LEAST), max(COUNTED * self.keys, LEAST)
 
 
-@dataclasses.dataclass(frozen=True)
-class Side:
-    """What a server came to: its megabytes or segments, MiB resident at the end, misses of 100
-    reads, and reads a second."""
-
-    size: int
-    resident: float
-    missed: float
-    rate: float
+# What a server came to: its megabytes or segments, MiB resident at the end, misses of 100 reads, and
+# reads a second.
+Side = collections.namedtuple("Side", "size resident missed rate")
 
 
 def by_settings(points):
@@ -147,17 +142,24 @@ def segment_points():
             for kind in kinds for value in (100, 1000) for size in SEGMENT_SIZES]
 
 
+def megabytes_in(memory):
+    """memcached's -m with which about so many MiB are resident."""
+    return memory - 5 - memory // 32
+
+
+def segcached(program, setting, segment_size, segments):
+    sizes = ["--segment-size", str(segment_size), "--segments", str(segments)]
+    return Server(program, *sizes, *SETTINGS[setting], environment=PLAIN)
+
+
 class Misses:
     """Runs points, several at a time, with the load and the program that it is given."""
 
     def __init__(self, load, program, say):
         self.load, self.program, self.say = load, program, say
-        self.at_once = max(1, (os.cpu_count() or 1) // 2)
 
     def segcached(self, point, segments):
-        words = ["--segment-size", point.segment_size, "--segments", segments]
-        words += SETTINGS[point.setting]
-        return Server(self.program, *map(str, words), environment=PLAIN)
+        return segcached(self.program, point.setting, point.segment_size, segments)
 
     def asked(self, server, *words):
         """One run of the load: the figures of its last line."""
@@ -171,11 +173,11 @@ class Misses:
         words = ["--fill", "--connections", 4, "--pipeline", 64]
         with server:
             self.asked(server, *words, "--keys", point.keys, "--value", point.value)
-            return resident(server)
+            return server.kilobytes("VmRSS") / 1024
 
     def fit(self, point):
         """memcached's -m, and segcached's segments."""
-        megabytes = point.memory - 5 - point.memory // 32
+        megabytes = megabytes_in(point.memory)
         budget = self.filled(Memcached(megabytes=megabytes, environment=PLAIN), point)
         segment = point.segment_size / MIB
         taken = segment * (1 + 1 / 256 + 12 / (HEAD_BYTES + KEY_BYTES + point.value))
@@ -198,17 +200,14 @@ class Misses:
         with server:
             self.asked(server, *point.words(), "--seed", 1, "--reads", warmed)
             ran = self.asked(server, *point.words(), "--seed", 2, "--reads", counted)
-            reads = ran["hits"] + ran["misses"]
-            missed = 100 * ran["misses"] / reads
-            return Side(size, resident(server), missed, reads / ran["seconds"])
+            reads, resident = ran["hits"] + ran["misses"], server.kilobytes("VmRSS") / 1024
+            return Side(size, resident, 100 * ran["misses"] / reads, reads / ran["seconds"])
 
     def both(self, point, sizes):
         """memcached and segcached, at the same time."""
-        starts = (lambda: Memcached(megabytes=sizes[0], environment=PLAIN),
-                  lambda: self.segcached(point, sizes[1]))
-        with concurrent.futures.ThreadPoolExecutor(2) as pool:
-            run = lambda start, size: self.side(start(), size, point)
-            sides = list(pool.map(run, starts, sizes))
+        sides = together([
+            lambda: self.side(Memcached(megabytes=sizes[0], environment=PLAIN), sizes[0], point),
+            lambda: self.side(self.segcached(point, sizes[1]), sizes[1], point)])
         self.say(f"{point}: {ratio(sides):.2f}")
         return sides
 
@@ -217,20 +216,20 @@ class Misses:
         longest go first."""
         stores = sorted({it.store for it in points}, key=lambda it: -it.keys)
         order = sorted(points, key=lambda it: -it.keys)
-        pool = concurrent.futures.ThreadPoolExecutor
-        with pool(self.at_once) as busy, pool(len(points)) as timed:
+        at_once, pool = max(1, (os.cpu_count() or 1) // 2), concurrent.futures.ThreadPoolExecutor
+        with pool(at_once) as busy, pool(len(points)) as timed:
             sizes = dict(zip(stores, busy.map(self.fit, stores)))
             runs = {it: (timed if it.timed else busy).submit(self.both, it, sizes[it.store])
                     for it in order}
             return {it: ran.result() for it, ran in runs.items()}
 
 
-def resident(server):
-    return server.kilobytes("VmRSS") / 1024
-
-
 def ratio(sides):
     return sides[1].missed / max(sides[0].missed, 1e-9)
+
+
+def plot(script):
+    subprocess.run(["gnuplot"], input=script, text=True, check=True)
 
 
 def markdown(heads, rows):
@@ -239,22 +238,23 @@ def markdown(heads, rows):
     return [lines[0], "|---" * len(heads) + "|", *lines[1:]]
 
 
-HEADS = ["Memory (MiB), segments (KiB)", "values (bytes)", "Zipf's exponent",
-         "keys (times the memory)", "-m of memcached, segments", "resident (MiB)",
-         "missed of 100 reads", "ratio"]
-
-
 def table(points, results):
     """A row for each point: both servers' memory and misses."""
     rows = []
     for point in points:
         sides = results[point]
         pair = lambda form: ", ".join(map(form, sides))
-        rows.append([f"{point.memory}, {point.segment_size >> 10}", f"{point.value:,}",
-                     f"{point.zipf:g}{point.told}", f"{point.keys:,} ({point.times:g})",
-                     pair(lambda it: str(it.size)), pair(lambda it: f"{it.resident:.1f}"),
-                     pair(lambda it: f"{it.missed:.2f}"), f"{ratio(sides):.2f}"])
-    return markdown(HEADS, rows)
+        rows.append({
+            "Memory (MiB), segments (KiB)": f"{point.memory}, {point.segment_size >> 10}",
+            "values (bytes)": f"{point.value:,}",
+            "Zipf's exponent": f"{point.zipf:g}{point.told}",
+            "keys (times the memory)": f"{point.keys:,} ({point.times:g})",
+            "-m of memcached, segments": pair(lambda it: str(it.size)),
+            "resident (MiB)": pair(lambda it: f"{it.resident:.1f}"),
+            "missed of 100 reads": pair(lambda it: f"{it.missed:.2f}"),
+            "ratio": f"{ratio(sides):.2f}",
+        })
+    return markdown(rows[0], [it.values() for it in rows])
 
 
 def least_held(results):
@@ -324,4 +324,4 @@ def draw(results, picture):
         for zipf, label, words in plots:
             script += f"set title 'keys by Zipf''s law, {zipf:g}'\nset ylabel '{label}'\n"
             script += f"plot {', '.join(words)}\n"
-        subprocess.run(["gnuplot"], input=script, text=True, check=True)
+        plot(script)

@@ -7,6 +7,8 @@ A server listens on a free port of 127.0.0.1 unless it is told another address, 
 """
 import concurrent.futures
 import contextlib
+import glob
+import itertools
 import os
 import pathlib
 import re
@@ -67,13 +69,14 @@ class Process:
 
     def __init__(self, words, environment=None, limits=None, stderr=subprocess.PIPE):
         def begin():
-            # (What runs these may ignore them, as a shell's background or nohup does, and a child would, too.)
+            # (what runs these may ignore them, as a shell's background does, and a child would, too)
             for number in (signal.SIGHUP, signal.SIGINT):
                 signal.signal(number, signal.SIG_DFL)
             for what, most in (limits or {}).items():
                 resource.setrlimit(what, (most, most))
 
-        self.process = subprocess.Popen(words, stdout=subprocess.PIPE, stderr=stderr, text=True, env=environment, preexec_fn=begin)
+        self.process = subprocess.Popen(words, stdout=subprocess.PIPE, stderr=stderr, text=True,
+                                        env=environment, preexec_fn=begin)
         self.was_stopped, self.streams = False, []
 
     def connect(self, seconds=20, receive_buffer=None):
@@ -105,7 +108,8 @@ class Process:
         self.stop()
 
     def errors(self):
-        """What it wrote to standard error, up to its end, if that is a pipe of ours; without the first lines of a server."""
+        """What it wrote to standard error, up to its end, if that is a pipe of ours; without the
+        first lines of a server."""
         said = self.process.stderr.read() if self.process.stderr else ""
         return re.sub(r"\A(segcached: (--listen|takes|warning:) .*\n)+", "", said)
 
@@ -139,23 +143,25 @@ class Process:
 
 
 class Server(Process):
-    """`segcached serve` with these words."""
+    """`segcached serve` with these words, which a command may start that has others before it."""
 
-    def __init__(self, program, *words, listen="127.0.0.1:0", environment=None, limits=None, stderr=subprocess.PIPE):
-        super().__init__([program, "serve", "--listen", listen, *words], environment, limits, stderr)
+    def __init__(self, program, *words, listen="127.0.0.1:0", under=(), **how):
+        super().__init__([*under, program, "serve", "--listen", listen, *words], **how)
         self.first_line = self.process.stdout.readline()
-        found = re.fullmatch(r"listening on (?:unix:(?P<path>.+)|(?P<host>.+):(?P<port>[1-9][0-9]*))\n", self.first_line)
+        found = re.fullmatch(r"listening on (?:unix:(.+)|(.+):([1-9][0-9]*))\n", self.first_line)
         if not found:
             if self.first_line:
                 self.process.kill()
             status, fault = self.process.wait(30), self.errors()
             self.stop()
             raise NotServing(status, self.first_line + fault)
-        self.path, self.host, self.port = found["path"], (found["host"] or "").strip("[]"), int(found["port"] or 0)
+        self.path, self.host = found[1], (found[2] or "").strip("[]")
+        self.port = int(found[3] or 0)
 
-    def wait(self, seconds=20):
-        """The exit status of a server that ends by itself."""
-        return self.process.wait(seconds)
+    def probe(self):
+        """The command of the probe that the package has."""
+        where = [f"unix:{self.path}"] if self.path else [self.host, str(self.port)]
+        return [f"{TOP}/packaging/examples/probe.sh", *where]
 
     def must_run(self):
         if self.process.poll() is not None:
@@ -227,6 +233,38 @@ class Memcached(OnPort):
         words = ["-u", "nobody", "-l", "127.0.0.1", "-c", 4096]
         words += ["-p", port, "-t", threads, "-m", megabytes]
         super().__init__(port, ["memcached", *map(str, words)], environment)
+
+
+def ended(*words, seconds=60, **how):
+    """A command's exit status, and what it wrote on both outputs."""
+    how = {"stdout": subprocess.PIPE, "stderr": subprocess.PIPE, **how}
+    done = subprocess.run(words, timeout=seconds, check=False, **how)
+    return done.returncode, done.stdout, done.stderr
+
+
+def compiled(name, folder, *words):
+    """Compiles a C file of tools into a folder with these words of gcc: the path of what it made."""
+    made, source = f"{folder}/{name}", f"{TOP}/tools/{name}.c"
+    subprocess.run(["gcc", "-O2", "-Wall", "-Wextra", "-o", made, source, *words], check=True)
+    return made
+
+
+def refusals(kind, folder):
+    """Numbers, each with the environment of a run in which the request of this kind with that number
+    is refused: REFUSE_NTH for memory, REFUSE_THREAD for threads. In the last one nothing is."""
+    shim, note = compiled("refuse_nth", folder, "-shared", "-fPIC", "-ldl"), f"{folder}/refused"
+    for number in itertools.count(1):
+        variables = {"LD_PRELOAD": shim, kind: str(number), "REFUSED_FILE": note}
+        yield number, {**os.environ, **variables}
+        if not os.path.exists(note):
+            return
+        os.remove(note)
+
+
+def with_faketime(**variables):
+    """The environment of a program whose clocks libfaketime fakes."""
+    library = glob.glob("/usr/lib/*/faketime/libfaketimeMT.so.1")[0]
+    return {**os.environ, "LD_PRELOAD": library, **variables}
 
 
 def free_port():

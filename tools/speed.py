@@ -7,7 +7,6 @@ with its default options, too. A ratio is one of two runs of the same round. Tab
 of the rounds' ratios, for the main figure and the processor time with their quartiles, and '≈' if
 these have 1 between them.
 """
-import collections
 import contextlib
 import dataclasses
 import os
@@ -17,8 +16,8 @@ import subprocess
 import tempfile
 import time
 
-from misses import MIB, markdown
-from served import OPTIONS, TOP, TUNABLES, Memcached, Server, Trouble
+from misses import MIB, markdown, plot
+from served import OPTIONS, TUNABLES, Memcached, Server, Trouble, compiled
 
 # The workers of segcached, and the threads of memcached beside them.
 THREADS = {1: 1, 2: 2, 3: 4}
@@ -103,9 +102,7 @@ class LoadProgram:
     """tools/load.c, compiled into a folder."""
 
     def __init__(self, folder):
-        self.path = f"{folder}/load"
-        words = ["gcc", "-O2", "-pthread", "-o", self.path, f"{TOP}/tools/load.c", "-lm"]
-        subprocess.run(words, check=True)
+        self.path = compiled("load", folder, "-pthread", "-lm")
 
     def words(self, server, words):
         return [self.path, "127.0.0.1", str(server.port), *map(str, words)]
@@ -179,15 +176,15 @@ class Speed:
         """One run, for a second at least if it has a rate."""
         seconds = max(self.seconds, 1) if load.has_rate() else self.seconds
         words = ["--seconds", seconds, *load.shape(), *load.words]
-        if load.beside:
-            asked = self.load.words(server, [*BESIDE, "--seconds", seconds + 0.2])
-            with subprocess.Popen(asked, stdout=subprocess.DEVNULL) as beside:
-                time.sleep(0.1)
-                figures = self.run(server, *words)
-                if beside.wait(120):
-                    raise Trouble(f"{load.name}: the large replies aren't read")
-            return figures
-        return self.run(server, *words)
+        if not load.beside:
+            return self.run(server, *words)
+        asked = self.load.words(server, [*BESIDE, "--seconds", seconds + 0.2])
+        with subprocess.Popen(asked, stdout=subprocess.DEVNULL) as beside:
+            time.sleep(0.1)
+            figures = self.run(server, *words)
+            if beside.wait(120):
+                raise Trouble(f"{load.name}: the large replies aren't read")
+        return figures
 
     def sides(self, loads):
         """What is started for a group: each kind, and for default options, which are the name's
@@ -224,10 +221,9 @@ class Speed:
     def compared(self, sizes, loads):
         """By load and workers, the figures of all rounds."""
         results = {it.name: {size: [] for size in sizes} for it in loads}
-        groups = collections.defaultdict(list)
-        for it in loads:
-            groups[it.group()].append(it)
-        parts = [(size, some) for size in sizes for some in groups.values()]
+        groups = dict.fromkeys(it.group() for it in loads)
+        parts = [(size, [it for it in loads if it.group() == group])
+                 for size in sizes for group in groups]
         for turn in range(self.rounds):
             for size, some in self.shuffled(parts):
                 for name, figures in self.run_round(size, some).items():
@@ -295,13 +291,13 @@ MARKS = {
 }
 
 
-def idle_share(server, seconds=1):
+def idle_share(server):
     for _ in range(50):
         server.connect()
     time.sleep(0.3)
     before = server.processor_seconds()
-    time.sleep(seconds)
-    return (server.processor_seconds() - before) / seconds
+    time.sleep(1)
+    return server.processor_seconds() - before
 
 
 def medians(pairs, figure):
@@ -324,19 +320,15 @@ def with_quartiles(numbers):
 
 def other_table(longest, shares, name_of):
     """The longest replies, and what idle servers take."""
-    cells = {kind: [[], f"{with_quartiles([100 * it for it in each])}"]
-             for kind, each in shares.items()}
+    pauses = {kind: [] for kind in shares}
     for (kind, size), times in longest.items():
         of = "" if kind == "memcached" else f" with segments of {size >> 10} KiB"
-        cells[kind][0].append(with_quartiles(times) + of)
-    rows = [
-        ("longest time to a reply in a run of `set`s on one connection, with "
-         f"{PAUSE_MIB} MiB in use, ms", ["<br>".join(it[0]) for it in cells.values()]),
-        ("idle with 50 connections, hundredths of a processor", [it[1] for it in cells.values()]),
-    ]
-    lines = [f"| Median, with quartiles | {' | '.join(name_of[it] for it in cells)} |",
-             "|---" * (len(cells) + 1) + "|"]
-    return lines + [f"| {name} | {' | '.join(said)} |" for name, said in rows]
+        pauses[kind].append(with_quartiles(times) + of)
+    idle = (with_quartiles(100 * it for it in each) for each in shares.values())
+    return markdown(["Median, with quartiles", *(name_of[it] for it in shares)], [
+        ["longest time to a reply in a run of `set`s on one connection, with "
+         f"{PAUSE_MIB} MiB in use, ms", *map("<br>".join, pauses.values())],
+        ["idle with 50 connections, hundredths of a processor", *idle]])
 
 
 PICTURE = """
@@ -375,4 +367,4 @@ def draw(runs, results, names, picture):
             bars.append(f"'{data.name}' using {columns}:xtic(1) title '{title}'")
         script = PICTURE.format(picture=picture, first=names[0], second=names[1],
                                 bars=", ".join(bars))
-        subprocess.run(["gnuplot"], input=script, text=True, check=True)
+        plot(script)

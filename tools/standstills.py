@@ -1,5 +1,6 @@
 """When a processor of the machine stood still, and calls in processes of their own: for
 tools/hostile.py, and what it runs."""
+import contextlib
 import multiprocessing
 import os
 import threading
@@ -9,7 +10,8 @@ from served import Trouble, together
 
 
 class Beside:
-    """A call in a process of its own, which is given an event that says when it is over."""
+    """A call in a process of its own beside the block, which is given an event that says when that
+    is over. What it gives is `noted` then."""
 
     def __init__(self, call, *given):
         self.is_over, (self.hears, says) = multiprocessing.Event(), multiprocessing.Pipe(False)
@@ -22,19 +24,18 @@ class Beside:
 
         self.process = multiprocessing.Process(target=run, daemon=True)
 
-    def start(self):
+    def __enter__(self):
         self.process.start()
+        return self
 
-    def stop(self):
-        """What the call gave."""
+    def __exit__(self, is_amiss, *_):
         self.is_over.set()
         if not self.hears.poll(60):
             raise Trouble("what runs beside doesn't end")
-        said, fault = self.hears.recv()
+        self.noted, fault = self.hears.recv()
         self.process.join()
-        if fault:
+        if fault and not is_amiss:
             raise Trouble(fault)
-        return said
 
 
 def note_late(is_over, late, noted):
@@ -60,20 +61,17 @@ def watch(is_over, late):
     return sorted(noted)
 
 
-class OwnStandstills:
-    """Notes when the process that makes this stood still, so that what it timed says nothing."""
-
-    def __init__(self, late):
-        self.is_over, self.noted = threading.Event(), []
-        words = self.is_over, late, self.noted
-        self.thread = threading.Thread(target=note_late, args=words, daemon=True)
-
-    def start(self):
-        self.thread.start()
-
-    def stop(self):
-        self.is_over.set()
-        self.thread.join()
+@contextlib.contextmanager
+def own_standstills(late):
+    """Notes when this process stood still beside the block, so that what it timed says nothing."""
+    is_over, noted = threading.Event(), []
+    thread = threading.Thread(target=note_late, args=(is_over, late, noted), daemon=True)
+    thread.start()
+    try:
+        yield noted
+    finally:
+        is_over.set()
+        thread.join()
 
 
 class Standstills(Beside):
@@ -82,10 +80,6 @@ class Standstills(Beside):
 
     def __init__(self, late=0.1):
         super().__init__(watch, late)
-        self.noted = []
-
-    def stop(self):
-        self.noted = super().stop()
 
     def seconds_in(self, began, ended):
         """For how long some processor stood still in this time."""

@@ -6,7 +6,7 @@ test's process stood still says nothing, and isn't counted; of these there may b
 A try that raises has failed for good: what it asserts must hold however late its process is.
 """
 from served import Trouble
-from standstills import OwnStandstills, Standstills
+from standstills import Standstills, own_standstills
 
 TRIES, ENOUGH = 3, 2
 MOST_UNCOUNTED = 10
@@ -19,17 +19,11 @@ def in_two_of_three(attempt):
     Trouble if too many failed."""
     fine, failed, uncounted = [], [], 0
     while len(fine) < ENOUGH:
-        standstills, own = Standstills(LATE), OwnStandstills(OWN_LATE)
-        standstills.start()
-        own.start()
-        try:
+        with Standstills(LATE) as standstills, own_standstills(OWN_LATE) as own:
             is_fine, said = attempt()
-        finally:
-            own.stop()
-            standstills.stop()
         if is_fine:
             fine.append(said)
-        elif (standstills.noted or own.noted) and uncounted < MOST_UNCOUNTED:
+        elif (standstills.noted or own) and uncounted < MOST_UNCOUNTED:
             uncounted += 1
         else:
             failed.append(said)

@@ -12,8 +12,8 @@ import time
 from typing import NamedTuple
 
 import tries
-from served import Memcached, Server, Trouble, install
-from served import read as read_file
+from asking import END, ERROR, STORED, ask, get, hit, is_same, put, seconds_to
+from served import Memcached, Server, Trouble, install, read, read_exactly
 from standstills import Beside
 
 # What 99 of 100 requests, and each one, may wait on a quiet machine, in seconds, unless a load says
@@ -36,58 +36,21 @@ AT_A_TIME = 2_000_000
 OPTIONS = ["--segment-size", "1048576", "--segments", "64"]
 
 
-def set_of(key, size, tail=b""):
-    return b"set %s 0 0 %d%s\r\n%s\r\n" % (key, size, tail, b"v" * size)
-
-
-def answer_of(key, size, times):
-    """What a `get` of so many times this key is answered."""
-    return b"VALUE %s 0 %d\r\n%s\r\n" % (key, size, b"v" * size) * times + b"END\r\n"
-
-
-def get_of(key, times):
-    return b"get" + b" %s" % key * times + b"\r\n"
-
-
-def wait_of(stream):
-    """How long a request waits."""
-    asked = time.monotonic()
-    stream.sendall(b"get none\r\n")
-    if stream.recv(100) != b"END\r\n":
-        raise Trouble("a key that nobody wrote was found")
-    return time.monotonic() - asked
-
-
 def waits_beside(is_over, server, newcomers):
-    """How long the requests of a client waited, and, if asked for, those of newcomers from before
-    they connect."""
+    """What 99 of 100 requests of a client, and each one, waited at most; and, if asked for, those
+    of newcomers from before they connect."""
     with server.connect(60) as stream:
-        waits = [wait_of(stream)]
+        waits = [seconds_to(stream)]
         while not is_over.is_set():
-            waits.append(wait_of(stream))
+            waits.append(seconds_to(stream))
             time.sleep(0.001)
             if newcomers and len(waits) % 4 == 0:
                 asked = time.monotonic()
                 with server.connect(60) as newcomer:
-                    wait_of(newcomer)
+                    ask(newcomer, b"get none\r\n", END)
                     waits.append(time.monotonic() - asked)
-    return sorted(waits)
-
-
-class Waits(Beside):
-    """What 99 of 100 requests, and each one, waited at most beside the block."""
-
-    def __init__(self, server, newcomers=False):
-        super().__init__(waits_beside, server, newcomers)
-
-    def __enter__(self):
-        self.start()
-        time.sleep(BEFORE)
-        return self
-
-    def __exit__(self, *_):
-        waits = self.stop()
-        self.longest = waits[len(waits) * 99 // 100], waits[-1]
+    waits.sort()
+    return waits[len(waits) * 99 // 100], waits[-1]
 
 
 def is_within(waited, most):
@@ -103,7 +66,7 @@ class Others:
 
     def taken(self):
         """The seconds that others took so far."""
-        user, nice, system, *_, steal = map(int, read_file("/proc/stat").split()[1:9])
+        user, nice, system, *_, steal = map(int, read("/proc/stat").split()[1:9])
         taken = (user + nice + system + steal) / os.sysconf("SC_CLK_TCK")
         return taken - sum(os.times()[:4]) - self.server.processor_seconds()
 
@@ -117,13 +80,16 @@ class Others:
 
 
 class Waited(NamedTuple):
-    """What 99 of 100 requests, and each one, waited at most, in seconds, and what others took."""
+    """What 99 of 100 requests, and each one, waited at most, in seconds; what others took; and what
+    is said first."""
 
     longest: tuple
     others: float
+    first: str = ""
 
     def __str__(self):
-        return f"{said(self.longest)} where others took {self.others:.0%} of the processors"
+        busy = f"where others took {self.others:.0%} of the processors"
+        return f"{self.first}{said(self.longest)} {busy}"
 
 
 def judged(here, most, beside):
@@ -176,7 +142,7 @@ LONGEST = [
     Load(1, 131_000, "read", 64, most=(0.030, 0.200)),
     Load(8, 131_000, "read", 64, most=(0.120, 0.200)),
 ]
-HIDDEN = {"before": b"x\r\n", "answered": b"ERROR\r\n"}
+HIDDEN = {"before": b"x\r\n", "answered": ERROR}
 HOSTILE = [
     Load(8, 131_000, "read", 64, most=(0.120, 0.200), **HIDDEN),
     Load(8, 131_000, "read", 64, 5, most=(0.450, 0.500), **HIDDEN),
@@ -196,19 +162,18 @@ LOADS = {
 
 def send_fast(server, key, load):
     """Sends writes that aren't answered, and reads nothing."""
-    text, stream = set_of(key, load.size,
-                          b" noreply") * (AT_A_TIME // load.size), server.connect(60)
+    stream, text = server.connect(60), put(key, b"v" * load.size, words=b" noreply")
     while True:
-        stream.sendall(text)
+        stream.sendall(text * (AT_A_TIME // load.size))
 
 
 def read_fast(server, key, load):
     """Each connection sends many requests at once, or a long one, and reads what it is answered."""
-    answer, buffer = len(load.answered + answer_of(key, load.size, load.keys)), bytearray(65536)
+    value, buffer, left = b"v" * load.size, bytearray(65536), {}
+    write(server, key, value)
     count = max(AT_A_TIME // (load.keys * load.size), 1)
-    asked, left = (load.before + get_of(key, load.keys)) * count, {}
-    with server.connect(60) as stream:
-        write(stream, key, load.size)
+    asked = (load.before + get(key, load.keys)) * count
+    answer = len(load.answered + hit(key, value, times=load.keys))
     selector = selectors.DefaultSelector()
 
     def ask(stream):
@@ -256,10 +221,9 @@ def send_malformed(server, key, load):
 
 def ask_and_hold(server, key, load):
     """Each connection asks once, and reads nothing."""
-    with server.connect(60) as stream:
-        write(stream, key, load.size)
+    write(server, key, b"v" * load.size)
     for _ in range(load.streams):
-        server.connect(60).sendall(get_of(key, load.keys))
+        server.connect(60).sendall(get(key, load.keys))
     while True:
         time.sleep(60)
 
@@ -278,29 +242,26 @@ def waited(server, load):
             for process in fast:
                 process.start()
             time.sleep(BEFORE)
-            with Waits(server, newcomers=True) as waits:
-                time.sleep(load.seconds())
+            with Beside(waits_beside, server, True) as waits:
+                time.sleep(BEFORE + load.seconds())
             if any(it.exitcode is not None for it in fast):
                 raise Trouble(f"beside {load}: a fast client has ended")
         finally:
             for process in fast:
                 process.kill()
                 process.join()
-    return Waited(waits.longest, others.share)
+    return Waited(waits.noted, others.share)
 
 
-def waited_beside(load, server, memcached):
-    """What others waited beside a load; Trouble where they waited too long in two of three
-    tries."""
-    seen = []
-
+def in_two_of_three(measure, most, beside, said):
+    """What `measure` gives in the last try, and what is said of it, below these words. Trouble
+    where others waited too long in two of three tries."""
     def attempt():
-        seen.append(waited(server, load))
-        is_fine, words = judged(seen[-1], load.most, lambda: waited(memcached, load))
-        return is_fine, f"beside {load}: {words}"
+        here = measure()
+        is_fine, words = judged(here, most, beside)
+        return is_fine, (here, f"{said} {words}")
 
-    tries.in_two_of_three(attempt)
-    return seen[-1].longest
+    return tries.in_two_of_three(attempt)
 
 
 def fairness_of(program, words):
@@ -308,9 +269,10 @@ def fairness_of(program, words):
     longest, within = (0, 0), 0
     with Server(program, *words, *OPTIONS) as server, Memcached(int(words[-1])) as memcached:
         for load in LOADS[words]:
-            here = waited_beside(load, server, memcached)
-            within += is_within(here, load.most)
-            longest = tuple(map(max, longest, here))
+            here, _ = in_two_of_three(lambda: waited(server, load), load.most,
+                                      lambda: waited(memcached, load), f"beside {load}:")
+            within += is_within(here.longest, load.most)
+            longest = tuple(map(max, longest, here.longest))
         server.must_run()
     return (f"{' '.join(words)}: {len(LOADS[words])} loads of fast clients, {within} as on a quiet "
             f"machine; in the worst others waited {said(longest)}")
@@ -324,48 +286,30 @@ def fairness(program):
 
 # ---- clients that ask for the longest answers and read nothing
 
-# What a worker may hold more, in MiB, and what others may wait on a quiet machine.
-MOST_MEMORY, BESIDE_UNREAD = 192, MOST
-CLIENTS, VALUE = 40, 131_000
-# The keys of a request, as many as one answer may have: 33 MB or 8; there are so many requests in
-# all that 1.3 GB are asked for.
-KEYS = 255, 60
+# What a worker may hold more, in MiB.
+MOST_MEMORY = 192
+# So many clients ask for so many values, of 33 MB.
+CLIENTS, KEYS, VALUE = 40, 255, b"v" * 131_000
 # Each client asks for this much and reads it, beside them: the value's bytes and how often.
 READ = [(100, 1), (1_000, 100), (100_000, 10)]
 
 
-def write(stream, key, size):
-    stream.sendall(set_of(key, size))
-    if stream.recv(100) != b"STORED\r\n":
-        raise Trouble("a value wasn't stored")
+def write(server, key, value):
+    with server.connect(60) as stream:
+        ask(stream, put(key, value), STORED)
 
 
-def read(stream, key, size, times):
-    """Whether the whole answer came."""
-    stream.sendall(get_of(key, times))
-    wanted, got = answer_of(key, size, times), bytearray()
-    while len(got) < len(wanted):
-        piece = stream.recv(1 << 20)
-        got += piece
-        if not piece or got.startswith(b"SERVER_ERROR"):
-            return False
-    return bytes(got) == wanted
+def read_whole(stream, key, value, times):
+    stream.sendall(get(key, times))
+    wanted = hit(key, value, times=times)
+    assert is_same(read_exactly(stream, len(wanted)), wanted), f"{times} x {len(value)} bytes"
 
 
-def most_keys(server):
-    """As many keys as one answer has; it is read whole."""
-    with server.connect() as stream:
-        write(stream, b"large", VALUE)
-        for keys in KEYS:
-            if read(stream, b"large", VALUE, keys):
-                return keys
-    raise Trouble(f"{KEYS[-1]} values of {VALUE} bytes aren't answered")
-
-
-def ask_and_read_nothing(server, keys):
-    """The clients, of which each takes little into its own system."""
-    for _ in range(CLIENTS * KEYS[0] // keys):
-        server.connect(receive_buffer=4096).sendall(get_of(b"large", keys))
+def ask_and_read_nothing(server):
+    """The clients, of which each takes little into its own system, once others are beside."""
+    time.sleep(BEFORE)
+    for _ in range(CLIENTS):
+        server.connect(receive_buffer=4096).sendall(get(b"large", KEYS))
 
 
 def settle(server):
@@ -377,46 +321,37 @@ def settle(server):
 
 
 def unread_here(program):
-    """How many MiB more it holds, how others waited, and how many keys a request has."""
-    with Server(program, "--workers", "1", *OPTIONS) as server:
-        keys = most_keys(server)
-        with server.connect() as reader:
-            for size, _ in READ:
-                write(reader, b"read-%d" % size, size)
-            before = server.kilobytes("VmRSS")
-            with Others(server) as others, Waits(server) as waits:
-                ask_and_read_nothing(server, keys)
-                settle(server)
-                for size, times in READ:
-                    if not read(reader, b"read-%d" % size, size, times):
-                        raise Trouble(f"a client that reads wasn't answered {times} x {size} bytes")
-            more = (server.kilobytes("VmHWM") - before) // 1024
-    return more, Waited(waits.longest, others.share), keys
+    """How others waited; Trouble if it held too much."""
+    with Server(program, "--workers", "1", *OPTIONS) as server, server.connect() as reader:
+        write(server, b"large", VALUE)
+        read_whole(reader, b"large", VALUE, KEYS)
+        for size, _ in READ:
+            write(server, b"read-%d" % size, b"v" * size)
+        before = server.kilobytes("VmRSS")
+        with Others(server) as others, Beside(waits_beside, server, False) as waits:
+            ask_and_read_nothing(server)
+            settle(server)
+            for size, times in READ:
+                read_whole(reader, b"read-%d" % size, b"v" * size, times)
+        more = (server.kilobytes("VmHWM") - before) // 1024
+        if more > MOST_MEMORY:
+            raise Trouble(f"clients that read nothing take {more} MiB")
+    return Waited(waits.noted, others.share, f"take {more} MiB in all, and others waited ")
 
 
-def unread_beside(keys):
+def unread_beside():
     """How a client of memcached waited in the same load."""
     with Memcached(1) as server:
-        with server.connect(60) as stream:
-            write(stream, b"large", VALUE)
-        with Others(server) as others, Waits(server) as waits:
-            ask_and_read_nothing(server, keys)
+        write(server, b"large", VALUE)
+        with Others(server) as others, Beside(waits_beside, server, False) as waits:
+            ask_and_read_nothing(server)
             time.sleep(1)
-    return Waited(waits.longest, others.share)
+    return Waited(waits.noted, others.share)
 
 
 def unread(program):
     """What it says; Trouble where they held too much, or another client waited too long in two of
     three tries."""
     install("memcached")
-
-    def attempt():
-        more, here, keys = unread_here(program)
-        if more > MOST_MEMORY:
-            raise Trouble(f"clients that read nothing take {more} MiB")
-        is_fine, words = judged(here, BESIDE_UNREAD, lambda: unread_beside(keys))
-        return is_fine, (
-            f"clients that ask for {keys * VALUE / 1e6:.0f} MB each and read nothing take {more} "
-            f"MiB in all, and others waited {words}")
-
-    return tries.in_two_of_three(attempt)
+    asked = f"clients that ask for {KEYS * len(VALUE) / 1e6:.0f} MB each and read nothing"
+    return in_two_of_three(lambda: unread_here(program), MOST, unread_beside, asked)[1]

@@ -2,7 +2,6 @@
 import contextlib
 import os
 import resource
-import subprocess
 
 import hypothesis
 import pytest
@@ -45,6 +44,17 @@ def serve(program):
         yield lambda *words, **named: servers.enter_context(served.Server(program, *words, **named))
 
 
+@pytest.fixture
+def apart():
+    """Gives the command that starts another one in such namespaces of its own, which takes root."""
+    def command(*words):
+        if os.geteuid() or served.ended("unshare", *words, "true")[0]:
+            pytest.skip("this takes root and namespaces")
+        return ["unshare", *words]
+
+    return command
+
+
 @pytest.fixture(params=["thread", "workers"])
 def storage(request):
     """The words by which these threads execute requests."""
@@ -60,11 +70,5 @@ def say(request):
 @pytest.fixture(scope="session")
 def compiled(tmp_path_factory):
     """Compiles a C file of tools with these words of gcc: the path of what it made."""
-
-    def compile_file(name, *words):
-        made = str(tmp_path_factory.mktemp("compiled") / name)
-        source = f"{served.TOP}/tools/{name}.c"
-        subprocess.run(["gcc", "-O2", "-Wall", "-Wextra", *words, "-o", made, source, "-ldl"], check=True)
-        return made
-
-    return compile_file
+    made = tmp_path_factory.mktemp("compiled")
+    return lambda name, *words: served.compiled(name, made, *words, "-ldl")

@@ -1,7 +1,8 @@
-"""A model of the cache by lists, which gives back, merges and clears segments by the program's rules, and counts what a `stats` is told.
+"""A model of the cache by lists, which gives back, merges and clears segments by the program's rules,
+and counts what a `stats` is told.
 
-It is written from the rules of segments alone (docs/OPERATIONS.md tells them in a user's words): it has lists where
-the program has bytes, and walks where the program has tables.
+It is written from the rules of segments alone (docs/OPERATIONS.md tells them in a user's words): it
+has lists where the program has bytes, and walks where the program has tables.
 """
 import collections
 import itertools
@@ -14,11 +15,14 @@ from asking import (
 LASTING = 1024  # the bucket of what has no deadline
 VERSION = f"VERSION 1.6.0-segcached-{served.version()}\r\n".encode()
 BUCKETS = 1025
-# Lines that are answered without a look at the cache or at the clock.
-LOCAL = (b"version", b"verbosity")
-COUNTED = """cmd_get cmd_set cmd_touch cmd_flush total_items cas_badval out_of_memory get_hits get_misses delete_hits delete_misses incr_hits
-    incr_misses decr_hits decr_misses touch_hits touch_misses cas_hits cas_misses""".split()
-# Which count a reply to `cas` is, and of a `delete`, a `touch` or a change of a number.
+# What lines are answered without a look at the cache or at the clock.
+LOCAL = {b"version": VERSION, b"verbosity": b"OK\r\n"}
+COUNTED = """cmd_get cmd_set cmd_touch cmd_flush total_items cas_badval out_of_memory get_hits
+    get_misses delete_hits delete_misses incr_hits incr_misses decr_hits decr_misses touch_hits
+    touch_misses cas_hits cas_misses""".split()
+OF_SEGMENTS = """evicted_by_merge evicted_by_clearing reclaimed merges segments_cleared
+    segments_emptied""".split()
+# Which count a reply to `cas` is.
 OF_CAS = {STORED: "cas_hits", NOT_FOUND: "cas_misses", b"EXISTS\r\n": "cas_badval"}
 JOINS = (b"append", b"prepend")
 SHOWN_AND_TOUCHED = (b"gat", b"gats")
@@ -26,11 +30,14 @@ STORES = (b"set", b"add", b"replace", b"cas", *JOINS)
 
 
 def refused(request):
-    """What the strict dialect answers to a request that the lenient one alone has, whose data block is read as a line; None for others."""
+    """What the strict dialect answers to a request that the lenient one alone has, whose data block
+    is read as a line; None for others."""
     verb, *words = request
     if verb == b"delete" and len(words) > 1:
         return BAD_LINE
-    return 2 * ERROR if verb in JOINS else ERROR if verb in (b"touch", *SHOWN_AND_TOUCHED, b"stats", *LOCAL) else None
+    if verb in JOINS:
+        return 2 * ERROR
+    return ERROR if verb in (b"touch", *SHOWN_AND_TOUCHED, b"stats", *LOCAL) else None
 
 
 # Of buckets of each width: below which life they are, the first one, and the width.
@@ -60,34 +67,14 @@ def life_of(deadline, now):
     return None if deadline is None else max(1, deadline - now)
 
 
-def is_within_widths(has, asked, now):
-    """Whether less than two widths of its bucket are missing of a deadline that is asked for."""
-    life = min(asked - now, 8388608)
-    return has <= asked and has + 2 * width_and_lower_end(bucket_of(life))[0] > now + life
-
-
-def is_within_an_eighth(has, asked, now):
-    """Whether no more than an eighth of its life is missing."""
-    return has <= asked and asked - has <= (asked - now) // 8
-
-
-def may_be_given(has, asked, now):
-    """Whether a write that asks for one deadline may give the other."""
-    return has is asked if None in (has, asked) else now < has and is_within_widths(has, asked, now)
-
-
-def suits(has, own, now):
-    """Whether an item with a deadline of its own goes into a segment with another one: that is little earlier, or the same, and may have come."""
-    if None in (has, own):
-        return has is own
-    return now < own and (is_within_widths(has, own, now) or is_within_an_eighth(has, own, now))
-
-
-def may_stand_for(has, asked, now):
-    """Whether an item with one deadline may stay where another is asked for."""
+def may_stand_for(has, asked, now, with_an_eighth=True):
+    """Whether a deadline to come may stand where another one is asked for: it is that one, or is
+    earlier by less than two widths of its bucket, or by no more than an eighth of the life."""
     if None in (has, asked):
         return has is asked
-    return now < has and (is_within_widths(has, asked, now) or is_within_an_eighth(has, asked, now))
+    life = min(asked - now, 8388608)
+    is_near = has + 2 * width_and_lower_end(bucket_of(life))[0] > now + life
+    return has <= asked and (is_near or with_an_eighth and asked - has <= (asked - now) // 8)
 
 
 class Segment:
@@ -120,15 +107,17 @@ class Item:
 
 
 class Cache:
-    """The cache, by lists: `order` are the segments of chains, as they were opened, but for those that merges moved."""
+    """The cache, by lists: `order` are the segments of chains, as they were opened, but for those
+    that merges moved."""
 
-    def __init__(self, segment_size, segments, largest=None, is_least_read=False, is_in_place=False, is_exact=False):
+    def __init__(self, segment_size, segments, largest=None, is_lenient=False,
+                 is_least_read=False, is_in_place=False, is_exact=False):
         self.largest = largest or segment_size // 8
-        self.segment_size, self.free, self.order, self.cursor = segment_size, segments, [], 0
-        self.segments, self.opens, self.is_least_read, self.is_in_place = segments, 0, is_least_read, is_in_place
-        self.current, self.cas, self.pending, self.is_exact, self.is_lenient = {}, 0, None, is_exact, False
-        self.merges = self.clearings = self.given_back = 0
-        self.counts = collections.Counter()
+        self.segment_size, self.segments, self.free = segment_size, segments, segments
+        self.is_least_read, self.is_in_place, self.is_exact = is_least_read, is_in_place, is_exact
+        self.order, self.current, self.counts = [], {}, collections.Counter()
+        self.cursor = self.opens = self.cas = 0
+        self.pending, self.is_lenient = None, is_lenient
 
     def find(self, key, now):
         item = self.current.get(key)
@@ -156,23 +145,26 @@ class Cache:
         return True
 
     def opening_moment(self, bucket, now):
-        """With the rule of the least read a multiple of half the bucket's width, but for lives below eight seconds or without end."""
+        """With the rule of the least read a multiple of half the bucket's width, but for lives below
+        eight seconds or without end."""
         if not self.is_least_read or bucket in (0, LASTING):
             return now
         width, _ = width_and_lower_end(bucket)
-        return now // (width // 2) * (width // 2)
+        return now - now % (width // 2)
 
     def give_back(self, now):
-        dead = [it for it in self.order if not any(self.is_live(item, now) for item in it.items)]
-        self.order = [it for it in self.order if it not in dead]
-        self.free += len(dead)
-        self.given_back += len(dead)
-        return bool(dead)
+        live = [it for it in self.order if any(self.is_live(item, now) for item in it.items)]
+        dead, self.order = len(self.order) - len(live), live
+        self.free += dead
+        self.counts["segments_emptied"] += dead
+        return dead > 0
 
     def front(self, bucket, order):
-        """Of a bucket's segments in this part of the order the first ones that can be merged, with the one behind all of these."""
+        """Of a bucket's segments in this part of the order the first ones that can be merged, with
+        the one behind all of these."""
         chain = [it for it in order if it.bucket == bucket]
-        front = list(itertools.takewhile(lambda it: bucket == LASTING or it.opened == chain[0].opened, chain[:-1]))
+        front = list(itertools.takewhile(
+            lambda it: bucket == LASTING or it.opened == chain[0].opened, chain[:-1]))
         return front[: 3 if self.is_least_read else 4], chain[len(front)] if chain else None
 
     def looked_at(self):
@@ -215,26 +207,29 @@ class Cache:
                 self.order.insert(self.order.index(behind), front[0])
             self.free += len(front) - 1
             self.cursor = cursor % BUCKETS
-            self.merges += 1
+            self.counts["merges"] += 1
             return True
         return False
 
     def clear(self, now):
-        victim = min(self.looked_at(), key=lambda it: it.hits) if self.is_least_read else self.order[0]
+        victim = self.order[0]
+        if self.is_least_read:
+            victim = min(self.looked_at(), key=lambda it: it.hits)
         self.order.remove(victim)
         for item in victim.items:
             if self.is_live(item, now):
                 del self.current[item.key]
                 self.counts["evicted_by_clearing"] += 1
         self.free += 1
-        self.clearings += 1
+        self.counts["segments_cleared"] += 1
 
     def write(self, key, value, flags, ttl, now):
         self.cas += 1
         self.store(Item(key, value, flags, self.cas), ttl, now)
 
     def rewrite(self, item, value, now):
-        """The item has this value from now on: where it stands, with its reads, if that is on and the size stays; else it is written anew."""
+        """The item has this value from now on: where it stands, with its reads, if that is on and
+        the size stays; else it is written anew."""
         if not self.is_in_place or Item(item.key, value, 0, 0).size != item.size:
             return self.write(item.key, value, item.flags, life_of(item.deadline, now), now)
         self.cas += 1
@@ -242,13 +237,13 @@ class Cache:
         item.segment.hits += 1
 
     def goes_over(self, item, ttl, now):
-        """Whether the item goes over the one of its key, and if so puts it there: by the rule of the least read, or where items have their own
-        deadlines, if both take as many bytes, and the item may have the deadline of that segment, or goes in there with its own."""
+        """Whether the item goes over the one of its key, and if so puts it there: by the rule of the
+        least read, or where items have their own deadlines, if both take as many bytes, and the
+        item may have the deadline of that segment, or goes in there with its own."""
         there, asked = self.find(item.key, now), None if ttl is None else now + ttl
         if not ((self.is_least_read or self.is_exact) and there and there.size == item.size):
             return False
-        shared = there.segment.deadline
-        if not (may_be_given(shared, asked, now) or (self.is_exact and suits(shared, asked, now))):
+        if not may_stand_for(there.segment.deadline, asked, now, self.is_exact):
             return False
         there.value, there.flags, there.cas, there.own = item.value, item.flags, item.cas, item.own
         there.segment.hits += 1
@@ -258,20 +253,16 @@ class Cache:
         item.own = now + ttl if self.is_exact and ttl is not None and now + ttl < 2**48 else None
         if self.goes_over(item, ttl, now):
             return
-        key, bucket = item.key, bucket_of(ttl)
-        self.current.pop(key, None)
+        bucket = bucket_of(ttl)
+        self.current.pop(item.key, None)
         if not self.append(item, bucket, now):
-            self.forget_expired(now)
+            left = {key: it for key, it in self.current.items() if not it.is_over(now)}
+            self.counts["reclaimed"] += len(self.current) - len(left)
+            self.current = left
             if not self.give_back(now) and not self.merge(now):
                 self.clear(now)
             assert self.append(item, bucket, now)
-        self.current[key] = item
-
-    def forget_expired(self, now):
-        over = [key for key, item in self.current.items() if item.is_over(now)]
-        for key in over:
-            del self.current[key]
-        self.counts["reclaimed"] += len(over)
+        self.current[item.key] = item
 
     # ---- what is counted
 
@@ -299,13 +290,13 @@ class Cache:
 
     def told(self):
         """What a `stats` is told: the counts, and those gauges that the model knows."""
-        told = {name: self.counts[name] for name in COUNTED}
+        told = {name: self.counts[name] for name in (*COUNTED, *OF_SEGMENTS)}
         size = sum(item.size for item in self.current.values())
-        evicted = [self.counts[name] for name in ("evicted_by_merge", "evicted_by_clearing", "reclaimed")]
-        told.update(curr_items=len(self.current), bytes=size, segment_bytes_dead=len(self.order) * self.segment_size - size)
-        told.update(evictions=evicted[0] + evicted[1], evicted_by_merge=evicted[0], evicted_by_clearing=evicted[1], reclaimed=evicted[2])
-        told.update(merges=self.merges, segments_cleared=self.clearings, segments_emptied=self.given_back, segments_free=self.free)
-        return told
+        return told | {
+            "evictions": told["evicted_by_merge"] + told["evicted_by_clearing"],
+            "segments_free": self.free, "curr_items": len(self.current), "bytes": size,
+            "segment_bytes_dead": len(self.order) * self.segment_size - size,
+        }
 
     # ---- requests
 
@@ -342,7 +333,8 @@ class Cache:
         return STORED
 
     def join(self, verb, key, value, now):
-        """An `append` or a `prepend`: the flags and the deadline stay, but the deadline is asked for anew if the item is written anew."""
+        """An `append` or a `prepend`: the flags and the deadline stay, but the deadline is asked for
+        anew if the item is written anew."""
         item = self.find(key, now)
         if item is None:
             return NOT_STORED
@@ -353,14 +345,15 @@ class Cache:
         return STORED
 
     def touch(self, key, exptime, now):
-        """The item gets the deadline that is asked for, and stays as it is if its own may stand for that one: where items have their own, only the
-        same one."""
+        """The item gets the deadline that is asked for, and stays as it is if its own may stand for
+        that one: where items have their own, only the same one."""
         item, deadline = self.find(key, now), deadline_of(exptime, now, self.is_lenient)
         if item is None:
             return NOT_FOUND
+        stays = item.deadline == deadline or not self.is_exact
         if deadline is not None and deadline <= now:
             del self.current[key]
-        elif item.deadline == deadline if self.is_exact else may_stand_for(item.deadline, deadline, now):
+        elif stays and may_stand_for(item.deadline, deadline, now):
             item.segment.hits += 1
         else:
             self.store(Item(key, item.value, item.flags, item.cas), life_of(deadline, now), now)
@@ -391,7 +384,8 @@ class Cache:
         return b"OK\r\n"
 
     def answer(self, request, now):
-        """A request's bytes, and what it is answered, counted: of a `stats` what it is told, by names."""
+        """A request's bytes, and what it is answered, counted: of a `stats` what it is told, by
+        names."""
         verb, *words = request
         if verb == b"stats":
             self.begin(now)
@@ -403,11 +397,12 @@ class Cache:
         return line, answer
 
     def answer_uncounted(self, request, now):
-        """A request's bytes, and what it is answered. A `cas` number of None is that of what is there, or 0. `append`, `prepend`, `touch`,
-        `gat`, `gats`, `version` and `verbosity`, and a zero after the key of a `delete`, are for the lenient dialect."""
+        """A request's bytes, and what it is answered. A `cas` number of None is that of what is
+        there, or 0. `append`, `prepend`, `touch`, `gat`, `gats`, `version` and `verbosity`, and a
+        zero after the key of a `delete`, are for the lenient dialect."""
         verb, *words = request
         if verb in LOCAL:
-            return verb + b"".join(b" " + it for it in words) + b"\r\n", b"OK\r\n" if verb == b"verbosity" else VERSION
+            return b" ".join(request) + b"\r\n", LOCAL[verb]
         self.begin(now)
         if verb in JOINS:
             key, flags, exptime, value, _ = words
@@ -429,7 +424,8 @@ class Cache:
             return b"delete %b%b\r\n" % (key, b" 0" * len(zero)), self.delete(key, now)
         if verb in (b"incr", b"decr"):
             key, amount = words
-            return b"%b %b %d\r\n" % (verb, key, amount), self.change(key, amount, verb == b"incr", now)
+            changed = self.change(key, amount, verb == b"incr", now)
+            return b"%b %b %d\r\n" % (verb, key, amount), changed
         if verb == b"flush_all":
             (delay,) = words
             return b"flush_all %d\r\n" % delay, self.flush(delay, now)

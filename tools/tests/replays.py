@@ -1,15 +1,13 @@
 """What `segcached replay` prints and says, of scripts and of single sessions."""
 import re
-import subprocess
 
-SECONDS = 120
+import served
 
 
-def ended(program, *words, file="/dev/stdin", script=b"", stdout=subprocess.PIPE, cwd=None):
-    """The exit status of a replay of a script, or of this file, with these words, and what it wrote on both outputs."""
-    words = [program, "replay", file, *words]
-    done = subprocess.run(words, input=script, stdout=stdout, stderr=subprocess.PIPE, cwd=cwd, timeout=SECONDS)
-    return done.returncode, done.stdout, done.stderr
+def ended(program, *words, file="/dev/stdin", script=b"", **how):
+    """The exit status of a replay of a script, or of this file, with these words, and what it wrote
+    on both outputs."""
+    return served.ended(program, "replay", file, *words, seconds=120, input=script, **how)
 
 
 def printed(program, words, script):
@@ -26,8 +24,3 @@ def given(program, words, *pieces):
     found = re.fullmatch(rb"0 1 (-|(?:[0-9a-f]{2})+)\n", out)
     assert found, out[:60]
     return b"" if found[1] == b"-" else bytes.fromhex(found[1].decode())
-
-
-def all_given(program, words, rows):
-    """For what is sent in each row what its session is given, in a replay of its own."""
-    return {sent: given(program, words, sent) for sent in rows}

@@ -6,7 +6,7 @@ import tempfile
 
 import pytest
 import served
-from asking import END, STORED, ask, put
+from asking import END, SET_AND_GET, SET_AND_GET_ANSWER, STORED, ask, put
 
 CLIENTS = f"{served.TOP}/tools/clients"
 
@@ -23,20 +23,18 @@ def server(servers):
     return servers[0]
 
 
-def run(*words, data=b"", cwd=None):
+def run(*words, **how):
     """A command's exit status and what it wrote."""
-    done = subprocess.run(words, input=data, stdout=subprocess.PIPE, timeout=20, cwd=cwd)
-    return done.returncode, done.stdout
+    return served.ended(*words, seconds=20, **how)[:2]
 
 
 # ---- netcat
 
 @pytest.mark.parametrize("requests, answers", [
-    (b"get a\r\n", b"END\r\n"),
-    (b"set a 0 0 1\r\nx\r\nget a\r\n", b"STORED\r\nVALUE a 0 1\r\nx\r\nEND\r\n"),
+    (b"get a\r\n", END), (SET_AND_GET % (b"a", b"a"), SET_AND_GET_ANSWER % b"a"),
 ], ids=["a miss", "a write and a hit"])
 def test_netcat_closes_its_half_at_once_and_still_prints_the_answers(server, requests, answers):
-    assert run("nc", "-N", "127.0.0.1", str(server.port), data=requests) == (0, answers)
+    assert run("nc", "-N", "127.0.0.1", str(server.port), input=requests) == (0, answers)
 
 
 # ---- libmemcached's tools
@@ -45,12 +43,11 @@ def test_libmemcached_copies_shows_finds_and_removes_a_file(server, tmp_path):
     """A missing key is status 1."""
     (tmp_path / "greeting").write_text("hello", encoding="ascii")
     where = f"--servers=127.0.0.1:{server.port}"
-    for tool, ends in (
-        ("memccp", (0, b"")), ("memccat", (0, b"hello\n")), ("memcexist", (0, b"")),
-        ("memcrm", (0, b"")),
-        ("memcexist", (1, b"")), ("memccat", (1, b"")),
+    for tool, *ends in (
+        ("memccp", 0, b""), ("memccat", 0, b"hello\n"), ("memcexist", 0, b""), ("memcrm", 0, b""),
+        ("memcexist", 1, b""), ("memccat", 1, b""),
     ):
-        assert run(tool, where, "greeting", cwd=tmp_path) == ends, tool
+        assert run(tool, where, "greeting", cwd=tmp_path) == tuple(ends), tool
 
 
 PARTS = ["quit", "get", "gets", "mget", "flush", "delete", "incr", "decr"]
@@ -130,21 +127,20 @@ def expected_of(name, clients=("",)):
     return [line for line in lines if line.startswith(clients)]
 
 
-@pytest.mark.parametrize("words, calls, expected", [
-    ([], CALLS, "expected"), (served.OF_THE_PACKAGE, CALLS + APPLICATIONS, "expected_lenient"),
-], ids=["strict", "package"])
-def test_each_call_of_each_client_works_or_fails_as_expected(program, all_clients, words, calls, expected):
-    with served.Server(program, *words) as server:
-        assert said_by(calls, server) == served.read(f"{CLIENTS}/{expected}").splitlines()
+BOTH = pytest.mark.parametrize("words, expected", [
+    ([], "expected"), (served.OF_THE_PACKAGE, "expected_lenient")], ids=["strict", "package"])
 
 
-@pytest.mark.parametrize("words, calls, names, expected", [
-    ([], GATE_CALLS, ("pymemcache ",), "expected"),
-    (served.OF_THE_PACKAGE, GATE_CALLS + GATE_APPLICATIONS,
-     ("pymemcache ", "MediaWiki ", "cachelib "), "expected_lenient"),
-], ids=["strict", "package"])
-def test_what_the_gate_has_works_as_expected(serve, words, calls, names, expected):
-    wanted = expected_of(expected, names)
+@BOTH
+def test_each_call_of_each_client_works_or_fails_as_expected(serve, all_clients, words, expected):
+    calls = CALLS + APPLICATIONS * bool(words)
+    assert said_by(calls, serve(*words)) == expected_of(expected)
+
+
+@BOTH
+def test_what_the_gate_has_works_as_expected(serve, words, expected):
+    names = "pymemcache ", *("MediaWiki ", "cachelib ") * bool(words)
+    wanted, calls = expected_of(expected, names), GATE_CALLS + GATE_APPLICATIONS * bool(words)
     assert len(wanted) == 2 * len(names) and said_by(calls, serve(*words)) == wanted
 
 

@@ -11,8 +11,8 @@ import re
 import time
 
 import pytest
-from asking import ask, hit
-from served import TOP, read
+from asking import END, STORED, ask, get, hit, put
+from served import TOP, read, with_faketime
 
 DAY = 86_400
 HOUR = 3_600
@@ -21,8 +21,6 @@ HOUR = 3_600
 @pytest.fixture
 def stepped(serve, tmp_path):
     """Starts a server with a clock of its own: gives the server, and what sets its clock to some seconds before or after the true time."""
-    library = glob.glob("/usr/lib/*/faketime/libfaketimeMT.so.1")[0]
-
     def start(name):
         file = tmp_path / name
 
@@ -32,19 +30,30 @@ def stepped(serve, tmp_path):
             os.replace(tmp_path / "new", file)
 
         step(0)
-        faked = {"FAKETIME_TIMESTAMP_FILE": str(file), "FAKETIME_NO_CACHE": "1", "FAKETIME_DONT_FAKE_MONOTONIC": "1"}
-        return serve("--workers", "1", environment={**os.environ, "LD_PRELOAD": library, **faked}), step
+        faked = with_faketime(FAKETIME_TIMESTAMP_FILE=str(file), FAKETIME_NO_CACHE="1",
+                              FAKETIME_DONT_FAKE_MONOTONIC="1")
+        return serve("--workers", "1", environment=faked), step
 
     return start
 
 
 def store(server, name):
-    """Stores an item of ten seconds, one that ends at a Unix moment in an hour, and one that ended an hour ago."""
-    with server.connect() as stream:
-        for key, exptime in ((b"ten-" + name, 10), (b"hour-" + name, int(time.time()) + HOUR)):
-            ask(stream, b"set %b 0 %d 1\r\nx\r\nget %b\r\n" % (key, exptime, key), b"STORED\r\n" + hit(key, b"x"))
-        past = b"past-" + name
-        ask(stream, b"set %b 0 %d 1\r\nx\r\nget %b\r\n" % (past, time.time() - HOUR, past), b"STORED\r\nEND\r\n")
+    """Stores an item of ten seconds, one that ends at a Unix moment in an hour, and one that ended
+    an hour ago."""
+    now = int(time.time())
+    for kind, exptime in ((b"ten-", 10), (b"hour-", now + HOUR), (b"past-", now - HOUR)):
+        key = kind + name
+        found = END if kind == b"past-" else hit(key, b"x")
+        with server.connect() as stream:
+            ask(stream, put(key, b"x", exptime=exptime) + get(key), STORED + found)
+
+
+def must_show(servers, kind, is_there):
+    """Whether the items of this kind of each moment are there."""
+    for server, _ in servers:
+        with server.connect() as stream:
+            for key in (kind + b"before", kind + b"between", kind + b"after"):
+                ask(stream, get(key), hit(key, b"x") if is_there else END)
 
 
 def test_a_step_of_the_clock_by_a_day_changes_no_life(stepped):
@@ -56,16 +65,10 @@ def test_a_step_of_the_clock_by_a_day_changes_no_life(stepped):
         step(0)
         store(server, b"after")
     began = time.monotonic()
-    for server, _ in servers.values():
-        with server.connect() as stream:
-            for name in (b"before", b"between", b"after"):
-                ask(stream, b"get ten-%b\r\n" % name, hit(b"ten-" + name, b"x"))
+    must_show(servers.values(), b"ten-", True)
     time.sleep(began + 10.1 - time.monotonic())
-    for server, _ in servers.values():
-        with server.connect() as stream:
-            for name in (b"before", b"between", b"after"):
-                ask(stream, b"get ten-%b\r\n" % name, b"END\r\n")
-                ask(stream, b"get hour-%b\r\n" % name, hit(b"hour-" + name, b"x"))
+    must_show(servers.values(), b"ten-", False)
+    must_show(servers.values(), b"hour-", True)
 
 
 def test_only_its_own_module_makes_a_reading():

@@ -1,26 +1,20 @@
 """What an operator is told of connections that are closed: the peer, the reason and the line, and never a value."""
-import contextlib
 import os
 import re
 import resource
 import time
 
-from asking import END, ask, asks_for, write_large
+from asking import END, MISS, asks_for, beside, opened, write_large
 from served import comes_true, read_to_end
 from stats_of import numbers
 
 
-def closed_by(server, stream):
-    """Waits until the server has closed the connection. It returns what the other end is called."""
-    host, port = stream.getsockname()[:2]
-    read_to_end(stream)
-    return f"{host}:{port}"
-
-
 def send_and_lose(server, sent):
+    """Waits until the server has closed the connection. It returns what the other end is called."""
     with server.connect() as stream:
         stream.sendall(sent)
-        return closed_by(server, stream)
+        read_to_end(stream)
+        return "{}:{}".format(*stream.getsockname())
 
 
 def lines_of(server, seconds=2.5):
@@ -33,9 +27,7 @@ def lines_of(server, seconds=2.5):
 
 def test_peers_of_a_path_have_no_address(serve, tmp_path):
     server = serve("--lenient", listen=f"unix:{tmp_path}/cache")
-    with server.connect() as stream:
-        stream.sendall(b"set a 0 0 no\r\n")
-        read_to_end(stream)
+    opened(server, 1, b"set a 0 0 no\r\n")
     assert lines_of(server) == ['closed a Unix socket: malformed storage line: "set a 0 0 no"']
 
 
@@ -43,15 +35,11 @@ def test_one_for_which_there_is_no_memory_is_told(serve):
     """Values grow until the process may have no more memory, which all threads take at one place."""
     server = serve("--lenient", "--workers", "1", "--segment-size", "1048576", "--max-item-size", "1048512",
                    environment={**os.environ, "GLIBC_TUNABLES": "glibc.malloc.arena_max=1"})
-    with server.connect() as stream:
-        ask(stream, b"get a\r\n", END)
+    opened(server, 1, MISS, END)
     most = server.kilobytes("VmSize") * 1024 + (4 << 20)
     resource.prlimit(server.process.pid, resource.RLIMIT_AS, (most, most))
-    streams = [server.connect() for _ in range(40)]
-    for stream in streams:
-        stream.setblocking(False)
-        with contextlib.suppress(OSError):
-            stream.sendall(b"set a 0 0 1000000\r\n" + b"v" * 500_000)
+    for stream in opened(server, 40):
+        beside(stream.sendall, b"set a 0 0 1000000\r\n" + b"v" * 500_000)
     lines = [it for it in lines_of(server) if it.startswith("closed ")]
     form = r"closed 127\.0\.0\.1:[0-9]+: out of memory(; [0-9]+ more for this)?"
     assert lines and all(re.fullmatch(form, it) for it in lines), lines
@@ -96,8 +84,7 @@ def test_of_each_reason_one_line_is_told_in_a_second_and_the_others_are_counted(
 
 def test_idle_connections_are_told(serve):
     server = serve("--lenient", "--idle", "1")
-    with server.connect() as stream:
-        peer = closed_by(server, stream)
+    peer = send_and_lose(server, b"")
     assert lines_of(server) == [f"closed {peer}: idle"]
 
 
@@ -106,14 +93,14 @@ def test_connections_closed_for_memory_are_told(serve):
     After ten seconds clients that took nothing are closed for those that wait."""
     server = serve("--lenient", "--workers", "1", "--segment-size", "1048576")
     write_large(server)
-    with server.connect() as stream:
-        assert numbers(stream)["closed_unread"] == 0
-        for _ in range(40):
-            asks_for(server, 60)
-        comes_true(lambda: numbers(stream)["closed_unread"] >= 3, 30)
-        found = numbers(stream)
-        assert 3 <= found["closed_unread"] < 40
-        assert found["curr_connections"] == 41 - found["closed_unread"]
+    stream = server.connect()
+    assert numbers(stream)["closed_unread"] == 0
+    for _ in range(40):
+        asks_for(server, 60)
+    comes_true(lambda: numbers(stream)["closed_unread"] >= 3, 30)
+    found = numbers(stream)
+    assert 3 <= found["closed_unread"] < 40
+    assert found["curr_connections"] == 41 - found["closed_unread"]
     lines = lines_of(server)
     assert lines and all(re.fullmatch(r"closed 127\.0\.0\.1:[0-9]+: stalled(; .*)?", it) for it in lines)
 
@@ -122,8 +109,7 @@ def test_what_clients_do_themselves_is_not_told(serve):
     server = serve("--lenient")
     for sent in (b"quit\r\n", b"nonsense\r\nquit\r\n"):
         send_and_lose(server, sent)
-    with server.connect() as stream:
-        ask(stream, b"get a\r\n", END)
+    opened(server, 1, MISS, END)
     assert lines_of(server) == []
 
 

@@ -1,4 +1,5 @@
-"""How sessions of a served program end: half-closed clients, quitting ones, pieces of exactly a read's size, and what they leave."""
+"""How sessions of a served program end: half-closed clients, quitting ones, pieces of exactly a read's
+size, and what they leave."""
 import contextlib
 import signal
 import socket
@@ -8,7 +9,7 @@ import time
 
 import pytest
 import tries
-from asking import END, STORED, TOO_LARGE, ask, hit, hits, is_same, put
+from asking import END, STORED, TOO_LARGE, ask, hit, hits, is_same, opened, put
 from served import comes_true, read_till_closed, read_to_end, together
 
 # The most bytes of a session that a worker reads at a time.
@@ -17,22 +18,16 @@ PIECE = 16_384
 
 # ---- pieces of exactly a read's size
 
-def requests_of(count):
-    """Whole requests of this number of bytes, and what they are answered."""
-    short, long = divmod(count, 7)[0] - 1, 7 + count % 7
-    requests = b"get a\r\n" * short + b"get %b\r\n" % (b"b" * (long - 6))
-    assert len(requests) == count
-    return requests, b"END\r\n" * (short + 1)
-
-
 @pytest.mark.parametrize("pieces", [1, 2])
 def test_a_pipeline_of_exactly_what_is_read_at_a_time_is_answered_and_goes_on(serve, pieces):
-    requests, answers = requests_of(pieces * PIECE)
+    count, rest = divmod(pieces * PIECE, 7)
+    requests = b"get a\r\n" * (count - 1) + b"get %b\r\n" % (b"b" * (rest + 1))
+    assert len(requests) == pieces * PIECE
     server = serve("--workers", "1")
     for _ in range(20):
         with server.connect() as stream:
-            ask(stream, requests, answers)
-            ask(stream, b"get a\r\n", b"END\r\n")
+            ask(stream, requests, END * count)
+            ask(stream, b"get a\r\n", END)
 
 
 # ---- clients that send no more
@@ -40,15 +35,14 @@ def test_a_pipeline_of_exactly_what_is_read_at_a_time_is_answered_and_goes_on(se
 def half_closed(server, number):
     """A client with 2,000 requests, of which each other one of eight stores: its stream, these, and
     what each is answered."""
-    stream, is_storing = server.connect(30), number % 2 == 0
-    ask(stream, b"get a\r\n", END)
-    request = b"set s%d-%d 0 0 1\r\nx\r\n" if is_storing else b"get g%d-%d\r\n"
-    answer = STORED if is_storing else END
+    request, answer = ((b"set s%d-%d 0 0 1\r\nx\r\n", STORED), (b"get g%d-%d\r\n", END))[number % 2]
+    stream, = opened(server, 1, b"get a\r\n", END)
     return stream, [request % (number, key) for key in range(2000)], answer
 
 
 def test_a_client_that_sends_no_more_gets_all_answers_of_a_process_that_stood_still(serve, storage):
-    """Some of them closed their sending half before the process stopped, and some while it stood still."""
+    """Some of them closed their sending half before the process stopped, and some while it stood
+    still."""
     server = serve("--workers", "2", *storage)
     clients = [half_closed(server, number) for number in range(8)]
     for number, (stream, requests, _) in enumerate(clients):
@@ -68,12 +62,13 @@ def test_a_client_that_sends_no_more_gets_all_answers_of_a_process_that_stood_st
         for number in range(0, 8, 2):
             for at in range(0, 2000, 100):
                 keys = [b"s%d-%d" % (number, key) for key in range(at, at + 100)]
-                ask(stream, b"get %b\r\n" % b" ".join(keys),
-                    b"".join(hits(it, b"x") for it in keys) + END)
+                shown = b"".join(hits(it, b"x") for it in keys)
+                ask(stream, b"get %b\r\n" % b" ".join(keys), shown + END)
 
 
 @pytest.mark.parametrize("requests, answers", [
-    (b"get a\r\n", b"END\r\n"), (b"set a 0 0 1 noreply\r\nx\r\n", b""), (b"", b""), (b"get a\r\nget", b"END\r\n"),
+    (b"get a\r\n", END), (b"set a 0 0 1 noreply\r\nx\r\n", b""), (b"", b""),
+    (b"get a\r\nget", END),
 ], ids=["one request", "one that isn't answered", "none", "one and a half"])
 def test_a_client_that_sends_no_more_is_closed_with_its_last_answer(serve, say, requests, answers):
     took, server = [], serve("--workers", "1")
@@ -91,8 +86,8 @@ def test_a_client_that_sends_no_more_is_closed_with_its_last_answer(serve, say, 
 
 def test_a_late_reader_that_sends_no_more_gets_all_answers(serve):
     """24 MB of answers, of which the server may keep a part alone while nobody reads."""
-    value = b"v" * 60_000
-    with serve("--workers", "1", "--segment-size", "1048576").connect(30, receive_buffer=65536) as stream:
+    value, server = b"v" * 60_000, serve("--workers", "1", "--segment-size", "1048576")
+    with server.connect(30, receive_buffer=65536) as stream:
         ask(stream, put(b"big", value), STORED)
         stream.sendall(b"get big\r\n" * 400)
         stream.shutdown(socket.SHUT_WR)
@@ -104,12 +99,7 @@ def test_a_late_reader_that_sends_no_more_gets_all_answers(serve):
 
 def test_each_of_eighty_that_quit_and_stay_gets_its_answer_and_nothing_more(serve):
     """A worker drops what still comes from 64 of them at a time; the others are closed at once."""
-    server = serve("--workers", "1")
-    streams = [server.connect() for _ in range(80)]
-    for stream in streams:
-        stream.sendall(b"get a\r\nquit\r\n")
-    for stream in streams:
-        ask(stream, b"", END)
+    streams = opened(serve("--workers", "1"), 80, b"get a\r\nquit\r\n", END)
     for stream in streams:
         # (one that was closed already may be told so)
         with contextlib.suppress(OSError):
@@ -154,7 +144,8 @@ def seconds_of_sending(server, say):
 
 
 def test_of_one_that_quits_and_goes_on_at_most_16_mib_are_read(serve, say):
-    """And what waits in the system's buffers, tens of MB at most. After two seconds it is closed, however little came."""
+    """And what waits in the system's buffers, tens of MB at most. After two seconds it is closed,
+    however little came."""
     server = serve("--workers", "1")
     tries.all_in_time(lambda: seconds_of_sending(server, say), 2.4)
 
@@ -164,27 +155,21 @@ def test_each_of_twenty_that_send_too_much_sees_why_it_is_shut(serve):
     server = serve("--workers", "2", "--sessions", "20")
     for _ in range(20):
         with server.connect() as stream:
-            stream.sendall(b"set a 0 0 1048576\r\n")
-            for _ in range(128):
-                stream.sendall(b"x" * 8192)
+            stream.sendall(b"set a 0 0 1048576\r\n" + bytes(1 << 20))
             assert read_to_end(stream) == TOO_LARGE
-    assert server.wait() == 0
+    assert server.process.wait(20) == 0
 
 
 # ---- what they leave
 
-# Opens and ends sessions in each way, from several addresses, since the ports of one are used up: those of 127.0.0.2 and so on are this
-# machine's as well.
+# Opens and ends sessions in each way, from several addresses, since the ports of one are used up:
+# those of 127.0.0.2 and so on are this machine's as well.
 COMERS = """
 import socket, struct, sys
 port, count, at_once = int(sys.argv[1]), int(sys.argv[2]), 40
 for number in range(0, count, at_once):
-    streams = []
-    for _ in range(at_once):
-        stream = socket.socket()
-        stream.bind((f"127.0.0.{2 + number // at_once % 40}", 0))
-        stream.connect(("127.0.0.1", port))
-        streams.append(stream)
+    own = f"127.0.0.{2 + number // at_once % 40}", 0
+    streams = [socket.create_connection(("127.0.0.1", port), None, own) for _ in range(at_once)]
     for at, stream in enumerate(streams):
         stream.sendall((b"get a\\r\\n", b"get a\\r\\n", b"get a\\r\\nquit\\r\\n", b"get a\\r\\nget")[at % 4])
     for at, stream in enumerate(streams):
@@ -196,9 +181,9 @@ for number in range(0, count, at_once):
 
 
 def test_sessions_that_came_and_went_leave_no_memory(serve, say):
-    """150,000 of them: with 16 bytes a session it would be 2.4 MB, and with 32 until a limit on silence has passed 4.8 MB."""
-    servers = [serve("--workers", "1"), serve("--workers", "1", "--idle", "86400")]
-    resident = []
+    """150,000 of them: with 16 bytes a session it would be 2.4 MB, and with 32 until a limit on
+    silence has passed 4.8 MB."""
+    servers, resident = [serve("--workers", "1", *it) for it in ([], ["--idle", "86400"])], []
     # (the first ones take what is kept for later ones)
     for count in (20_000, 150_000):
         words = [[sys.executable, "-c", COMERS, str(server.port), str(count)] for server in servers]

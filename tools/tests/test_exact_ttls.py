@@ -3,14 +3,12 @@
 A row is worked out from the TTL alone: at a moment and a TTL later the item is gone, and until a second before it is there. (The tests that
 wait take sixteen, twelve and six seconds.)
 """
-import glob
-import os
 import time
 
 import pytest
 import tries
-from asking import END, NOT_FOUND, NOT_STORED, STORED, TOUCHED
-from asking import hits as hit
+from asking import END, NOT_FOUND, NOT_STORED, STORED, TOUCHED, hit
+from served import with_faketime
 from test_store_rows import IN_PLACE, LENIENT, SHOWN, found, key, must_answer, must_answer_at, put
 
 EXACT = "--exact-ttls"
@@ -117,7 +115,7 @@ def test_a_segment_is_freed_when_the_last_of_its_items_has_ended(program, moment
     rows = [(1000, put(b"a", 2048, b"x"), STORED), (1001, put(b"b", 2170, b"x"), STORED)]
     rows += [(1001 + number, put(key(number), 0, LARGE), STORED) for number in range(1, 57)]
     rows += [(moment, put(key(57), 0, LARGE), STORED), (moment + 1, b"get a\r\n", END)]
-    rows += [(moment + 2, b"get b\r\n", END if moment + 2 >= 3171 else hit(b"b", b"x") + END)]
+    rows += [(moment + 2, b"get b\r\n", END if moment + 2 >= 3171 else hit(b"b", b"x"))]
     rows += [(moment + 2 + number, *found(number, LARGE if is_freed or number > 24 else None)) for number in range(1, 58)]
     must_answer_at(program, rows, *SMALL, EXACT)
 
@@ -141,11 +139,9 @@ COUNT = 24
 @pytest.fixture
 def faster(serve):
     """Starts a server whose clock runs so many times as fast, by libfaketime."""
-    library = glob.glob("/usr/lib/*/faketime/libfaketimeMT.so.1")[0]
-
     def start(times, *words):
-        faked = {"LD_PRELOAD": library, "FAKETIME": f"+0 x{times}"} if times > 1 else {}
-        return serve("--workers", "1", *words, environment={**os.environ, **faked})
+        faked = with_faketime(FAKETIME=f"+0 x{times}") if times > 1 else None
+        return serve("--workers", "1", *words, environment=faked)
 
     return start
 

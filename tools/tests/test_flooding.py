@@ -4,13 +4,13 @@ One whose random bytes are known suffers from the keys that were chosen for them
 the system's own random bytes doesn't. Where the system has none the seed is its clock, in nanoseconds, which libfaketime
 stops here. Writes suffer most, since the index grows along the run that such keys make.
 """
-import glob
 import os
 import random
 import subprocess
 
 import pytest
-from asking import STORED, ask, hit, put
+from asking import STORED, ask, get, hit, put
+from served import with_faketime
 
 # The first slots of chosen keys are among the first SPAN of this number of slots, and so of fewer.
 SLOTS = 1 << 18
@@ -36,23 +36,18 @@ def chosen_for(compiled):
     return keys
 
 
-def plain_keys():
-    return [b"plain-%010d" % number for number in range(COUNT)]
-
-
-def ask_in_pieces(stream, pairs):
-    """Requests with their answers, a hundred at a time."""
-    for at in range(0, len(pairs), 100):
-        ask(stream, *map(b"".join, zip(*pairs[at : at + 100])))
+PLAIN = [b"plain-%010d" % number for number in range(COUNT)]
 
 
 def microseconds_a_key(server, keys):
-    """The server's processor time for a `set` and a `get` of each key in pipelines."""
+    """The server's processor time for a `set` and a `get` of each key, in pipelines of a hundred."""
+    sets = [(put(key, b"x"), STORED) for key in keys]
+    gets = [(get(key), hit(key, b"x")) for key in keys]
+    pairs = sets + random.Random(1).sample(gets, len(gets))
     with server.connect(120) as stream:
         before = server.processor_seconds()
-        ask_in_pieces(stream, [(put(key, b"x"), STORED) for key in keys])
-        gets = [(b"get %b\r\n" % key, hit(key, b"x")) for key in keys]
-        ask_in_pieces(stream, random.Random(1).sample(gets, len(gets)))
+        for at in range(0, len(pairs), 100):
+            ask(stream, *map(b"".join, zip(*pairs[at : at + 100])))
         return (server.processor_seconds() - before) * 1e6 / len(keys)
 
 
@@ -61,11 +56,9 @@ def is_flooded(serve, say):
     """Whether these keys cost a server of their own much more than others."""
 
     def compared(chosen, environment=None):
-        costs = []
-        for keys, around in ((chosen, environment), (plain_keys(), None)):
-            sizes = "--segment-size", "1048576", "--segments", "16"
-            costs.append(microseconds_a_key(serve("--workers", "1", *sizes, environment=around),
-                                            keys))
+        words, costs = "--workers 1 --segment-size 1048576 --segments 16".split(), []
+        for keys, around in ((chosen, environment), (PLAIN, None)):
+            costs.append(microseconds_a_key(serve(*words, environment=around), keys))
         say("{:.1f} us for a set and a get of chosen keys, and {:.1f} of others".format(*costs))
         # (a busy machine adds a few microseconds)
         return costs[0] > 2 * costs[1] + 5
@@ -81,8 +74,9 @@ def test_the_seed_is_the_systems_random_bytes(compiled, chosen_for, is_flooded, 
 
 
 def test_without_random_bytes_the_seed_is_the_clock(compiled, chosen_for, is_flooded):
-    libraries = [compiled("known_random", "-shared", "-fPIC"), *glob.glob("/usr/lib/*/faketime/libfaketimeMT.so.1")]
-    environment = {**os.environ, "LD_PRELOAD": " ".join(libraries), "FAKETIME": AT, "FAKETIME_DONT_FAKE_MONOTONIC": "1", "TZ": "UTC"}
+    faked = with_faketime(FAKETIME=AT, FAKETIME_DONT_FAKE_MONOTONIC="1", TZ="UTC")
+    shim = compiled("known_random", "-shared", "-fPIC")
+    environment = {**faked, "LD_PRELOAD": f"{shim} {faked['LD_PRELOAD']}"}
     assert is_flooded(chosen_for(STOPPED * 10**9), environment)
 
 

@@ -1,15 +1,15 @@
 """The values of `stats` that no clause speaks of, beside the clock, the machine and what was done."""
-import contextlib
 import os
 import re
 import resource
 import struct
-import threading
 import time
 
 import pytest
 import tries
-from asking import END, ERROR, NOT_FOUND, NOT_STORED, STORED, TOO_LARGE, ask, hits, put
+from asking import (
+    END, ERROR, MISS, NOT_FOUND, NOT_STORED, STORED, TOO_LARGE, ask, asks_for, flood, hit, opened,
+    put, write_large)
 from served import comes_true, read
 from stats_of import numbers, told, wait_for
 
@@ -69,29 +69,6 @@ def test_processor_times_are_told(serve):
 
 # ---- busy times
 
-@contextlib.contextmanager
-def flooded(stream, requests):
-    """A client sends requests faster than they are answered, and reads the answers."""
-    is_ended = threading.Event()
-
-    def send():
-        with contextlib.suppress(OSError):
-            while not is_ended.is_set():
-                stream.sendall(requests)
-
-    def read_all():
-        with contextlib.suppress(OSError):
-            while stream.recv(1 << 20):
-                pass
-
-    for it in (send, read_all):
-        threading.Thread(target=it, daemon=True).start()
-    time.sleep(0.2)
-    yield
-    is_ended.set()
-    stream.close()
-
-
 def busy_shares(stream, seconds=1.0):
     """The least and the most share of the next seconds in which each thread can have been busy."""
     asked = time.monotonic()
@@ -112,8 +89,9 @@ def shares_beside(serve, requests=None):
     server = serve("--lenient", "--workers", "2")
     with server.connect() as stream, server.connect() as other:
         wait_for(stream, curr_connections_0=1, curr_connections_1=1)
-        with flooded(other, requests) if requests else contextlib.nullcontext():
-            shares = busy_shares(stream)
+        if requests:
+            flood(other, requests)
+        shares = busy_shares(stream)
     names = {"storage_busy_us", "worker_busy_us_0", "worker_busy_us_1"}
     assert shares.keys() == names
     return shares.pop("storage_busy_us"), sorted(shares.values())
@@ -171,11 +149,11 @@ def test_the_longest_merge_is_kept(serve):
 def test_lookups_of_expired_items_are_counted(serve):
     """Those of items that are alive and of keys that never had one are not."""
     with serve("--lenient", "--exact-ttls").connect() as stream:
-        hit = hits(b"b", b"x") + END
-        ask(stream, put(b"a", b"x", exptime=1) + put(b"b", b"x") + b"get b c\r\n", 2 * STORED + hit)
+        shown = hit(b"b", b"x")
+        ask(stream, put(b"a", b"x", exptime=1) + put(b"b", b"x") + b"get b c\r\n", 2 * STORED + shown)
         assert numbers(stream)["get_expired"] == 0
         time.sleep(2.1)
-        ask(stream, b"get a\r\nget a b\r\n", END + hit)
+        ask(stream, b"get a\r\nget a b\r\n", END + shown)
         found = numbers(stream)
     assert (found["get_expired"], found["get_misses"]) == (2, 3)
 
@@ -192,16 +170,14 @@ def test_connections_that_are_set_aside_are_counted(serve):
 def test_failed_accepts_are_no_rejected_connections(serve):
     """A process of 64 descriptors can't accept 150 connections, which wait in the system's queue."""
     server = serve("--lenient", limits={resource.RLIMIT_NOFILE: 64})
-    with server.connect() as stream:
-        ask(stream, b"get none\r\n", END)
-        for _ in range(150):
-            server.connect()
-        comes_true(lambda: server.descriptors() >= 64)
-        # (the next tries come a hundredth of a second after each other)
-        time.sleep(0.2)
-        found = numbers(stream)
-        assert 30 < found["curr_connections"] < 64
-        assert (found["rejected_connections"], found["listen_disabled_num"]) == (0, 0)
+    stream, = opened(server, 1, MISS, END)
+    opened(server, 150)
+    comes_true(lambda: server.descriptors() >= 64)
+    # (the next tries come a hundredth of a second after each other)
+    time.sleep(0.2)
+    found = numbers(stream)
+    assert 30 < found["curr_connections"] < 64
+    assert (found["rejected_connections"], found["listen_disabled_num"]) == (0, 0)
     server.process.kill()
     server.was_stopped = True
     assert "connections can't be accepted" in server.errors()
@@ -231,24 +207,16 @@ def test_what_is_not_stored_as_too_large_is_counted_and_nothing_else(serve):
             assert numbers(stream)["store_too_large"] == count
 
 
-@contextlib.contextmanager
-def forty_slow_readers(server):
-    """Each asks for 7.8 MB and takes none, so that its socket takes some four MB. The stream asks for what is told."""
-    with contextlib.ExitStack() as streams:
-        stream = streams.enter_context(server.connect())
-        ask(stream, b"set large 0 0 130000\r\n%b\r\n" % (b"v" * 130_000), b"STORED\r\n")
-        for _ in range(40):
-            slow = streams.enter_context(server.connect(receive_buffer=65536))
-            slow.sendall(b"get" + b" large" * 60 + b"\r\n")
-        yield stream
-
-
 @pytest.mark.parametrize("words, budget", [([], 64 * MIB), (["--output-memory", str(16 * MIB)], 16 * MIB)], ids=["default", "told"])
 def test_a_worker_keeps_as_much_output_as_it_is_told(serve, words, budget):
-    """A reply may turn out larger than was likely."""
-    with forty_slow_readers(serve("--lenient", "--workers", "1", "--segment-size", "1048576", *words)) as stream:
-        most, until = 0, time.monotonic() + 5
-        while time.monotonic() < until:
-            most = max(most, numbers(stream)["output_bytes"])
-            time.sleep(0.05)
+    """Each of forty clients asks for 7.9 MB and takes none, so that its socket takes some four MB. A
+    reply may turn out larger than was likely."""
+    server = serve("--lenient", "--workers", "1", "--segment-size", "1048576", *words)
+    write_large(server)
+    for _ in range(40):
+        asks_for(server, 60)
+    stream, most, until = server.connect(), 0, time.monotonic() + 5
+    while time.monotonic() < until:
+        most = max(most, numbers(stream)["output_bytes"])
+        time.sleep(0.05)
     assert budget // 4 < most <= budget + 8_000_000

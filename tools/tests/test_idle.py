@@ -7,11 +7,10 @@ import socket
 import struct
 import subprocess
 import sys
-import threading
 import time
 
 import tries
-from asking import END, STORED, ask, hit, is_same, put
+from asking import END, MISS, STORED, ask, beside, hit, is_same, opened, put
 from served import comes_true, read_exactly, read_till_closed
 
 VALUE = b"v" * 8000
@@ -28,7 +27,7 @@ def speaks_every(server, seconds, until):
     """A client that is silent for less than the limit each time isn't closed."""
     with server.connect() as stream:
         while time.monotonic() < until:
-            ask(stream, b"get none\r\n", END)
+            ask(stream, MISS, END)
             time.sleep(seconds)
 
 
@@ -36,7 +35,7 @@ def sends_a_byte_every(server, seconds, until):
     """Each byte counts, also of a request that isn't whole for long."""
     with server.connect() as stream:
         while time.monotonic() < until:
-            for byte in b"get none\r\n":
+            for byte in MISS:
                 stream.sendall(bytes([byte]))
                 time.sleep(seconds)
             ask(stream, b"", END)
@@ -75,14 +74,14 @@ def comes_late(server):
     time.sleep(2.5)
     with server.connect() as stream:
         time.sleep(0.7)
-        ask(stream, b"get none\r\n", END)
+        ask(stream, MISS, END)
 
 
 def is_silent(server):
-    """A client that sends nothing is closed, and so is one that got all its answers and then sends nothing."""
-    with server.connect(10) as silent, server.connect(10) as served:
-        ask(served, b"get none\r\n", END)
-        assert silent.recv(1) == served.recv(1) == b""
+    """A client that sends nothing is closed, and so is one that got all its answers and then sends
+    nothing."""
+    (silent,), (answered,) = opened(server, 1), opened(server, 1, MISS, END)
+    assert silent.recv(1) == answered.recv(1) == b""
 
 
 # Of linux/netlink.h, linux/sock_diag.h and linux/inet_diag.h.
@@ -102,17 +101,12 @@ def is_closed(server, stream):
     return struct.unpack_from("=H", told, 4)[0] != BY_FAMILY or told[17] != ESTABLISHED
 
 
-def send_until_closed(stream, requests):
-    with contextlib.suppress(OSError):
-        stream.sendall(requests)
-
-
 def reads_nothing(server, times):
     """A client that is owed answers and takes none of them for longer than the limit is closed, also if it asks for so many that they aren't
     read any more."""
     with server.connect(receive_buffer=4096) as stream:
         began = time.monotonic()
-        threading.Thread(target=send_until_closed, args=(stream, b"get big\r\n" * times), daemon=True).start()
+        beside(stream.sendall, b"get big\r\n" * times)
         assert comes_true(lambda: is_closed(server, stream))
         assert time.monotonic() - began > 1
 
@@ -175,7 +169,7 @@ def test_one_that_reads_slowly_gets_all_that_it_is_owed_and_one_that_takes_nothi
         server = serve("--idle", "1", "--sessions", "2")
         troubles = troubles_of([(sends_no_more_and_reads_slowly, server),
                                 (takes_nothing_for_long, server)])
-        assert server.wait() == 0
+        assert server.process.wait(20) == 0
         return not troubles, troubles
 
     tries.in_two_of_three(attempt)

@@ -6,10 +6,11 @@ import contextlib
 import time
 
 import pytest
-from asking import BAD_BLOCK, DELETED, END, NO_NUMBER, NOT_STORED, STORED, TOO_LARGE, ask, hit, hits
+from asking import (
+    BAD_BLOCK, DELETED, END, NO_NUMBER, NOT_STORED, STORED, TOO_LARGE, ask, hit, opened)
 from replays import given
 from served import read_to_end
-from stats_of import told, wait_for
+from stats_of import numbers, told, wait_for
 
 SIZES = "--lenient", "--segment-size", "1048576", "--segments", "16", "--max-item-size", "1048512"
 # The longest value at a key of one byte: the item has 24 bytes more than both, rounded up to a multiple of 8.
@@ -36,7 +37,7 @@ def test_a_large_value_is_stored_read_and_deleted(serve, storage, length):
     with serve(*SIZES, *storage).connect() as stream:
         ask(stream, put(b"set", b"a", value) + b"get a\r\n", STORED + hit(b"a", value, 7))
         ask(stream, put(b"add", b"a", b"x") + put(b"replace", b"a", value[::-1]), NOT_STORED + STORED)
-        ask(stream, b"get a b a\r\n", hits(b"a", value[::-1], 7, times=2) + END)
+        ask(stream, b"get a b a\r\n", hit(b"a", value[::-1], 7, times=2))
         ask(stream, b"incr a 1\r\ndelete a\r\nget a\r\n", NO_NUMBER + DELETED + END)
         found = told(stream)
         assert [found[name] for name in ("cmd_set", "total_items", "curr_items", "store_too_large")] == ["3", "2", "0", "0"]
@@ -96,14 +97,13 @@ def test_strictly_a_block_has_131072_bytes(program):
 
 
 def stopped(server, count, length):
-    """So many connections, each of which sends the first bytes of a value of 1,000,000, as far as the server takes them."""
-    streams = [server.connect() for _ in range(count)]
+    """So many connections, each of which sends the first bytes of a value of 1,000,000, as far as
+    the server takes them."""
+    streams = opened(server, count)
     for stream in streams:
         stream.setblocking(False)
         with contextlib.suppress(BlockingIOError):
-            sent, left = 0, BEGUN + b"z" * length
-            while sent < len(left):
-                sent += stream.send(left[sent:])
+            stream.sendall(BEGUN + b"z" * length)
     return streams
 
 
@@ -111,7 +111,7 @@ def kept(stream):
     """The unread input that is told, once no more has come for a while."""
     found = -1
     for _ in range(100):
-        last, found = found, int(told(stream)["input_bytes"])
+        last, found = found, numbers(stream)["input_bytes"]
         if found == last > 0:
             return found
         time.sleep(0.2)
@@ -139,7 +139,7 @@ def test_who_stops_while_others_wait_is_closed(serve):
     """A client waits with a large value behind clients that have stopped within theirs: these are closed after ten seconds."""
     server, before = serve(*SIZES, "--workers", "1"), time.monotonic()
     stopped(server, HAVE_ROOM + 1, 524_288)
-    stream, other = server.connect(), server.connect()
+    stream, other = opened(server, 2)
     assert kept(other) < HAVE_ROOM * 524_288 + 65_536
     asked = time.monotonic()
     ask(stream, put(b"set", b"b", value_of(LONGEST)) + b"get b\r\n", STORED + hit(b"b", value_of(LONGEST), 7))
@@ -151,7 +151,7 @@ def test_who_sends_slowly_is_waited_for(serve):
     """80 clients send their values within twelve seconds each. More than have room do so at once, and all are stored."""
     server = serve(*SIZES, "--workers", "1")
     value = value_of(1_000_000)
-    begun = [server.connect() for _ in range(HAVE_ROOM + 14)]
+    begun = opened(server, HAVE_ROOM + 14)
     left = {stream: put(b"set", b"a", value) for stream in begun}
     for stream in begun:
         stream.setblocking(False)
@@ -171,21 +171,18 @@ def test_who_sends_slowly_is_waited_for(serve):
 def test_values_that_have_only_begun_take_little_room(serve):
     """Each of 400 connections has room for 262,144 bytes at first."""
     server = serve(*SIZES, "--workers", "1")
-    with server.connect() as stream:
-        ask(stream, b"get a\r\n", END)
-        before = server.kilobytes("VmData")
-        stopped(server, 400, 1_000)
-        assert kept(stream) > 400 * 1_000
-        assert server.kilobytes("VmData") - before < 400 * 300
+    stream, = opened(server, 1, b"get a\r\n", END)
+    before = server.kilobytes("VmData")
+    stopped(server, 400, 1_000)
+    assert kept(stream) > 400 * 1_000
+    assert server.kilobytes("VmData") - before < 400 * 300
 
 
 def test_a_block_that_no_item_may_have_takes_no_memory(serve):
     """Items have 8,192 bytes here."""
     server = serve("--lenient", "--workers", "1")
-    with server.connect() as stream:
-        ask(stream, b"get a\r\n", END)
-        before = server.kilobytes("VmRSS")
-        for _ in range(200):
-            server.connect().sendall(b"set a 0 0 131072\r\n" + b"z" * 120_000)
-        assert kept(stream) > 200 * 120_000
-        assert server.kilobytes("VmRSS") - before < 8192
+    stream, = opened(server, 1, b"get a\r\n", END)
+    before = server.kilobytes("VmRSS")
+    opened(server, 200, b"set a 0 0 131072\r\n" + b"z" * 120_000)
+    assert kept(stream) > 200 * 120_000
+    assert server.kilobytes("VmRSS") - before < 8192

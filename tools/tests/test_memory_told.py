@@ -1,7 +1,4 @@
 """What a server says of its memory at its start, beside the sum of OPERATIONS.md and a control group's limit."""
-import os
-import subprocess
-
 import pytest
 import served
 
@@ -10,11 +7,12 @@ WARNS = "segcached: warning: its control group may have {} MiB, so the kernel ma
 MIB = 1 << 20
 
 
-def said(words):
-    """What a server that is started so writes to standard error until it listens, after the line of its options."""
-    with served.Process(words) as server:
-        assert server.process.stdout.readline().startswith("listening on ")
+def said(program, words, under=()):
+    """What a server that is started so writes to standard error until it listens, after the line of
+    its options."""
+    with served.Server(program, *words, under=under) as server:
         server.process.kill()
+        server.was_stopped = True
         return server.process.stderr.read().splitlines()[1:]
 
 
@@ -35,7 +33,7 @@ def most(workers, connections, segments, segment_size, values, reply, output=64)
     (["--output-memory", str(1 << 40)], most(2, 1024, 64, 65536, 160, 128, 1 << 19)),
 ], ids=["the package", "with little output", "no options", "many connections", "a budget for three", "the most output"])
 def test_the_sum_is_told(program, words, wanted):
-    assert said([program, "serve", "--listen", "127.0.0.1:0", *words])[0] == TAKES.format(wanted)
+    assert said(program, words)[0] == TAKES.format(wanted)
 
 
 GROUP = """
@@ -50,10 +48,8 @@ exec "$@"
 
 
 @pytest.mark.parametrize("limit, warning", [(600 * MIB, [WARNS.format(600)]), (1924 * MIB, []), ("max", [])])
-def test_a_control_group_with_less_is_warned_of(program, limit, warning):
-    """The system's files of limits are replaced for the server alone, which takes root."""
-    apart = ["unshare", "--mount", "sh", "-c", GROUP, str(limit)]
-    if os.geteuid() or subprocess.run([*apart, "true"], stderr=subprocess.DEVNULL, check=False).returncode:
-        pytest.skip("this takes root and a mount namespace")
-    words = [*apart, program, "serve", "--listen", "127.0.0.1:0", *served.OF_THE_PACKAGE, "--segments", "64"]
-    assert said(words) == [TAKES.format(1924), *warning]
+def test_a_control_group_with_less_is_warned_of(program, apart, limit, warning):
+    """The system's files of limits are replaced for the server alone."""
+    group = apart("--mount", "sh", "-c", GROUP, str(limit))
+    words = [*served.OF_THE_PACKAGE, "--segments", "64"]
+    assert said(program, words, group) == [TAKES.format(1924), *warning]

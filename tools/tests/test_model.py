@@ -7,24 +7,16 @@ strict dialect have such requests too, which are refused. Half evict the least r
 kind keep deadlines to the second.
 """
 import concurrent.futures
-import itertools
 import random
 
 import replays
 from hypothesis import given, settings
 from hypothesis import strategies as st
-from model import JOINS, LOCAL, STORES, TOO_LARGE, Cache, Item, refused
+from model import (
+    JOINS, LOCAL, SHOWN_AND_TOUCHED, STORES, TOO_LARGE, Cache, Item, refused)
 from stats_of import by_name
 
 FIRST_MOMENT = 1000
-
-
-def replay_over(program, sent, segment_size, segments, largest, tick, *dialect):
-    """What one session is given that sends these requests, fifty in a piece, to a store of these sizes."""
-    pieces = [b"".join(sent[at : at + 50]) for at in range(0, len(sent), 50)]
-    words = f"--segment-size {segment_size} --segments {segments} --tick {tick} --now {FIRST_MOMENT}"
-    limit = [f"--max-item-size {largest}"] if largest else []
-    return replays.given(program, " ".join([words, *limit, *dialect]), *pieces)
 
 
 def refused_leniently(cache, request):
@@ -33,26 +25,33 @@ def refused_leniently(cache, request):
     return TOO_LARGE if verb in STORES[1:] and Item(words[0], words[3], 0, 0).size > cache.largest else None
 
 
-def spelled(cache, requests, tick, is_lenient):
-    """Of each request its bytes and its answer. The clock ticks for those that the cache executes."""
-    pairs, executed, cache.is_lenient = [], 0, is_lenient
-    for request in requests:
-        moment, refusal = FIRST_MOMENT + tick * executed, refused_leniently(cache, request) if is_lenient else refused(request)
+def spelled(cache, requests, tick):
+    """Of each request its bytes and its answer. The clock ticks for those that the cache executes.
+    Leniently there are none to two spaces before the end of each line."""
+    executed = 0
+    for at, request in enumerate(requests):
+        moment = FIRST_MOMENT + tick * executed
+        refusal = refused_leniently(cache, request) if cache.is_lenient else refused(request)
         if refusal:
-            pairs.append((Cache(4096, 8).answer(request, moment)[0], refusal))
+            sent, wanted = Cache(4096, 8).answer(request, moment)[0], refusal
         else:
-            pairs.append(cache.answer(request, moment))
+            sent, wanted = cache.answer(request, moment)
             executed += request[0] not in LOCAL
-    return zip(*pairs)
+        yield sent.replace(b"\r\n", b" " * (at % 3) * cache.is_lenient + b"\r\n", 1), wanted
 
 
-def with_spaces(sent):
-    """The same requests, each with none to two spaces before the end of its line."""
-    return [request.replace(b"\r\n", b" " * (at % 3) + b"\r\n", 1) for at, request in enumerate(sent)]
-
-
-def must_be_answered_as(wanted, given_bytes, sent):
-    at = 0
+def must_be_answered_as(program, cache, requests, tick):
+    """One session is answered as the model answers that sends these requests, fifty in a piece, to
+    a store of its sizes and with its options."""
+    sent, wanted = zip(*spelled(cache, requests, tick))
+    words = f"--segment-size {cache.segment_size} --segments {cache.segments} --tick {tick}"
+    words += f" --now {FIRST_MOMENT}" + " --lenient" * cache.is_lenient
+    if cache.largest != cache.segment_size // 8:
+        words += f" --max-item-size {cache.largest}"
+    words += " --evict least-read" * cache.is_least_read + " --exact-ttls" * cache.is_exact
+    words += " --update-in-place" * cache.is_in_place
+    pieces, at = [b"".join(sent[it : it + 50]) for it in range(0, len(sent), 50)], 0
+    given_bytes = replays.given(program, words, *pieces)
     for turn, answer in enumerate(wanted):
         if isinstance(answer, dict):
             end = given_bytes.index(b"END\r\n", at) + len(b"END\r\n")
@@ -96,37 +95,32 @@ def random_request(chance, keys, ttls, longest):
     return b"flush_all", chance.choice((0, 20))
 
 
-# segment size, segments, the largest item if it isn't an eighth, tick, how many keys, TTLs that are asked for, dialect
+# segment size, segments, the largest item if it isn't an eighth, tick, how many keys, TTLs that are asked for, whether it is lenient
 RUNS = (
-    (4096, 8, None, 0, 600, (0,), []),
-    (4096, 8, None, 1, 90, (0, 0, 5, 20, 60, 100, 300, -1), ["--lenient"]),
-    (4096, 9, None, 3, 90, (0, 16, 24, 40, 2047, 2048, 5000, 40000, 600000, 9000000), []),
-    (8192, 8, None, 0, 900, (0, 0, 8, 30), ["--lenient"]),
-    (4096, 23, None, 1, 1500, (0, 0, 0, 50, 200, 400), []),
-    (4096, 16, 4032, 1, 60, (0, 0, 20, 100), ["--lenient"]),
-    (8192, 9, 3000, 0, 90, (0, 0, 0, 30, 400), []),
+    (4096, 8, None, 0, 600, (0,), False),
+    (4096, 8, None, 1, 90, (0, 0, 5, 20, 60, 100, 300, -1), True),
+    (4096, 9, None, 3, 90, (0, 16, 24, 40, 2047, 2048, 5000, 40000, 600000, 9000000), False),
+    (8192, 8, None, 0, 900, (0, 0, 8, 30), True),
+    (4096, 23, None, 1, 1500, (0, 0, 0, 50, 200, 400), False),
+    (4096, 16, 4032, 1, 60, (0, 0, 20, 100), True),
+    (8192, 9, 3000, 0, 90, (0, 0, 0, 30, 400), False),
 )
 # (a script has at most 16 MiB, and large values are in the way)
 REQUESTS, REQUESTS_WITH_LARGE_ITEMS = 40_000, 10_000
-LEAST_READ, IN_PLACE, EXACT = ["--evict", "least-read"], ["--update-in-place"], ["--exact-ttls"]
 
 
 def long_run(program, number):
     """How many requests were sent, and how often the model merged, cleared and gave back segments."""
-    segment_size, segments, largest, tick, keys, ttls, dialect = RUNS[number % len(RUNS)]
-    is_least_read, is_in_place, is_exact = number % 2 == 1, number // 2 % 2 == 1, number % 3 == 1
-    chance, cache = random.Random(number), Cache(segment_size, segments, largest, is_least_read, is_in_place, is_exact)
+    *sizes, largest, tick, keys, ttls, is_lenient = RUNS[number % len(RUNS)]
+    options = number % 2 == 1, number // 2 % 2 == 1, number % 3 == 1
+    chance, cache = random.Random(number), Cache(*sizes, largest, is_lenient, *options)
     count = REQUESTS_WITH_LARGE_ITEMS if largest else REQUESTS
     # (strictly the block of a refused `append` is read as a line, which has at most 2,048 bytes)
-    longest = min(largest or 500, 4032 if dialect else 2000)
-    requests = (random_request(chance, keys, ttls, longest) for _ in range(count))
-    # (a lenient one ends with a `stats`)
-    requests = itertools.chain(requests, [(b"stats",)] * bool(dialect))
-    sent, wanted = spelled(cache, requests, tick, bool(dialect))
-    sent = with_spaces(sent) if dialect else sent
-    options = dialect + LEAST_READ * is_least_read + IN_PLACE * is_in_place + EXACT * is_exact
-    must_be_answered_as(wanted, replay_over(program, sent, segment_size, segments, largest, tick, *options), sent)
-    return count, cache.merges, cache.clearings, cache.given_back
+    longest = min(largest or 500, 4032 if is_lenient else 2000)
+    requests = [random_request(chance, keys, ttls, longest) for _ in range(count)]
+    must_be_answered_as(program, cache, [*requests, (b"stats",)], tick)
+    counts = ("merges", "segments_cleared", "segments_emptied")
+    return count, *(cache.counts[it] for it in counts)
 
 
 def test_long_runs_are_answered_as_by_the_model(program, request, say):
@@ -162,12 +156,14 @@ EXPTIMES |= st.integers(-2, 2**31)
 NUMBERS = st.integers(0, 2**64 - 1)
 LONG_VALUES = (st.integers(0, 490) | st.integers(0, 4100)).map(lambda size: b"v" * size)
 VALUES = st.one_of(NUMBERS.map(lambda number: b"%d" % number), LONG_VALUES, st.binary(max_size=24))
-VERBS = st.sampled_from([b"set", b"set", b"add", b"replace", b"cas"])
 ONE_REQUEST = st.one_of(
     st.tuples(st.sampled_from([b"get", b"gets"]), st.lists(KEYS, min_size=1, max_size=4)),
-    st.tuples(VERBS, KEYS, st.integers(0, 2**32 - 1), EXPTIMES, VALUES, st.none() | st.integers(0, 40)),
-    st.tuples(st.just(b"delete"), KEYS),
+    st.tuples(st.sampled_from([b"set", *STORES]), KEYS, st.integers(0, 2**32 - 1), EXPTIMES, VALUES,
+              st.none() | st.integers(0, 40)),
+    st.tuples(st.just(b"delete"), KEYS) | st.tuples(st.just(b"delete"), KEYS, st.just(b"0")),
     st.tuples(st.sampled_from([b"incr", b"decr"]), KEYS, NUMBERS),
+    st.tuples(st.just(b"touch"), KEYS, EXPTIMES),
+    st.tuples(st.sampled_from(SHOWN_AND_TOUCHED), EXPTIMES, st.lists(KEYS, min_size=1, max_size=4)),
     st.tuples(st.just(b"flush_all"), st.sampled_from([0, 1, 20])),
 ).map(lambda it: [it])
 PARTS = st.one_of(
@@ -184,29 +180,12 @@ SIZES = st.sampled_from([
     (4096, 8, None), (4096, 9, None), (8192, 8, None), (4096, 23, None), (4096, 8, 4032), (4096, 9, 2056), (8192, 16, 3000)])
 
 
-def lenient_form(request):
-    """The same request with what the lenient dialect alone takes: in place of each `cas` an `append`, of `replace` a `prepend`, of `decr` a
-    `touch` that asks for some life, and of `gets` a `gats` that does."""
-    verb, *words = request
-    if verb == b"delete":
-        return b"delete", *words, b"0"
-    if verb in (b"cas", b"replace"):
-        return b"append" if verb == b"cas" else b"prepend", *words
-    if verb == b"gets":
-        return b"gats", len(b"".join(words[0])) * 700 % 5000 - 100, *words
-    return (b"touch", words[0], words[1] % 5000 - 100) if verb == b"decr" else request
-
-
 @settings(max_examples=100)
-@given(SIZES, st.sampled_from([0, 1, 3, 40]), SCRIPTS, st.booleans(), st.booleans(), st.booleans(), st.booleans())
-def test_any_requests_are_answered_as_by_the_model(program, sizes, tick, parts, is_lenient, is_least_read, is_in_place, is_exact):
-    # (the last one shows all that is left)
-    requests = sum(parts, []) + reads(0, ALL_KEYS)
-    cache = Cache(*sizes, is_least_read, is_in_place, is_exact)
-    if is_lenient:
-        sent, wanted = spelled(cache, [*map(lenient_form, requests), (b"stats",)], tick, True)
-        sent, dialect = with_spaces(sent), ["--lenient"]
-    else:
-        (sent, wanted), dialect = spelled(cache, requests, tick, False), []
-    options = dialect + LEAST_READ * is_least_read + IN_PLACE * is_in_place + EXACT * is_exact
-    must_be_answered_as(wanted, replay_over(program, sent, *sizes, tick, *options), sent)
+@given(SIZES, st.sampled_from([0, 1, 3, 40]), SCRIPTS, st.tuples(*[st.booleans()] * 4))
+def test_any_requests_are_answered_as_by_the_model(program, sizes, tick, parts, options):
+    """The last ones show all that is left. (Strictly the block of a refused `append` is read as a
+    line, and may be one.)"""
+    cache, requests = Cache(*sizes, *options), [*sum(parts, []), *reads(0, ALL_KEYS), (b"stats",)]
+    if not cache.is_lenient:
+        requests = [it for it in requests if it[0] not in JOINS]
+    must_be_answered_as(program, cache, requests, tick)

@@ -5,7 +5,6 @@ import os
 import re
 import shutil
 import signal
-import subprocess
 import sys
 import threading
 import time
@@ -13,7 +12,7 @@ import time
 import machine
 import prove
 import pytest
-from served import TOP, read
+from served import TOP, ended, read
 
 # base is below all; left and right stand on it, top on both; aside stands on base alone.
 CRATES = {"base": [], "left": ["base"], "right": ["base"], "aside": ["base"], "top": ["left", "right"]}
@@ -31,12 +30,12 @@ def test_the_longest_way_goes_through_what_is_left():
 def test_those_with_the_longest_way_start_first(monkeypatch):
     ways = prove.ways_to_the_top(CRATES, LINES)
     monkeypatch.setattr(machine, "at_once", lambda: 2)
-    assert prove.to_start(CRATES, ways, set(), {}) == ["base"]
-    assert prove.to_start(CRATES, ways, {"base"}, {}) == ["left", "right"]
-    assert prove.to_start(CRATES, ways, {"base"}, {"left": None}) == ["right"]
-    assert prove.to_start(CRATES, ways, {"base"}, {"left": None, "right": None}) == []
-    assert prove.to_start(CRATES, ways, {"base", "right"}, {"left": None}) == ["aside"]
-    assert prove.to_start(CRATES, ways, {"base", "left", "right", "aside"}, {}) == ["top"]
+    for proved, running, started in (
+        ([], [], ["base"]), (["base"], [], ["left", "right"]), (["base"], ["left"], ["right"]),
+        (["base"], ["left", "right"], []), (["base", "right"], ["left"], ["aside"]),
+        (["base", "left", "right", "aside"], [], ["top"]),
+    ):
+        assert prove.to_start(CRATES, ways, set(proved), dict.fromkeys(running)) == started
 
 
 def test_the_one_with_the_longest_way_of_all_has_all_processors(monkeypatch):
@@ -190,25 +189,27 @@ def memory_file(folder, gigabytes):
 
 
 def test_free_memory_is_that_of_the_machine_or_of_its_group(tmp_path):
-    limit, stat, unlimited = tmp_path / "limit", tmp_path / "stat", tmp_path / "unlimited"
-    limit.write_text(f"{6 * 1024**3}\n")
-    stat.write_text(f"cache 1\nanon {2 * 1024**3}\n")
-    unlimited.write_text("max\n")
-    memory = memory_file(tmp_path, 16)
-    assert machine.free_gigabytes(memory, ()) == 16
-    assert machine.free_gigabytes(memory, ((str(limit), str(stat), "anon"),)) == 4
-    assert machine.free_gigabytes(memory, ((str(unlimited), str(stat), "anon"), ("/no/such/file", str(stat), "anon"))) == 16
+    limit, stat, unlimited = (str(tmp_path / it) for it in ("limit", "stat", "unlimited"))
+    prove.write(limit, f"{6 * 1024**3}\n")
+    prove.write(stat, f"cache 1\nanon {2 * 1024**3}\n")
+    prove.write(unlimited, "max\n")
+    memory, none = memory_file(tmp_path, 16), "/no/such/file"
+    for limits, free in (([], 16), ([limit], 4), ([unlimited, none], 16)):
+        groups = [(it, stat, "anon") for it in limits]
+        assert machine.free_gigabytes(memory, groups) == free
 
 
 def test_memory_for_less_than_two_proofs_is_said():
     assert machine.lacks_memory(9.0) is None
-    assert re.fullmatch(r"8\.9 GB of memory are free, and proving needs 9 GB", machine.lacks_memory(8.9))
+    assert machine.lacks_memory(8.9) == "8.9 GB of memory are free, and proving needs 9 GB"
 
 
-def run_with(path, *, tools=f"{TOP}/tools"):
-    """What `make run` does with this as its path: its status, and what it wrote."""
-    ran = subprocess.run([sys.executable, f"{tools}/run.py"], env={"PATH": path}, capture_output=True, text=True, timeout=20)
-    return ran.returncode, ran.stdout, ran.stderr
+def said_by_run(path, tools=f"{TOP}/tools"):
+    """The one line with which `make run` ends with this as its path."""
+    words = [sys.executable, f"{tools}/run.py"]
+    status, printed, said = ended(*words, env={"PATH": path}, text=True, seconds=20)
+    assert (status, printed, said.count("\n")) == (1, "", 1)
+    return said
 
 
 def folder_with_rt(folder, line):
@@ -218,26 +219,24 @@ def folder_with_rt(folder, line):
 
 
 def test_a_run_without_rt_says_so_in_one_line(tmp_path):
-    status, printed, said = run_with(str(tmp_path))
-    assert (status, printed) == (1, "")
-    assert said == f"segcached: there is no rt on the path: segcached is proved with a Rattle kit of '{machine.logic()}'\n"
+    lacking = "there is no rt on the path: segcached is proved with a Rattle kit of"
+    assert said_by_run(str(tmp_path)) == f"segcached: {lacking} '{machine.logic()}'\n"
 
 
 def test_a_run_with_an_rt_of_another_logic_says_so_in_one_line(tmp_path):
-    status, printed, said = run_with(folder_with_rt(tmp_path, "rattle-kit-99x logic 0000000000000000"))
-    assert (status, printed) == (1, "")
-    assert said.count("\n") == 1 and "'rattle-kit-99x logic 0000000000000000'" in said and machine.logic() in said
+    kit = "rattle-kit-99x logic 0000000000000000"
+    said = said_by_run(folder_with_rt(tmp_path, kit))
+    assert f"'{kit}'" in said and machine.logic() in said
 
 
 def test_a_run_with_little_memory_says_so_in_one_line(tmp_path):
-    """The tools stand in a repository of their own here, in which nothing is proved and memory is said to be short."""
+    """The tools stand in a repository of their own, in which nothing is proved and memory is said
+    to be short."""
     tools = tmp_path / "tools"
     shutil.copytree(f"{TOP}/tools", tools, ignore=shutil.ignore_patterns("tests"))
-    text = (tools / "machine.py").read_text()
-    assert text.count('MEMORY = "/proc/meminfo"') == 1
-    (tools / "machine.py").write_text(text.replace('MEMORY = "/proc/meminfo"', f'MEMORY = "{memory_file(tmp_path, 5.5)}"'))
+    before, after = (tools / "machine.py").read_text().split('"/proc/meminfo"')
+    (tools / "machine.py").write_text(f'{before}"{memory_file(tmp_path, 5.5)}"{after}')
     (tmp_path / "crates.txt").write_text("segcached:\n")
     folder = folder_with_rt(tmp_path, f"rattle-kit-99x {machine.logic()}")
-    status, printed, said = run_with(f"{folder}:/usr/bin:/bin", tools=str(tools))
-    assert (status, printed) == (1, "")
+    said = said_by_run(f"{folder}:/usr/bin:/bin", tools)
     assert said == "segcached: 5.5 GB of memory are free, and proving needs 9 GB\n"

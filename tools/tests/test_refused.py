@@ -1,9 +1,9 @@
 """Each request for memory and each thread refused in turn: in refused_growth, built for it, and in segcached."""
-import itertools
 import os
-import subprocess
+import pathlib
 
 import pytest
+import served
 from served import TOP
 
 REFUSED_GROWTH = f"{TOP}/crates/refused_growth"
@@ -13,23 +13,12 @@ SESSIONS = b"set a 0 0 1\r\nx\r\nget a\r\n", b"set b 0 0 1\r\ny\r\nget b\r\n"
 
 
 @pytest.fixture
-def refuse(compiled, tmp_path):
-    """Runs a command again and again, each time with the next request of a kind refused, until none is left to refuse.
-
-    Gives each run's number, whether one was refused, and how it ended. The kind is REFUSE_NTH, for memory, or
-    REFUSE_THREAD.
-    """
-    shim, note = compiled("refuse_nth", "-shared", "-fPIC"), tmp_path / "refused"
-
+def refuse(tmp_path):
+    """Runs a command again and again, each time with the next request of a kind refused, until none
+    is left to refuse: gives each run's number, and how it ended."""
     def runs(kind, *words):
-        for number in itertools.count(1):
-            environment = {**os.environ, "LD_PRELOAD": shim, kind: str(number), "REFUSED_FILE": str(note)}
-            ran = subprocess.run(words, env=environment, capture_output=True, timeout=60)
-            was_refused = note.exists()
-            yield number, was_refused, ran
-            if not was_refused:
-                return
-            note.unlink()
+        for number, environment in served.refusals(kind, tmp_path):
+            yield number, served.ended(*words, env=environment)
 
     return runs
 
@@ -48,10 +37,9 @@ def test_what_is_refused_changes_nothing_that_is_written(refuse, say, kind):
     its group begins, of which ports and clocks count how often they are asked; it runs a group of
     three threads twice."""
     assert os.access(BUILT, os.X_OK), "it isn't built: (cd crates/refused_growth && rt run)"
-    with open(f"{REFUSED_GROWTH}/stdout", "rb") as file:
-        wanted = file.read()
-    for number, _, ran in refuse(kind, BUILT):
-        assert (ran.returncode, ran.stdout) == (0, wanted), f"request {number}"
+    wanted = 0, pathlib.Path(f"{REFUSED_GROWTH}/stdout").read_bytes()
+    for number, ended in refuse(kind, BUILT):
+        assert ended[:2] == wanted, f"request {number}"
     say(f"{number - 1} requests, each refused in turn")
     assert number > 1 if kind == "REFUSE_NTH" else number == 7
 
@@ -69,20 +57,19 @@ FAULTS = {b"fault: out of memory", b"fault: cannot start a thread"}
 ], ids=["help", "bad words", "a missing script", "a script", "two workers"])
 def test_segcached_ends_as_without_a_refusal_or_says_out_of_memory(program, refuse, two_workers, say, words):
     words = words or two_workers
-    wanted = subprocess.run([program, *words], capture_output=True, timeout=60)
-    wanted_lines = beginnings(wanted.stdout)
-    for number, _, ran in refuse("REFUSE_NTH", program, *words):
-        lines = beginnings(ran.stdout)
-        if ran.returncode == wanted.returncode:
+    wanted, out, _ = served.ended(program, *words)
+    wanted_lines = beginnings(out)
+    for number, (status, out, said) in refuse("REFUSE_NTH", program, *words):
+        lines = beginnings(out)
+        if status == wanted:
             assert lines == wanted_lines, f"request {number}"
         else:
-            assert ran.returncode == 1 and lines == wanted_lines[: len(lines)], f"request {number}"
-            assert FAULTS & set(ran.stderr.splitlines()), f"request {number}"
+            assert status == 1 and lines == wanted_lines[: len(lines)], f"request {number}"
+            assert FAULTS & set(said.splitlines()), f"request {number}"
     say(f"{number - 1} requests for memory, each refused in turn")
     assert number > 1
 
 
 def test_a_refused_thread_is_a_fault_of_its_own_and_nothing_is_printed(program, refuse, two_workers):
-    runs = refuse("REFUSE_THREAD", program, *two_workers)
-    ended = [(ran.returncode, ran.stdout, ran.stderr) for _, was_refused, ran in runs if was_refused]
-    assert ended == [(1, b"", b"fault: cannot start a thread\n")] * 3
+    *ends, _ = (ended for _, ended in refuse("REFUSE_THREAD", program, *two_workers))
+    assert ends == [(1, b"", b"fault: cannot start a thread\n")] * 3

@@ -5,7 +5,7 @@ All values stand here as they were worked out by hand from the protocol. The row
 import pytest
 from asking import BAD_LINE, END, ERROR, STORED, TOO_LARGE, TOO_LONG, hit, hits, put
 from model import VERSION
-from replays import all_given, given
+from replays import given
 
 HIT = b"VALUE a 0 1\r\nx\r\nEND\r\n"
 
@@ -31,10 +31,6 @@ ANSWERS = {
 }
 
 
-def test_answers_to_sessions(program):
-    assert all_given(program, "", ANSWERS) == ANSWERS
-
-
 # The same, with numbers, lines and blocks that are faulty or at their limits.
 FAULTY = {
     b"set a 4294967295 0 1\r\nx\r\nget a\r\n": b"STORED\r\nVALUE a 4294967295 1\r\nx\r\nEND\r\n",
@@ -50,10 +46,6 @@ FAULTY = {
     b"set a 0 0 1\r\nx\ry": b"CLIENT_ERROR bad data chunk\r\n",
     b"set n 0 0 20\r\n00000000000000000007\r\nincr n 1\r\nget n\r\n": b"STORED\r\n8\r\nVALUE n 0 1\r\n8\r\nEND\r\n",
 }
-
-
-def test_faulty_bytes(program):
-    assert all_given(program, "", FAULTY) == FAULTY
 
 
 # By the words what a session sends, and what it is given.
@@ -118,11 +110,12 @@ LENGTHS = {
 }
 
 
-@pytest.mark.parametrize("rows_by_words", [MOMENTS, LIVES, LENGTHS],
-                         ids=["moments", "lives", "lengths"])
-def test_moments_of_the_clock_ends_of_lives_and_lengths_at_their_limits(program, rows_by_words):
+@pytest.mark.parametrize("rows_by_words", [
+    {"": ANSWERS}, {"": FAULTY}, MOMENTS, LIVES, LENGTHS,
+], ids=["answers_to_sessions", "faulty_bytes", "moments", "lives", "lengths"])
+def test_a_session_is_given_its_answers(program, rows_by_words):
     for words, rows in rows_by_words.items():
-        assert all_given(program, words, rows) == rows, words
+        assert {sent: given(program, words, sent) for sent in rows} == rows, words
 
 
 # ---- the lenient dialect, beside what the strict one makes of the same bytes
@@ -130,13 +123,6 @@ def test_moments_of_the_clock_ends_of_lives_and_lengths_at_their_limits(program,
 def both_given(program, sent):
     """What a session is given that sends these bytes leniently, and strictly."""
     return given(program, "--lenient", sent), given(program, "", sent)
-
-
-def both_given_after_a_set(program, sent):
-    """The same after `set a 0 0 1`, whose answer comes first."""
-    answers = both_given(program, b"set a 0 0 1\r\nx\r\n" + sent)
-    assert all(it.startswith(STORED) for it in answers)
-    return tuple(it.removeprefix(STORED) for it in answers)
 
 
 # What a session sends after `set a 0 0 1`, and what it is then given leniently and strictly.
@@ -182,12 +168,25 @@ COMMANDS = {
 }
 
 
-def test_spaces_before_the_end_of_a_line(program):
-    assert {sent: both_given_after_a_set(program, sent) for sent in SPACES} == SPACES
+# Lines of letters up to the longest, and blocks that are too large for an item. (The last one isn't
+# sent: its line ends the session.)
+LONGEST = {
+    b"a" * 32_766 + b"\r\nget a\r\n": (ERROR + HIT, TOO_LONG),
+    b"a" * 32_767 + b"\r\nget a\r\n": (TOO_LONG, TOO_LONG),
+    b"a" * 32_768 + b"get a\r\n": (TOO_LONG, TOO_LONG),
+    b"a" * 32_765 + b"  \r\nget a\r\n": (TOO_LONG, TOO_LONG),
+    b"set a 0 0 131073\r\n" + b"z" * 131_075 + b"get a\r\n": (TOO_LARGE + END, TOO_LARGE),
+    b"set a 0 0 200000 noreply\r\n" + b"z" * 200_002 + b"get a\r\n": (END, TOO_LARGE),
+    b"replace a 0 0 300000\r\n" + b"z" * 300_002 + b"get a\r\n": (TOO_LARGE + HIT, TOO_LARGE),
+    b"set a 0 0 8388609\r\nget a\r\n": (TOO_LARGE, TOO_LARGE),
+}
 
 
-def test_commands_of_the_lenient_dialect(program):
-    assert {sent: both_given_after_a_set(program, sent) for sent in COMMANDS} == COMMANDS
+@pytest.mark.parametrize("rows", [SPACES, COMMANDS, LONGEST], ids=["spaces", "commands", "longest"])
+def test_each_dialect_answers_in_its_way(program, rows):
+    for sent, answers in rows.items():
+        got = both_given(program, b"set a 0 0 1\r\nx\r\n" + sent)
+        assert got == tuple(STORED + it for it in answers), sent[:40]
 
 
 # What a session asks: 17 requests, and then a `stats`.
@@ -199,10 +198,7 @@ COUNTED = [
     *(b"%b noreply\r\n" % it for it in (
         b"incr a 1", b"incr b 1", b"decr a 1", b"decr b 1", b"touch a 60", b"touch b 60")),
     b"gat 60 b a b\r\n",
-    *(b"%b noreply\r\n" % it for it in (
-        b"delete a",
-        b"delete a", b"flush_all")),
-    b"stats\r\n",
+    *(b"%b noreply\r\n" % it for it in (b"delete a", b"delete a", b"flush_all")), b"stats\r\n",
 ]
 # What it is told, up to the first gauge, counted by hand.
 COUNTS = b"""cmd_get 3, cmd_set 6, cmd_touch 5, cmd_flush 1, total_items 3, cas_badval 1,
@@ -213,37 +209,9 @@ COUNTS = b"""cmd_get 3, cmd_set 6, cmd_touch 5, cmd_flush 1, total_items 3, cas_
 
 def test_counts_of_a_stats(program):
     counts = b"\r\n".join(b"STAT " + it.lstrip() for it in COUNTS.split(b","))
-    wanted = STORED + hits(b"a", b"5", times=2) + END + hits(b"a", b"5") + END + counts
+    wanted = STORED + hit(b"a", b"5", times=2) + hit(b"a", b"5") + counts
     assert len(COUNTED) == 18
     assert given(program, "--lenient", b"".join(COUNTED))[: len(wanted)] == wanted
-
-
-# Lines of letters, and what a session that sends them is given leniently. Strictly each is too long.
-LONGEST_LINES = {
-    b"a" * 32_766 + b"\r\nget a\r\n": ERROR + END,
-    b"a" * 32_767 + b"\r\nget a\r\n": TOO_LONG,
-    b"a" * 32_768 + b"get a\r\n": TOO_LONG,
-    b"a" * 32_765 + b"  \r\nget a\r\n": TOO_LONG,
-}
-
-
-def test_the_longest_line(program):
-    assert {sent: both_given(program, sent) for sent in LONGEST_LINES} == {sent: (it, TOO_LONG) for sent, it in LONGEST_LINES.items()}
-
-
-# A line for a block, how many bytes of it are sent, and what a session is then given leniently that asks for `a` at its end. Strictly each of
-# these lines ends it.
-BLOCKS = {
-    (b"set a 0 0 131073\r\n", 131_075): TOO_LARGE + END,
-    (b"set a 0 0 200000 noreply\r\n", 200_002): END,
-    (b"replace a 0 0 300000\r\n", 300_002): TOO_LARGE + HIT,
-    (b"set a 0 0 8388609\r\n", 0): TOO_LARGE,
-}
-
-
-def test_a_large_block_leaves_the_session_open(program):
-    for (line, length), leniently in BLOCKS.items():
-        assert both_given_after_a_set(program, line + b"z" * length + b"get a\r\n") == (leniently, TOO_LARGE), line
 
 
 def test_a_get_of_1000_keys(program):

@@ -1,19 +1,12 @@
 """`segcached serve` over real sockets: bursts, slow and stalled readers, resets, limits, waiting."""
 import socket
-import threading
 import time
 
 import pytest
 from asking import (
-    END, SET_AND_GET, SET_AND_GET_ANSWER, STORED, ask, ask_set_and_get, hit, is_same, put)
+    END, SET_AND_GET, SET_AND_GET_ANSWER, STORED, ask, ask_set_and_get, beside, hit, is_same, put,
+    seconds_to)
 from served import read_exactly, read_to_end, reset, together
-
-
-def pipeline(stream, request, times):
-    """Sends a request many times, in a thread of its own."""
-    sender = threading.Thread(target=lambda: stream.sendall(request * times), daemon=True)
-    sender.start()
-    return sender
 
 
 # ---- many at once
@@ -52,25 +45,19 @@ def test_sixty_thousand_in_a_pipeline_are_answered_where_the_reader_stops_meanwh
     with serve("--workers", "1", *storage).connect(receive_buffer=8192) as stream:
         ask(stream, put(b"a", b"v" * 100), STORED)
         answer = hit(b"a", b"v" * 100)
-        sender = pipeline(stream, b"get a\r\n", times)
+        sender = beside(stream.sendall, b"get a\r\n" * times)
         assert read_exactly(stream, 100 * len(answer)) == 100 * answer
         time.sleep(1)
         assert is_same(read_exactly(stream, (times - 100) * len(answer)), (times - 100) * answer)
         sender.join()
 
 
-def slowest_of_ten_clients(server):
-    """The longest wait of ten clients for one of 200 answers each."""
-    def slowest(number):
-        took = []
-        with server.connect() as stream:
-            for turn in range(200):
-                began = time.monotonic()
-                ask_set_and_get(stream, b"k%d-%d" % (number, turn))
-                took.append(time.monotonic() - began)
-        return max(took)
-
-    return max(together(lambda number=number: slowest(number) for number in range(10)))
+def slowest(server, number):
+    """The longest wait of a client for one of 200 answers."""
+    keys = [b"k%d-%d" % (number, turn) for turn in range(200)]
+    with server.connect() as stream:
+        return max(seconds_to(stream, SET_AND_GET % (it, it), SET_AND_GET_ANSWER % it)
+                   for it in keys)
 
 
 def test_a_stalled_reader_costs_others_nothing_and_is_served_later(serve):
@@ -78,10 +65,10 @@ def test_a_stalled_reader_costs_others_nothing_and_is_served_later(serve):
     server = serve("--workers", "1")
     with server.connect(receive_buffer=4096) as stalled:
         ask(stalled, put(b"big", value), STORED)
-        sender = pipeline(stalled, b"get big\r\n", times)
+        sender = beside(stalled.sendall, b"get big\r\n" * times)
         time.sleep(0.5)
-        assert slowest_of_ten_clients(server) < 10
-        # What waits for the stalled reader is bounded: it isn't all that it asked for, 140 million bytes.
+        assert max(together(lambda it=it: slowest(server, it) for it in range(10))) < 10
+        # (what waits for the stalled reader isn't all that it asked for, 140 million bytes)
         assert server.kilobytes("VmRSS") < 80_000
         answers = 100 * hit(b"big", value)
         for _ in range(times // 100):
@@ -98,7 +85,7 @@ def test_answers_come_after_the_peer_has_closed_its_half(serve, request_bytes, a
         stream.sendall(request_bytes)
         stream.shutdown(socket.SHUT_WR)
         assert read_to_end(stream) == answer
-    assert server.wait() == 0
+    assert server.process.wait(20) == 0
 
 
 # ---- peers that go
@@ -110,7 +97,7 @@ def test_a_client_may_close_without_reading(serve):
     with server.connect() as second:
         second.sendall(b"get a\r\nquit\r\n")
         assert read_to_end(second) in (b"END\r\n", hit(b"a", b"x"))
-    assert server.wait() == 0
+    assert server.process.wait(20) == 0
 
 
 def test_a_thousand_resets_in_the_middle_of_a_request_harm_nobody(serve):
@@ -126,14 +113,13 @@ def test_a_thousand_resets_in_the_middle_of_a_request_harm_nobody(serve):
 # ---- waiting
 
 def test_a_lone_client_is_answered_soon_after_a_pause(serve, say, storage):
-    """In some 100 microseconds, on a quiet machine; a storage thread that nobody wakes sleeps for 100 milliseconds."""
+    """In some 100 microseconds, on a quiet machine; a storage thread that nobody wakes sleeps for
+    100 milliseconds."""
+    took = []
     with serve("--workers", "2", *storage).connect() as stream:
-        took = []
         for _ in range(100):
             time.sleep(0.01)
-            start = time.monotonic()
-            ask(stream, b"get a\r\n", b"END\r\n")
-            took.append(time.monotonic() - start)
+            took.append(seconds_to(stream))
     took.sort()
     say(f"{took[50] * 1e6:.0f} us at the median after a pause of 10 ms")
     # (a quarter of them are soon even on a machine whose processors are all busy)

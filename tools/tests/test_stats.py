@@ -2,26 +2,23 @@
 import contextlib
 import random
 import re
-import socket
-import subprocess
 import sys
-import threading
 import time
 
 import memcache
 import pytest
 import served
 import tries
-from asking import BAD_LINE, END, ERROR, STORED, TOO_LARGE, ask, hits, put
+from asking import BAD_LINE, END, ERROR, MISS, STORED, TOO_LARGE, ask, flood, hit, opened, put
 from model import COUNTED, SHOWN_AND_TOUCHED, STORES, Cache
 from pymemcache.client.base import Client
-from served import read_to_end
-from stats_of import told, wait_for
+from served import ended, read_to_end
+from stats_of import numbers, told, wait_for
 
 # What monitors of Debian need of memcached's fields.
-NEEDED = """pid uptime time version pointer_size rusage_user rusage_system curr_connections total_connections rejected_connections listen_disabled_num threads cmd_get cmd_set
-    cmd_flush cmd_touch get_hits get_misses delete_hits delete_misses incr_hits incr_misses decr_hits decr_misses cas_hits cas_misses cas_badval
-    touch_hits touch_misses bytes_read bytes_written limit_maxbytes bytes curr_items total_items evictions reclaimed""".split()
+NEEDED = {*COUNTED, *"""pid uptime time version pointer_size rusage_user rusage_system curr_connections
+    total_connections rejected_connections listen_disabled_num threads bytes_read bytes_written
+    limit_maxbytes bytes curr_items evictions reclaimed""".split()}
 KINDS = b"get gets set add replace append prepend cas delete incr decr touch gat gats".split()
 TURNS = 400
 
@@ -98,7 +95,7 @@ def test_what_is_evicted_is_counted(serve):
     with server.connect() as stream:
         for number in range(3000):
             ask(stream, put(b"key-%d" % number, b"v" * 3000), STORED)
-        found = {name: int(it) for name, it in told(stream).items() if it.isdigit()}
+        found = numbers(stream)
     assert found["curr_items"] + found["evictions"] == 3000 and found["evictions"] > 1000
     assert found["segments"] == 64 and found["limit_maxbytes"] == 64 * 65536 == found["segments"] * found["segment_size"]
     assert found["merges"] > 0 and found["segments_free"] < 4
@@ -112,32 +109,29 @@ def test_what_is_evicted_is_counted(serve):
 
 def wait_for_output(stream, size):
     """Asks until so many bytes of output wait for all clients together."""
-    assert served.comes_true(lambda: int(told(stream)["output_bytes"]) >= size)
+    assert served.comes_true(lambda: numbers(stream)["output_bytes"] >= size)
 
 
 def test_connections_are_told(serve):
     server = serve("--lenient", "--workers", "2")
-    stream, *opened = (server.connect() for _ in range(7))
-    for it in opened:
-        ask(it, b"get none\r\n", END)
+    stream, *others = opened(server, 7, MISS, END)
     found = wait_for(stream, curr_connections=7, total_connections=7, max_connections=2 * 1024, accepting_conns=1)
     assert int(found["curr_connections_0"]) + int(found["curr_connections_1"]) == 7 and "curr_connections_2" not in found
     assert int(found["pid"]) == server.process.pid and found["requests_in_flight"] == "1"
-    for it in opened[:4]:
+    for it in others[:4]:
         it.close()
     wait_for(stream, curr_connections=3, total_connections=7, rejected_connections=0, listen_disabled_num=0, connections_waiting=0)
 
 
 def test_bytes_are_told(serve):
-    value = put(b"a", b"v" * 100_000)
+    sent = put(b"a", b"v" * 100_000) + MISS
     with serve("--lenient", "--segment-size", "1048576").connect() as stream:
-        ask(stream, value, STORED)
-        ask(stream, b"get none\r\n", END)
-        read, written = len(value) + len(b"get none\r\nstats\r\n"), len(STORED + END)
-        found = told(stream)
-        # (the answer to this `stats` isn't written yet)
-        assert (int(found["bytes_read"]), int(found["bytes_written"])) == (read, written)
-        assert (found["input_bytes"], found["bytes"]) == ("0", "100032")
+        ask(stream, sent, STORED + END)
+        found = numbers(stream)
+    # (the answer to this `stats` isn't written yet)
+    read, written = len(sent + b"stats\r\n"), len(STORED + END)
+    assert (found["bytes_read"], found["bytes_written"]) == (read, written)
+    assert (found["input_bytes"], found["bytes"]) == (0, 100_032)
 
 
 def test_unread_bytes_are_told(serve):
@@ -158,8 +152,8 @@ def test_a_worker_that_never_waits_is_told(serve):
     """It always has output that its client doesn't read. From another client come lines, each wrong at its last key, faster than it reads them:
     so it is never idle either, and storage has nothing to do for it."""
     lines = (b"get " + b"k " * 800 + b"k" * 251 + b"\r\n") * 500
-    server, is_ended = serve("--lenient", "--workers", "2", "--segment-size", "1048576"), threading.Event()
-    stream, flooding = server.connect(), server.connect()
+    server = serve("--lenient", "--workers", "2", "--segment-size", "1048576")
+    stream, flooding = opened(server, 2)
     wait_for(stream, curr_connections_0=1, curr_connections_1=1)
     ask(stream, put(b"a", b"v" * 100_000), STORED)
     for _ in range(2):
@@ -167,22 +161,12 @@ def test_a_worker_that_never_waits_is_told(serve):
     wait_for(stream, curr_connections_0=2, curr_connections_1=2)
     wait_for_output(stream, 2 * 1_048_577)
 
-    def send():
-        while not is_ended.is_set():
-            flooding.sendall(lines)
-        flooding.shutdown(socket.SHUT_WR)
-
-    def look():
-        time.sleep(0.5)
-        first = int(told(stream)["bytes_read"])
-        time.sleep(0.5)
-        second = int(told(stream)["bytes_read"])
-        is_ended.set()
-        return second - first
-
-    *_, read = served.together([send, lambda: read_to_end(flooding), look])
+    flood(flooding, lines)
+    time.sleep(0.3)
+    first = numbers(stream)["bytes_read"]
+    time.sleep(0.5)
     # (the other connections read a few bytes)
-    assert read > 10_000
+    assert numbers(stream)["bytes_read"] - first > 10_000
 
 
 def test_what_is_refused_is_told(serve):
@@ -271,7 +255,7 @@ def used(serve):
     """A server with one hit and one miss."""
     server = serve("--lenient", "--workers", "2")
     with server.connect() as stream:
-        ask(stream, put(b"a", b"x") + b"get a b\r\n", STORED + hits(b"a", b"x") + END)
+        ask(stream, put(b"a", b"x") + b"get a b\r\n", STORED + hit(b"a", b"x"))
     return server
 
 
@@ -279,7 +263,7 @@ def test_pymemcache_and_python_memcached_read_what_monitors_need(used):
     by_pymemcache = Client(("127.0.0.1", used.port), timeout=20).stats()
     (_, by_memcache), = memcache.Client([f"127.0.0.1:{used.port}"]).get_stats()
     for found in ({key.decode(): it for key, it in by_pymemcache.items()}, by_memcache):
-        assert [it for it in NEEDED if it not in found] == []
+        assert NEEDED <= found.keys()
         assert (int(found["cmd_get"]), int(found["get_hits"]), int(found["get_misses"]), int(found["curr_items"])) == (2, 1, 1, 1)
 
 
@@ -291,10 +275,8 @@ print(*(found[it] if isinstance(found[it], str) else found[it].decode() for it i
 
 
 def test_pylibmc_and_memcstat_read_them(used):
-    said = subprocess.check_output([sys.executable, "-c", PYLIBMC, str(used.port)], text=True,
-                                   timeout=30)
-    assert said.split() == ["2", "1", "1"]
-    said = subprocess.check_output(["memcstat", f"--servers=127.0.0.1:{used.port}"], text=True,
-                                   timeout=30)
-    shown = dict(line.strip().split(": ", 1) for line in said.splitlines() if line.startswith("\t"))
-    assert (shown["cmd_get"], shown["get_hits"], shown["total_items"]) == ("2", "1", "1")
+    status, said, _ = ended(sys.executable, "-c", PYLIBMC, str(used.port))
+    assert (status, said) == (0, b"2 1 1\n")
+    status, said, _ = ended("memcstat", f"--servers=127.0.0.1:{used.port}")
+    lines = {it.strip() for it in said.splitlines()}
+    assert status == 0 and {b"cmd_get: 2", b"get_hits: 1", b"total_items: 1"} <= lines

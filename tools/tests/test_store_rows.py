@@ -8,8 +8,9 @@ import random
 
 import asking
 import pytest
-from asking import DELETED, END, NOT_FOUND, NOT_STORED, OUT_OF_MEMORY, STORED, TOO_LARGE, TOUCHED
-from asking import hits as hit
+from asking import (
+    DELETED, END, NOT_FOUND, NOT_STORED, OUT_OF_MEMORY, STORED, TOO_LARGE, TOUCHED, get, hit,
+    hits)
 from replays import given
 
 SMALL = "--segment-size", 4096, "--segments", 8
@@ -49,7 +50,7 @@ COMMANDS = {
     "add and replace": [
         (b"add a 0 0 1\r\nx\r\n", STORED), (b"add a 0 0 1\r\ny\r\n", NOT_STORED),
         (b"replace b 0 0 1\r\ny\r\n", NOT_STORED), (b"replace a 7 0 1\r\nz\r\n", STORED),
-        (b"get a a\r\n", 2 * hit(b"a", b"z", 7) + END),
+        (b"get a a\r\n", hit(b"a", b"z", 7, times=2)),
     ],
     "delete": [
         (b"set a 0 0 1\r\nx\r\n", STORED), (b"delete a\r\n", DELETED), (b"delete a\r\n", NOT_FOUND),
@@ -57,7 +58,7 @@ COMMANDS = {
     ],
     "flush": [
         (b"set a 0 0 1\r\nx\r\n", STORED), (b"flush_all\r\n", b"OK\r\n"), (b"get a\r\n", END),
-        (b"set a 0 0 1\r\ny\r\n", STORED), (b"gets a\r\n", hit(b"a", b"y", cas=2) + END),
+        (b"set a 0 0 1\r\ny\r\n", STORED), (b"gets a\r\n", hit(b"a", b"y", cas=2)),
     ],
 }
 
@@ -71,12 +72,12 @@ def test_commands_at_one_moment(program, rows):
 
 COUNTED = b"set n 7 60 1\r\n5\r\n", b"get n\r\n", b"incr n 1\r\n", b"incr n 1\r\n", b"incr n 1\r\n", b"incr n 3\r\n", b"incr n 88\r\n"
 COUNTED += b"get n\r\n", b"decr n 90\r\n", b"gets n\r\n", b"get n\r\n", b"get n\r\n"
-UP_TO_99 = [STORED, hit(b"n", b"5", 7) + END, b"6\r\n", b"7\r\n", b"8\r\n", b"11\r\n", b"99\r\n", hit(b"n", b"99", 7) + END]
-SHOWS_9 = hit(b"n", b"9", 7) + END
+UP_TO_99 = [STORED, hit(b"n", b"5", 7), *(b"%d\r\n" % it for it in (6, 7, 8, 11, 99)), hit(b"n", b"99", 7)]
+SHOWS_9 = hit(b"n", b"9", 7)
 
 
 @pytest.mark.parametrize("words, rest", [
-    ([IN_PLACE], [b"9\r\n", hit(b"n", b"9", 7, 7) + END, SHOWS_9, SHOWS_9]),
+    ([IN_PLACE], [b"9\r\n", hit(b"n", b"9", 7, 7), SHOWS_9, SHOWS_9]),
     ([], [NOT_FOUND, END, END, END]),
 ], ids=["in place", "anew"])
 def test_a_counter_of_sixty_seconds_is_shown_and_counted_each_five_seconds(program, words, rest):
@@ -109,23 +110,23 @@ def test_a_value_is_joined_up_to_the_limit_of_an_item(program):
     must_answer(program, [
         (put(b"a", 0, b"x" * 8166), STORED), (b"append a 0 0 1\r\ny\r\n", STORED),
         (b"append a 0 0 1\r\nz\r\n", TOO_LARGE), (b"prepend a 0 0 1\r\nz\r\n", TOO_LARGE),
-        (b"append a 0 0 0\r\n\r\n", STORED), (b"get a\r\n", hit(b"a", b"x" * 8166 + b"y") + END),
+        (b"append a 0 0 0\r\n\r\n", STORED), (b"get a\r\n", hit(b"a", b"x" * 8166 + b"y")),
     ], LENIENT)
 
 
 # ---- touches
 
-SHOWN = hit(b"a", b"x") + END
+SHOWN = hit(b"a", b"x")
 A_MINUTE, A_MINUTE_MORE = b"set a 0 60 1\r\nx\r\n", b"touch a 60\r\n"
 TOUCHES = {
     "an item of 60 seconds ends at 1,056, and may stay until 1,072 is asked for": [
         (1000, b"set a 7 60 1\r\nx\r\n", STORED), (1001, A_MINUTE_MORE, TOUCHED),
         (1011, A_MINUTE_MORE, TOUCHED),
-        (1055, b"gets a\r\n", hit(b"a", b"x", 7, 1) + END), (1056, b"get a\r\n", END),
+        (1055, b"gets a\r\n", hit(b"a", b"x", 7, 1)), (1056, b"get a\r\n", END),
     ],
     "written anew at 1,012 it ends at 1,068": [
         (1000, b"set a 7 60 1\r\nx\r\n", STORED), (1012, A_MINUTE_MORE, TOUCHED),
-        (1067, b"gets a\r\n", hit(b"a", b"x", 7, 1) + END), (1068, b"get a\r\n", END),
+        (1067, b"gets a\r\n", hit(b"a", b"x", 7, 1)), (1068, b"get a\r\n", END),
     ],
     "an item of 1,440 seconds may stay while at most 180 of them are missing": [
         (1000, b"set a 0 1440 1\r\nx\r\n", STORED), (1180, b"touch a 1440\r\n", TOUCHED),
@@ -166,7 +167,7 @@ def key(number):
 
 
 def found(number, value):
-    return b"get %b\r\n" % key(number), (hit(key(number), value) if value is not None else b"") + END
+    return get(key(number)), END if value is None else hit(key(number), value)
 
 
 def test_what_is_within_the_bound_is_found(program):
@@ -179,7 +180,7 @@ def test_a_flush_makes_room(program):
     """64 items fill all segments, and are all forgotten by a flush: the next one finds room, and is found alone."""
     value = b"v" * 476
     rows = [(put(key(number), 0, value), STORED) for number in range(1, 65)]
-    rows += [(b"flush_all\r\n", b"OK\r\n"), (put(key(65), 0, value), STORED), (b"get k064 k065\r\n", hit(b"k065", value) + END)]
+    rows += [(b"flush_all\r\n", b"OK\r\n"), (put(key(65), 0, value), STORED), (b"get k064 k065\r\n", hit(b"k065", value))]
     must_answer(program, rows, *SMALL)
 
 
@@ -200,8 +201,7 @@ def random_rows(below, longest, left):
     for letter in itertools.islice(itertools.cycle(range(ord("a"), ord("z") + 1)), 5000):
         number = below(len(there))
         if below(8) == 0:
-            yield b"delete %b\r\n" % key(number), NOT_FOUND if there[number] is None else DELETED
-            there[number] = None
+            yield deleted(there, number)
             continue
         value = bytes([letter]) * below(longest + 1)
         left -= (24 + len(key(number)) + len(value) + 7) // 8 * 8
@@ -209,7 +209,7 @@ def random_rows(below, longest, left):
             break
         yield put(key(number), 0, value), STORED
         there[number] = value
-    yield from (found(number, value) for number, value in there.items())
+    yield from itertools.starmap(found, there.items())
 
 
 # (and the largest item, if it isn't an eighth of a segment)
@@ -225,23 +225,23 @@ def test_all_that_is_written_within_the_bound_is_found(program, segment_size, se
     must_answer(program, rows, "--segment-size", segment_size, "--segments", segments, *limit, *["--lenient"] * (longest > 131_072))
 
 
+def deleted(there, number):
+    """A key is deleted, if it is there."""
+    value, there[number] = there[number], None
+    return b"delete %b\r\n" % key(number), NOT_FOUND if value is None else DELETED
+
+
 def rows_in_turn(below, keys, turns):
     """In each turn a key is deleted, one is written, and one is looked up; at the end all are."""
     there = dict.fromkeys(range(keys))
-
-    def looked_up(number):
-        value = there[number]
-        return b"get key%d\r\n" % number, END if value is None else hit(b"key%d" % number, value) + END
-
     for turn in range(turns):
-        number = below(keys)
-        yield b"delete key%d\r\n" % number, NOT_FOUND if there[number] is None else DELETED
-        there[number] = None
+        yield deleted(there, below(keys))
         number = below(keys)
         there[number] = b"%d" % turn
-        yield put(b"key%d" % number, 0, there[number]), STORED
-        yield looked_up(below(keys))
-    yield from map(looked_up, there)
+        yield put(key(number), 0, there[number]), STORED
+        number = below(keys)
+        yield found(number, there[number])
+    yield from itertools.starmap(found, there.items())
 
 
 def test_keys_that_are_deleted_and_written_in_turn_are_found(program):
@@ -258,7 +258,7 @@ MOST_ANSWER = 8_388_608
 
 
 def shown(verb, key, value, cas):
-    return hit(key, value, cas=cas if verb == b"gets" else None)
+    return hits(key, value, cas=cas if verb == b"gets" else None)
 
 
 @pytest.mark.parametrize("dialect", [[LENIENT], []], ids=["lenient", "strict"])
@@ -287,6 +287,6 @@ def test_a_reply_shows_hits_up_to_its_limit_and_strictly_above(program, verb, le
 ])
 def test_memory_is_out_for_no_reply_within_the_limit(program, dialect, count, length, verb):
     value = b"v" * length
-    hits = count * shown(verb, b"a", value, 1)
-    answer = OUT_OF_MEMORY if dialect and len(hits) > MOST_ANSWER else hits + END
+    wanted = count * shown(verb, b"a", value, 1)
+    answer = OUT_OF_MEMORY if dialect and len(wanted) > MOST_ANSWER else wanted + END
     must_answer(program, [(put(b"a", 0, value), STORED), (verb + count * b" a" + b"\r\n", answer)], *LARGE, *dialect)

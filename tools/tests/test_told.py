@@ -2,7 +2,6 @@
 import os
 import re
 import signal
-import socket
 import subprocess
 import threading
 import time
@@ -104,13 +103,10 @@ def test_a_stopped_process_takes_connections_and_does_not_answer(serve):
         ask(stream, b"", END)
 
 
-PROBE = f"{served.TOP}/packaging/examples/probe.sh"
-
-
 @pytest.mark.parametrize("listen", ["127.0.0.1:0", "unix:{}"], ids=["port", "path"])
 def test_the_probe_says_whether_it_answers(program, listen, tmp_path):
     with served.Server(program, listen=listen.format(tmp_path / "cache")) as server:
-        probe = [PROBE, f"unix:{server.path}"] if server.path else [PROBE, "127.0.0.1", str(server.port)]
+        probe = server.probe()
         assert subprocess.run(probe).returncode == 0
         server.process.send_signal(signal.SIGSTOP)
         assert subprocess.run(probe).returncode != 0
@@ -121,32 +117,28 @@ def test_the_probe_says_whether_it_answers(program, listen, tmp_path):
     assert subprocess.run(probe).returncode != 0
 
 
-@pytest.mark.parametrize("listen", [["127.0.0.1:{0}"], ["[::]:{0}"], ["unix:{1}"], ["unix:{1}", "127.0.0.1:{0}"]],
-                         ids=["port", "all addresses", "path", "path and port"])
-def test_in_a_container_the_probe_finds_the_server_that_is_process_1(program, listen, tmp_path):
-    """The server is process 1 of a container of its own, which takes root."""
-    apart = ["unshare", "--pid", "--mount-proc", "--fork", "--kill-child"]
-    if os.geteuid() or subprocess.run([*apart, "true"], stderr=subprocess.DEVNULL, check=False).returncode:
-        pytest.skip("this takes root and namespaces")
-    port = served.free_port()
-    words = [word for it in listen for word in ("--listen", it.format(port, tmp_path / "cache"))]
-    with served.Process([*apart, program, "serve", *words]) as server:
-        assert server.process.stdout.readline().startswith("listening on ")
-        with open(f"/proc/{server.process.pid}/task/{server.process.pid}/children", encoding="ascii") as children:
-            first = children.read().strip()
-        inside = ["nsenter", "--target", first, "--pid", "--mount", PROBE]
-        assert subprocess.run(inside).returncode == 0
-        # (one that is stopped answers nobody)
-        os.kill(int(first), signal.SIGSTOP)
-        assert subprocess.run(inside).returncode != 0
-
-
-READY = f"{served.TOP}/packaging/ready.sh"
+@pytest.mark.parametrize("listen", [
+    ["127.0.0.1:{0}"], ["[::]:{0}"], ["unix:{1}"], ["unix:{1}", "127.0.0.1:{0}"],
+], ids=["port", "all addresses", "path", "path and port"])
+def test_in_a_container_the_probe_finds_the_server_that_is_process_1(serve, apart, listen, tmp_path):
+    """The server is process 1 of a container of its own."""
+    command, port = apart("--pid", "--mount-proc", "--fork", "--kill-child"), served.free_port()
+    first, *others = (it.format(port, tmp_path / "cache") for it in listen)
+    server = serve(*(f"--listen={it}" for it in others), listen=first, under=command)
+    number = server.process.pid
+    child = served.read(f"/proc/{number}/task/{number}/children").strip()
+    inside = ["nsenter", "--target", child, "--pid", "--mount", server.probe()[0]]
+    assert subprocess.run(inside).returncode == 0
+    # (one that is stopped answers nobody)
+    os.kill(int(child), signal.SIGSTOP)
+    assert subprocess.run(inside).returncode != 0
 
 
 def is_ready(server, *words):
     """How the script that the units wait for ends, which is given the options and the process."""
-    return subprocess.run([READY, *words], env={**os.environ, "MAINPID": str(server.process.pid)}, timeout=20).returncode == 0
+    script = f"{served.TOP}/packaging/ready.sh"
+    process = {**os.environ, "MAINPID": str(server.process.pid)}
+    return subprocess.run([script, *words], env=process, timeout=20).returncode == 0
 
 
 @pytest.mark.parametrize("listen", ["127.0.0.1:0", "0.0.0.0:0", "[::1]:0", "[::]:0", "unix:{}"])
@@ -184,28 +176,30 @@ def test_a_taken_port_is_seen_before_a_start(serve, tmp_path):
 
 
 @pytest.mark.parametrize("file", ["packaging/systemd/segcached.service", "packaging/examples/Containerfile"])
-def test_started_as_a_service_it_ignores_what_nobody_expects_to_end_it(program, file):
+def test_started_as_a_service_it_ignores_what_nobody_expects_to_end_it(serve, file):
     """By the words before the program in a unit or a container file."""
     form = r"(/usr/bin/env)\W+(--ignore-signal=[A-Z0-9,]+)\W+/usr/(?:local/)?bin/segcached\b"
     ignoring = re.search(form, served.read(f"{served.TOP}/{file}")).groups()
-    with served.Process([*ignoring, program, "serve", "--listen", "127.0.0.1:0"]) as server:
-        port = int(server.process.stdout.readline().rpartition(":")[2])
-        for number in (signal.SIGHUP, signal.SIGUSR1, signal.SIGUSR2):
-            server.process.send_signal(number)
-        with socket.create_connection(("127.0.0.1", port), 20) as stream:
-            ask(stream, b"get a\r\n", END)
-        server.process.terminate()
-        assert server.process.wait(1) == -signal.SIGTERM
+    server = serve(under=ignoring)
+    for number in (signal.SIGHUP, signal.SIGUSR1, signal.SIGUSR2):
+        server.process.send_signal(number)
+    ask(server.connect(), b"get a\r\n", END)
+    must_end(server, signal.SIGTERM)
+
+
+def must_end(server, number):
+    """By this signal, at once."""
+    server.process.send_signal(number)
+    assert server.process.wait(1) == -number
+    server.was_stopped = True
 
 
 @pytest.mark.parametrize("number", [signal.SIGHUP, signal.SIGINT, signal.SIGTERM])
-def test_a_signal_ends_it_at_once(program, number):
-    with served.Process([program, "serve", "--listen", "127.0.0.1:0"]) as server:
-        assert server.process.stdout.readline().startswith("listening on ")
-        server.process.send_signal(number)
-        assert server.process.wait(1) == -number
+def test_a_signal_ends_it_at_once(serve, number):
+    must_end(serve(), number)
 
 
 def test_all_addresses_of_ipv6_are_those_of_ipv4_too(serve):
-    with socket.create_connection(("127.0.0.1", serve(listen="[::]:0").port), 20) as stream:
-        ask(stream, b"get a\r\n", END)
+    server = serve(listen="[::]:0")
+    server.host = "127.0.0.1"
+    ask(server.connect(), b"get a\r\n", END)

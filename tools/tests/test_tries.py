@@ -1,8 +1,10 @@
 """When tries of what takes time have succeeded: tools/tries.py, and what it is told of the machine."""
+import contextlib
 import os
 import subprocess
 import sys
 import time
+import types
 
 import pytest
 import tries
@@ -11,25 +13,16 @@ from served import Trouble
 from standstills import Standstills
 
 
-class Machine:
-    """Says of each try whether a processor stood still."""
-
-    def __init__(self, stood_still):
-        self.stood_still, self.noted = iter(stood_still), []
-
-    def __call__(self, _):
-        return self
-
-    def start(self):
-        self.noted = [(0.0, 1.0)] if next(self.stood_still) else []
-
-    def stop(self):
-        pass
+def machine(stood_still):
+    """Says of each try in turn whether a processor stood still."""
+    left = iter(stood_still)
+    noted = lambda: types.SimpleNamespace(noted=[(0.0, 1.0)] * next(left))
+    return lambda _: contextlib.nullcontext(noted())
 
 
 def outcome(monkeypatch, tried, stood_still=None):
     """What tries say that succeed so, by their numbers, and how many there were."""
-    monkeypatch.setattr(tries, "Standstills", Machine(stood_still or [False] * len(tried)))
+    monkeypatch.setattr(tries, "Standstills", machine(stood_still or [False] * len(tried)))
     left = list(enumerate(tried))
     said = tries.in_two_of_three(lambda: left.pop(0)[::-1])
     return said, len(tried) - len(left)
@@ -58,16 +51,14 @@ def test_one_that_fails_while_the_machine_stands_still_is_not_counted(monkeypatc
 
 def test_a_machine_that_stands_still_is_seen():
     """A thread that should wake after a hundredth of a second wakes later than that."""
-    watch = Standstills(late=-0.02)
-    watch.start()
-    watch.is_over.wait(0.1)
-    watch.stop()
+    with Standstills(late=-0.02) as watch:
+        time.sleep(0.1)
     assert watch.noted and watch.seconds_in(*watch.noted[0]) > 0
 
 
 def test_a_process_that_stands_still_is_seen(monkeypatch):
     """Two tries fail for it, and aren't counted."""
-    monkeypatch.setattr(tries, "Standstills", Machine([False] * 4))
+    monkeypatch.setattr(tries, "Standstills", machine([False] * 4))
     script = "sleep 0.1; kill -STOP $0; sleep 1; kill -CONT $0"
     stops, tried = [True, True, False, False], []
 

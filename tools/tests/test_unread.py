@@ -1,18 +1,20 @@
-"""What waits until there is memory: strict sessions are answered whole, no client that reads is closed, and a lenient one that takes nothing is, in the
-end. (One test takes some fifteen seconds, and those of steady readers and of a client that takes nothing ten.)"""
+"""What waits until there is memory: strict sessions are answered whole, no client that reads is
+closed, and a lenient one that takes nothing is, in the end. (One test takes some fifteen seconds, and
+those of steady readers and of a client that takes nothing ten.)"""
 import selectors
+import statistics
 import time
 
 import replays
 import tries
-from asking import END, ERROR, LARGE, ask, asks_for, hits, is_same, put, write_large
+from asking import (
+    ERROR, LARGE, ask, asks_for, get, hit, is_same, opened, put, seconds_to, write_large)
 from script_of import Script
 from served import read_exactly, together
 from stats_of import told
 
-HIT = hits(b"large", LARGE)
-# A request for 60 of them, and its answer of 7.9 MB.
-MANY, MANY_HITS = b"get" + b" large" * 60 + b"\r\n", HIT * 60 + END
+# A request for 60 large values, and its answer of 7.9 MB.
+MANY, MANY_HITS = get(b"large", 60), hit(b"large", LARGE, times=60)
 # How many small requests a client sends a second, and a share of a processor that counts for nothing.
 RATES, SLACK = (10, 100, 1000), 0.0003
 SIZES = ["--workers", "1", "--segment-size", "1048576", "--segments", "64"]
@@ -21,19 +23,19 @@ SIZES = ["--workers", "1", "--segment-size", "1048576", "--segments", "64"]
 def test_strict_outputs_above_64_mib_are_whole(program):
     """24 sessions are answered 7.9 MB each."""
     script = Script(1)
-    for _ in range(24):
-        script.open()
+    sessions = [script.open() for _ in range(24)]
     script.send(1, put(b"large", LARGE, words=b" noreply"))
-    for session in range(1, 25):
-        script.send(session, MANY)
+    for it in sessions:
+        script.send(it, MANY)
     words = "--segment-size 1048576 --segments 16 --accept 50"
     found = replays.printed(program, words, script.text().encode())
-    assert is_same(found, b"".join(b"0 %d %b\n" % (it, MANY_HITS.hex().encode())
-                                   for it in range(1, 25)))
+    given = MANY_HITS.hex().encode()
+    assert is_same(found, b"".join(b"0 %d %b\n" % (it, given) for it in sessions))
 
 
 def read_steadily(streams, each, rate, most):
-    """Reads so many bytes of each at a rate for each of them; how many came whole in this many seconds."""
+    """Reads so many bytes of each at a rate for each of them; how many came whole in this many
+    seconds."""
     left, began = {it: each for it in streams}, time.monotonic()
     for it in streams:
         it.setblocking(False)
@@ -62,20 +64,14 @@ def test_clients_that_read_steadily_are_answered_whole(serve, storage):
         assert told(stream)["closed_unread"] == "0"
 
 
-def wait_of(stream):
-    start = time.monotonic()
-    ask(stream, b"get none\r\n", END)
-    return time.monotonic() - start
-
-
 def waits_until_answered(small, large, seconds):
     """How long requests of the one waited while the other was answered nothing, or for so many
     seconds."""
-    waits, until = [wait_of(small)], time.monotonic() + seconds
+    waits, until = [seconds_to(small)], time.monotonic() + seconds
     selector = selectors.DefaultSelector()
     selector.register(large, selectors.EVENT_READ)
     while not selector.select(0.01) and time.monotonic() < until:
-        waits.append(wait_of(small))
+        waits.append(seconds_to(small))
     return waits
 
 
@@ -86,13 +82,13 @@ def beside_stalled(server, count, keys):
     stalled = [asks_for(server, keys, 4096) for _ in range(count)]
     small, large = server.connect(), server.connect(30)
     time.sleep(1)
-    ask(large, b"get large\r\n", HIT + END)
+    ask(large, b"get large\r\n", hit(b"large", LARGE))
     large.sendall(MANY)
     return stalled, small, large
 
 
-def test_a_lenient_client_that_takes_nothing_for_ten_seconds_is_closed_for_one_that_waits(serve,
-                                                                                          storage):
+def test_a_lenient_client_that_takes_nothing_for_ten_seconds_is_closed_for_one_that_waits(
+        serve, storage):
     server, before = serve("--lenient", *storage, *SIZES), time.monotonic()
     _, small, large = beside_stalled(server, 16, 60)
     start = time.monotonic()
@@ -105,7 +101,8 @@ def test_a_lenient_client_that_takes_nothing_for_ten_seconds_is_closed_for_one_t
 
 
 def test_a_strict_client_that_takes_nothing_is_not_closed(serve):
-    """One that waits for the memory waits on, and is answered once the others are gone; what is small is answered meanwhile."""
+    """One that waits for the memory waits on, and is answered once the others are gone; what is
+    small is answered meanwhile."""
     stalled, small, large = beside_stalled(serve(*SIZES), 3, 255)
     start = time.monotonic()
     waits_until_answered(small, large, 14)
@@ -124,7 +121,7 @@ def least_shares(servers, rate, seconds=6):
         for count in range(rate):
             # (who is asked second finds the processors warm)
             for it in streams if count % 2 else streams[::-1]:
-                wait_of(it)
+                seconds_to(it)
             time.sleep(max(0, start + (count + 1) / rate - time.monotonic()))
         took = time.monotonic() - start
         for place, (it, at) in enumerate(zip(servers, before)):
@@ -152,15 +149,15 @@ def test_a_client_that_takes_nothing_costs_no_processor(serve, storage, say):
 
 
 def test_what_stands_before_a_large_get_hides_nothing(serve):
-    """Eight clients ask for 64 large values each, behind a line that is no command; others wait no longer for that."""
+    """Eight clients ask for 60 large values each, behind a line that is no command; others wait no
+    longer for that."""
     server = serve("--lenient", *SIZES)
     write_large(server)
     line, answer = b"x\r\n" + MANY, len(ERROR + MANY_HITS)
-    small, selector, left, waits = server.connect(), selectors.DefaultSelector(), {}, []
-    for stream in [server.connect() for _ in range(8)]:
+    small, selector, waits = server.connect(), selectors.DefaultSelector(), []
+    left = dict.fromkeys(opened(server, 8, line), answer)
+    for stream in left:
         selector.register(stream, selectors.EVENT_READ)
-        stream.sendall(line)
-        left[stream] = answer
     until, last = time.monotonic() + 3, 0.0
     while time.monotonic() < until:
         for key, _ in selector.select(0.001):
@@ -170,6 +167,6 @@ def test_what_stands_before_a_large_get_hides_nothing(serve):
                 stream.sendall(line)
                 left[stream] = answer
         if time.monotonic() > last + 0.005:
-            waits.append(wait_of(small))
+            waits.append(seconds_to(small))
             last = time.monotonic()
-    assert sorted(waits)[len(waits) // 2] < 0.06, sorted(waits)[len(waits) // 2]
+    assert statistics.median(waits) < 0.06

@@ -1,23 +1,17 @@
-"""The words of the program: what shows help, what is refused with status 2, and the text that names a number out of its range."""
-import subprocess
-
+"""The words of the program: what shows help, what is refused with status 2, and the text that names
+a number out of its range. (A server that starts is killed, which is a failure.)"""
 import pytest
-
-
-def ended(program, words):
-    """The exit status with these words, and what was written on both outputs. (A server that starts is killed, which is a failure.)"""
-    done = subprocess.run([program, *words], capture_output=True, timeout=20)
-    return done.returncode, done.stdout, done.stderr
+from served import ended
 
 
 @pytest.mark.parametrize("words", ["--help", "-h", "help", "replay --help", "help replay", "--version"])
 def test_help_is_printed(program, words):
-    status, out, said = ended(program, words.split())
+    status, out, said = ended(program, *words.split())
     assert status == 0 and out.endswith(b"\n") and said == b""
 
 
 SERVE = "serve --listen 127.0.0.1:0"
-BAD = ["", "replay", "replay a b", "serve"]
+BAD = ["", "replay", "replay a b", "serve", "serve --listen"]
 BAD += [f"replay a {it}" for it in (
     "--segment-size 4095", "--segment-size 1048577", "--segments 7", "--segments 65537",
     "--max-item-size 511", "--now -1", "--now x", "--tick 18446744073709551616", "--nothing",
@@ -29,18 +23,18 @@ BAD += [f"{SERVE} {it}" for it in (
     "--max-item-size 1048513", "--evict", "--storage", "--lenient=yes", "--update-in-place=yes",
     "--exact-ttls=yes", "--spin -1", "--spin 1000001", "--connections 0", "--connections 65537",
     "--workers 1 --output-memory 4194303", "--output-memory 1099511627777", "--idle 0",
-    "--idle 4294967296", "--sessions 0",
+    "--idle 4294967296", "--sessions 0", "--workers 9", "--workers 0", "--segments 7",
 )]
 
 
 @pytest.mark.parametrize("words", BAD)
 def test_bad_words_have_status_2_and_print_nothing(program, words):
-    status, out, said = ended(program, words.split())
+    status, out, said = ended(program, *words.split())
     assert (status, out) == (2, b"") and said
 
 
 def test_words_that_are_no_text_have_status_2(program):
-    status, out, said = ended(program, [b"replay", b"\xff"])
+    status, out, said = ended(program, b"replay", b"\xff")
     assert (status, out) == (2, b"") and said
 
 
@@ -65,7 +59,7 @@ NAMED = {
 
 @pytest.mark.parametrize("words", NAMED)
 def test_a_value_that_an_option_does_not_have_is_named(program, words):
-    status, out, said = ended(program, words.split())
+    status, out, said = ended(program, *words.split())
     wanted = b"error: invalid value " + NAMED[words]
     # (more may stand behind the values that there are)
     is_named = said == wanted or said.startswith(wanted) and b"[possible values" in said

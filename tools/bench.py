@@ -9,8 +9,7 @@ memcached (of Debian) with 1, 2 and 4 threads stands beside `segcached serve` wi
 workers. The parts, of which the first two are measured unless others are named, or `all`:
 
     speed       how fast each is (tools/speed.py); tools/load.c checks each answer
-    misses      misses at equal memory (tools/misses.py), and which keys in use are lost
-                (tools/hot_keys.py)
+    misses      misses at equal memory, and which keys in use are lost (tools/misses.py)
     segments    the same misses by the size of segcached's segments
     site        misses of a site with TTLs up to a day, in two hours
 
@@ -32,7 +31,6 @@ import sys
 import tempfile
 import textwrap
 
-import hot_keys
 import misses
 import speed
 from served import PROGRAM, TOP, Trouble, read
@@ -109,11 +107,11 @@ def miss_parts(load, words):
     runs = misses.Misses(load, words.program, say)
     if words.quick:
         points, seconds = misses.by_settings([misses.Point(32, 1000, 0.99)]), 20
-        lost = hot_keys.losses(words.program, seconds, hot_keys.FLOODS[1:3])
-        return [misses.table(points, runs.each(points)), hot_keys.table(lost, seconds)]
+        lost = misses.losses(words.program, seconds, misses.FLOODS[1:3])
+        return [misses.table(points, runs.each(points)), misses.table_of_losses(lost, seconds)]
     kinds = misses.curve()
     results = runs.each([point for points in kinds for point in points])
-    lost = hot_keys.table(hot_keys.losses(words.program))
+    lost = misses.table_of_losses(misses.losses(words.program))
     tables = [misses.table(points, results) for points in kinds]
     if words.write:
         misses.draw(results, f"{TOP}/docs/misses.svg")

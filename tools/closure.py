@@ -2,7 +2,8 @@
 """Finds what a reader has to know of a contract: each definition of the repository's specs on which its clauses rest.
 
     tools/closure.py [FILE:FUNCTION ..]     lists them; with no contract those of docs/HEADLINE.md
-    tools/closure.py fill                   writes the definitions' texts into docs/HEADLINE.md, and says what lacks an entry; status 1
+    tools/closure.py fill                   writes the definitions' texts into docs/HEADLINE.md;
+                                            says with status 1 what lacks an entry
 
 FILE stands below crates (group/src/run.rt), FUNCTION is a name, or TYPE::NAME in a trait or an impl; behind it may stand #CLAUSE, the
 name of the only clause to show. A clause's names

@@ -76,7 +76,9 @@ class Crate:
         for file, old, new in pairs:
             if now.get(file, "").count(old) != 1:
                 raise Misplaced(f"{old!r} stands {now.get(file, '').count(old)} times in {file}, and not once")
-            found.append(self.function_at(file, now[file][: now[file].index(old)].count("\n")))
+            row = now[file][: now[file].index(old)].count("\n")
+            found.append(next((it for it in reversed(self.functions)
+                               if it.file == file and it.first <= row <= it.last), None))
             now[file] = now[file].replace(old, new)
         if now == self.texts:
             raise Misplaced("it changes nothing")
@@ -89,9 +91,6 @@ class Crate:
         if len(set(found)) > 1 or not found[0]:
             raise Misplaced("it isn't in the body of one function, and has no line '# in: PATH' of the one that must fall")
         return Edit(name, text, pairs, (found[0],), self.can_copy(found[0]))
-
-    def function_at(self, file, row):
-        return next((it for it in reversed(self.functions) if it.file == file and it.first <= row <= it.last), None)
 
     def proofs_of(self, function):
         """The folder of a function's proof files, below the crate's."""

@@ -1,7 +1,7 @@
 #!/usr/bin/env python3
 """Makes docs/EDITS.md from the wrong bodies of crates/NAME/wrong: which the prover refuses, and by whose contract.
 
-    tools/edits.py write    writes the page's tables; says with status 1 where an edit is amiss, or can't be placed
+    tools/edits.py write    writes the page's tables; says with status 1 where an edit is amiss
 
 The first line of an edit is '# CALL: WRONG BODY': the call whose contract it turns, as docs/PROOFS.md names it, and what
 the body does. tools/wrong_bodies.py doesn't read that line.

@@ -70,13 +70,6 @@ def body_of(lines, at, indent):
     return None
 
 
-def top_of(lines, at):
-    """The first line of a function's attributes."""
-    while at > 0 and re.match(r"\s*#\[", lines[at - 1]):
-        at -= 1
-    return at
-
-
 def functions_of(file, text):
     """The functions of a file."""
     lines, owner, trait, until = text.split("\n"), "", "", -1
@@ -87,9 +80,12 @@ def functions_of(file, text):
             owner, trait = owner_of(block["rest"])
         body = head and body_of(lines, at, head["indent"])
         if body:
+            top = at
+            while top > 0 and re.match(r"\s*#\[", lines[top - 1]):
+                top -= 1
             words = frozenset(WORD.findall(NO_CODE.sub("", "\n".join(lines[body[0] : body[1] + 1]))))
             of = (owner, trait) if at < until else ("", "")
-            yield Function(file, file, *of, head["name"], top_of(lines, at), at, *body, words)
+            yield Function(file, file, *of, head["name"], top, at, *body, words)
 
 
 def functions_in(texts):

@@ -99,7 +99,7 @@ for file in tools/tests/test_*.py; do
   [[ " ${untimed[*]} " == *" ${name#test_} "* ]] || part "$file" bash tools/tests.sh "$file"
 done
 part "hostile" python3 tools/hostile.py --program "$program" --late 2 \
-  --only fairness,unread,shared_counters,history,bad_peers,few_descriptors,refused_memory,little_memory,fuzz
+  --only fairness,unread,shared_counters,history,bad_peers,refused_memory,little_memory,fuzz
 
 took="$(((SECONDS - began) / 60)) minutes on $(nproc) processors"
 [ ! -e "$work/failed" ] || sed 's/^ */gate: /' "$work/failed"

@@ -49,8 +49,7 @@ def must_store(client, key, value):
 
 
 def sing(is_over, server):
-    """What the canary does: the rounds, the longest that is not late, and when the late ones began
-    and ended."""
+    """What the canary does: its rounds, the longest in time, and when late ones began and ended."""
     client, rounds, longest, late = Client(server), 0, 0.0, []
     while not is_over.is_set():
         key, value = b"canary-%d" % (rounds % 50), b"value-%d" % rounds
@@ -211,29 +210,8 @@ def bad_peers(is_long):
     return f"{said}, 20 half-closed; {sung[0]}"
 
 
-def few_descriptors(_):
-    """A limit on open files: those beyond aren't served, and the server serves again once there are some."""
-    with serve("--workers", "2", limits={resource.RLIMIT_NOFILE: 64}) as server:
-        first, crowd = Client(server), [server.connect() for _ in range(150)]
-        time.sleep(1)
-        must_store(first, b"few", b"x")
-        for peer in crowd:
-            peer.close()
-
-        def is_served():
-            try:
-                return Client(server, 2).get(b"few") == b"x"
-            except (OSError, EOFError):
-                return False
-
-        must(comes_true(is_served), "nobody is served after the limit was met")
-        server.must_run()
-        return "at 64 open files the others go on, and new ones are served once there are some"
-
-
 def refused_session(name):
-    """A session's requests, each with the answers that it may be given if one request for memory
-    was refused."""
+    """Requests, each with the answers that it may be given if one request for memory is refused."""
     value = b"v" * 480
     return [
         (put(name, value), [STORED]),
@@ -263,8 +241,7 @@ def check_refused(session, got):
 
 
 def refused_memory(_):
-    """Each request for memory refused in turn, in a served run: sessions may be cut or told so, no
-    wrong answer comes."""
+    """Each request for memory refused in turn: sessions may be cut or told so, none is wrong."""
     ways = collections.Counter()
     with tempfile.TemporaryDirectory() as folder:
         for refusal, environment in served.refusals("REFUSE_NTH", folder):
@@ -307,8 +284,7 @@ def one_refusal(environment):
 
 
 def eight_at_once(server, task):
-    """Runs the task eight times at once, each with its number and a client of its own: what they
-    give."""
+    """What a task gives that runs eight times at once, each with its number and a client."""
     return served.together(lambda part=part: task(part, Client(server, 60)) for part in range(8))
 
 
@@ -450,7 +426,7 @@ PARTS = {
     "fairness": lambda _: waits.fairness(PROGRAM),
     "unread": lambda _: waits.unread(PROGRAM),
     **{it.__name__: it for it in (
-        shared_counters, bad_peers, few_descriptors, history, little_memory, refused_memory,
+        shared_counters, bad_peers, history, little_memory, refused_memory,
         large_use, fuzz)},
 }
 

@@ -134,13 +134,6 @@ SUITES = {"memcached": memcached, "fast": fast, "pymemcache": pymemcache, "memcc
           "monitors": monitors.watch}
 
 
-def numbers_of(word):
-    """Of `3-5,8,end` each."""
-    for part in word.split(","):
-        first, _, last = part.partition("-")
-        yield from map(str, range(int(first), int(last) + 1)) if last else [first]
-
-
 def read_expected():
     """By test its sentence; each has to stand in its page."""
     expected, sentence = {}, None
@@ -150,9 +143,12 @@ def read_expected():
             if found[2] not in " ".join(read(f"{TOP}/docs/{found[1]}.md").split()):
                 raise Trouble(f"docs/{found[1]}.md doesn't say: {found[2]}")
         elif line.strip() and not line.startswith("#"):
-            name, *numbers = line.split()
-            for it in numbers_of(numbers[0]) if numbers else [""]:
-                expected[f"{name} {it}".rstrip()] = sentence
+            # (of `3-5,8,end` each)
+            name, _, numbers = line.partition(" ")
+            for part in numbers.split(","):
+                first, _, last = part.partition("-")
+                for it in range(int(first), int(last) + 1) if last else [first]:
+                    expected[f"{name} {it}".rstrip()] = sentence
     return expected
 
 

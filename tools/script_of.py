@@ -114,7 +114,7 @@ class Proxy:
         self.words, self.observer, self.begun, self.ended = words, observer, 0, 0
 
     async def run(self):
-        """Ends when it is interrupted, when all sessions have come and gone, or with its trouble."""
+        """Ends when it is interrupted, when all sessions have come and gone, or with a fault."""
         self.is_over, self.trouble = asyncio.Event(), None
         for number in (signal.SIGINT, signal.SIGTERM):
             asyncio.get_running_loop().add_signal_handler(number, self.is_over.set)
@@ -212,8 +212,7 @@ class Cutter:
 
 
 def question(line, length, has_end):
-    """What is sent to the program for a line: one that would suppress its reply is changed, and the
-    data are zeros."""
+    """What the program is sent for a line: it suppresses no reply, and its data are zeros."""
     if not line.endswith(b"\r\n"):
         return line + b"\r\n"
     if not length:
@@ -300,8 +299,8 @@ def run_record(words):
     sys.stdout.write(script.text())
     if words.answers:
         # (by worker and then session, as `segcached replay` prints them)
-        lines = sorted((script.worker_of(it), it, f"{answers[it].hex() or '-'}\n") for it in answers)
-        pathlib.Path(words.answers).write_text("".join("%d %d %s" % it for it in lines))
+        rows = sorted((script.worker_of(it), it, answers[it].hex() or "-") for it in answers)
+        pathlib.Path(words.answers).write_text("".join("%d %d %s\n" % it for it in rows))
 
 
 def run_refused(words):

@@ -69,7 +69,7 @@ class Process:
 
     def __init__(self, words, environment=None, limits=None, stderr=subprocess.PIPE):
         def begin():
-            # (what runs these may ignore them, as a shell's background does, and a child would, too)
+            # (what runs these may ignore them, as a shell's background does, and so would a child)
             for number in (signal.SIGHUP, signal.SIGINT):
                 signal.signal(number, signal.SIG_DFL)
             for what, most in (limits or {}).items():
@@ -108,8 +108,7 @@ class Process:
         self.stop()
 
     def errors(self):
-        """What it wrote to standard error, up to its end, if that is a pipe of ours; without the
-        first lines of a server."""
+        """What it wrote to standard error, if that is our pipe, without a server's first lines."""
         said = self.process.stderr.read() if self.process.stderr else ""
         return re.sub(r"\A(segcached: (--listen|takes|warning:) .*\n)+", "", said)
 
@@ -243,15 +242,15 @@ def ended(*words, seconds=60, **how):
 
 
 def compiled(name, folder, *words):
-    """Compiles a C file of tools into a folder with these words of gcc: the path of what it made."""
+    """Compiles a C file of tools into a folder with these words of gcc: gives the path."""
     made, source = f"{folder}/{name}", f"{TOP}/tools/{name}.c"
     subprocess.run(["gcc", "-O2", "-Wall", "-Wextra", "-o", made, source, *words], check=True)
     return made
 
 
 def refusals(kind, folder):
-    """Numbers, each with the environment of a run in which the request of this kind with that number
-    is refused: REFUSE_NTH for memory, REFUSE_THREAD for threads. In the last one nothing is."""
+    """Numbers, each with the environment of a run in which the request with that number is refused:
+    for memory by REFUSE_NTH, for a thread by REFUSE_THREAD. In the last run there is none."""
     shim, note = compiled("refuse_nth", folder, "-shared", "-fPIC", "-ldl"), f"{folder}/refused"
     for number in itertools.count(1):
         variables = {"LD_PRELOAD": shim, kind: str(number), "REFUSED_FILE": note}
@@ -290,8 +289,7 @@ def comes_true(holds, seconds=10):
 
 
 def together(calls):
-    """What these calls give, which run at once, each in a thread of its own. What the first one
-    raised is raised."""
+    """What these calls give, each in a thread of its own; raises what the first one raised."""
     calls = list(calls)
     with concurrent.futures.ThreadPoolExecutor(len(calls)) as pool:
         return [it.result() for it in [pool.submit(call) for call in calls]]

@@ -107,7 +107,7 @@ class LoadProgram:
     def words(self, server, words):
         return [self.path, "127.0.0.1", str(server.port), *map(str, words)]
 
-    def run(self, server, *words, seconds=None):
+    def run(self, server, *words, seconds=120):
         """The figures of its last line, and the server's processor microseconds a request."""
         before, words = server.processor_seconds(), self.words(server, words)
         try:
@@ -169,19 +169,16 @@ class Speed:
         words = ["--workers", workers, *sizes, *options]
         return Server(kind, *map(str, words), environment=tuned)
 
-    def run(self, server, *words):
-        return self.load.run(server, *words, seconds=120)
-
     def run_load(self, server, load):
         """One run, for a second at least if it has a rate."""
         seconds = max(self.seconds, 1) if load.has_rate() else self.seconds
         words = ["--seconds", seconds, *load.shape(), *load.words]
         if not load.beside:
-            return self.run(server, *words)
+            return self.load.run(server, *words)
         asked = self.load.words(server, [*BESIDE, "--seconds", seconds + 0.2])
         with subprocess.Popen(asked, stdout=subprocess.DEVNULL) as beside:
             time.sleep(0.1)
-            figures = self.run(server, *words)
+            figures = self.load.run(server, *words)
             if beside.wait(120):
                 raise Trouble(f"{load.name}: the large replies aren't read")
         return figures
@@ -201,9 +198,9 @@ class Speed:
                 chosen = () if is_default else options
                 server = until.enter_context(self.started(kind, workers, megabytes, options=chosen))
                 servers[kind, is_default] = server
-                self.run(server, "--fill", "--pipeline", 16, *loads[0].shape())
+                self.load.run(server, "--fill", "--pipeline", 16, *loads[0].shape())
                 if beside:
-                    self.run(server, "--fill", *BESIDE_KEYS)
+                    self.load.run(server, "--fill", *BESIDE_KEYS)
             return {it.name: self.run_all(servers, it) for it in loads}
 
     def run_all(self, servers, load):
@@ -240,8 +237,8 @@ class Speed:
         for _ in range(self.rounds):
             for kind, size in self.shuffled(longest):
                 with self.started(kind, 1, PAUSE_MIB, size) as server:
-                    self.run(server, "--fill", "--pipeline", 16, *shape)
-                    longest[kind, size].append(self.run(server, *words, *shape)["most"] / 1000)
+                    self.load.run(server, "--fill", "--pipeline", 16, *shape)
+                    longest[kind, size].append(self.load.run(server, *words, *shape)["most"] / 1000)
         return longest
 
     def idle(self):

@@ -39,8 +39,7 @@ class Beside:
 
 
 def note_late(is_over, late, noted):
-    """When this thread, which sleeps for a hundredth of a second again and again, woke so many
-    seconds late."""
+    """When this thread, which sleeps for 10 ms again and again, woke so many seconds late."""
     while not is_over.is_set():
         began = time.monotonic()
         time.sleep(0.01)
@@ -75,8 +74,7 @@ def own_standstills(late):
 
 
 class Standstills(Beside):
-    """Notes when a processor of the machine stood still, as a virtual one does while its host has
-    other work."""
+    """Notes when a processor stood still, as a virtual one does while its host has other work."""
 
     def __init__(self, late=0.1):
         super().__init__(watch, late)

@@ -195,8 +195,7 @@ def read_fast(server, key, load):
 
 
 def send_malformed(server, key, load):
-    """Each connection sends a line for which it is closed, and goes on until it is; then another
-    one comes."""
+    """Each connection sends on behind a line for which it is closed; then another one comes."""
     selector = selectors.DefaultSelector()
 
     def begin():
@@ -324,7 +323,8 @@ def unread_here(program):
     """How others waited; Trouble if it held too much."""
     with Server(program, "--workers", "1", *OPTIONS) as server, server.connect() as reader:
         write(server, b"large", VALUE)
-        read_whole(reader, b"large", VALUE, KEYS)
+        with server.connect() as first:
+            read_whole(first, b"large", VALUE, KEYS)
         for size, _ in READ:
             write(server, b"read-%d" % size, b"v" * size)
         before = server.kilobytes("VmRSS")
@@ -350,8 +350,7 @@ def unread_beside():
 
 
 def unread(program):
-    """What it says; Trouble where they held too much, or another client waited too long in two of
-    three tries."""
+    """What it says; Trouble where they held too much, or others waited too long in two of three."""
     install("memcached")
     asked = f"clients that ask for {KEYS * len(VALUE) / 1e6:.0f} MB each and read nothing"
     return in_two_of_three(lambda: unread_here(program), MOST, unread_beside, asked)[1]

@@ -122,7 +122,8 @@ def words_of(crate, asked):
         words += ["--extern", f"{it}={below.get(it, f'{kit}/rlibs/{it}.rlib')}"]
     for folder in sorted({os.path.dirname(it) for it in below.values()} | {f"{kit}/rlibs"}):
         words += ["-L", f"dependency={folder}"]
-    return [*words, *prove.logic_words(kit), *(word for it in sorted(asked) for word in ("--only", it))]
+    words += prove.logic_words(kit)
+    return [*words, *(word for it in sorted(asked) for word in ("--only", it))]
 
 
 def checked(room):
@@ -224,9 +225,6 @@ class Proofs(threading.Thread):
         found = (IS_PROVED.match(it.rstrip()) for it in self.lines)
         self.names.update(it[1].decode() for it in found if it)
 
-    def has_those_below(self, name):
-        return self.names.issuperset(prove.with_those_below(prove.read_crates(), name) - {name})
-
 
 def at_once(running, is_beside):
     """How many checks may run side by side, of which some run already. Beside proofs one processor is left to them, and memory for one more."""
@@ -267,7 +265,8 @@ class Run:
         """Plans the crates that can be tried now. If the proofs have ended, the others never can."""
         has_ended = not self.proofs or not self.proofs.is_alive()
         for name in list(self.names):
-            if not self.proofs or self.proofs.has_those_below(name):
+            below = prove.with_those_below(prove.read_crates(), name) - {name}
+            if not self.proofs or below <= self.proofs.names:
                 self.plan(Asked(name, self.names.pop(name)))
             elif has_ended:
                 edits = self.names.pop(name) or [it.name for it in edited_copies.Crate(name).edits]

@@ -2,13 +2,13 @@
 """nginx's memcached_pass against a server. Usage: nginx_calls.py PORT|PATH."""
 import os
 import pathlib
-import socket
 import sys
 import tempfile
 import urllib.error
 import urllib.request
 
 from calls import Calls
+from pymemcache.client.base import Client
 from served import OnPort, free_port
 
 CONFIGURATION = """
@@ -33,24 +33,15 @@ def status_and_body(port, path):
         return error.code, b""
 
 
-def store(where, key, value):
-    by_path = where.startswith("/")
-    with socket.socket(socket.AF_UNIX if by_path else socket.AF_INET) as peer:
-        peer.settimeout(10)
-        peer.connect(where if by_path else ("127.0.0.1", int(where)))
-        peer.sendall(b"set %s 0 0 %d\r\n%s\r\n" % (key, len(value), value))
-        return peer.recv(100)
-
-
 where, own, calls, page = sys.argv[1], free_port(), Calls("nginx"), b"<p>page</p>" * 500
 address = f"unix:{where}" if where.startswith("/") else f"127.0.0.1:{where}"
+client = Client(address, timeout=10, default_noreply=False)
 with tempfile.TemporaryDirectory() as folder:
     os.chmod(folder, 0o755)
     configuration = CONFIGURATION.format(folder=folder, own=own, address=address)
     pathlib.Path(f"{folder}/nginx.conf").write_text(configuration, encoding="ascii")
     with OnPort(own, ["nginx", "-p", folder, "-c", f"{folder}/nginx.conf"]):
         calls.check("memcached_pass", lambda: (
-            store(where, b"/page", page), status_and_body(own, "/page")),
-            (b"STORED\r\n", (200, page)))
+            client.set("/page", page), status_and_body(own, "/page")), (True, (200, page)))
         calls.check("a_miss_is_404", lambda: status_and_body(own, "/none")[0], 404)
 calls.report()

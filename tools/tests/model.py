@@ -1,5 +1,5 @@
-"""A model of the cache by lists, which gives back, merges and clears segments by the program's rules,
-and counts what a `stats` is told.
+"""A model of the cache by lists, which gives back, merges and clears segments by the program's
+rules, and counts what a `stats` is told.
 
 It is written from the rules of segments alone (docs/OPERATIONS.md tells them in a user's words): it
 has lists where the program has bytes, and walks where the program has tables.
@@ -56,8 +56,7 @@ def width_and_lower_end(bucket):
 
 
 def deadline_of(exptime, now, is_lenient):
-    """The moment that an exptime asks for; None if it asks for none. Leniently one of 32 bits may be
-    negative."""
+    """The moment that an exptime asks for, if any. Leniently one of 32 bits may be negative."""
     if is_lenient and 1 << 31 <= exptime < 1 << 32:
         return -1
     return None if exptime == 0 else now + exptime if 0 < exptime <= 2592000 else exptime
@@ -107,8 +106,7 @@ class Item:
 
 
 class Cache:
-    """The cache, by lists: `order` are the segments of chains, as they were opened, but for those
-    that merges moved."""
+    """The cache, by lists: `order` has the segments as opened, but for those that merges moved."""
 
     def __init__(self, segment_size, segments, largest=None, is_lenient=False,
                  is_least_read=False, is_in_place=False, is_exact=False):
@@ -145,8 +143,8 @@ class Cache:
         return True
 
     def opening_moment(self, bucket, now):
-        """With the rule of the least read a multiple of half the bucket's width, but for lives below
-        eight seconds or without end."""
+        """With the rule of the least read a multiple of half the bucket's width, but for lives
+        below eight seconds or without end."""
         if not self.is_least_read or bucket in (0, LASTING):
             return now
         width, _ = width_and_lower_end(bucket)
@@ -237,8 +235,8 @@ class Cache:
         item.segment.hits += 1
 
     def goes_over(self, item, ttl, now):
-        """Whether the item goes over the one of its key, and if so puts it there: by the rule of the
-        least read, or where items have their own deadlines, if both take as many bytes, and the
+        """Whether the item goes over the one of its key, and if so puts it there: by the rule of
+        the least read, or where items have their own deadlines, if both take as many bytes, and the
         item may have the deadline of that segment, or goes in there with its own."""
         there, asked = self.find(item.key, now), None if ttl is None else now + ttl
         if not ((self.is_least_read or self.is_exact) and there and there.size == item.size):
@@ -333,8 +331,8 @@ class Cache:
         return STORED
 
     def join(self, verb, key, value, now):
-        """An `append` or a `prepend`: the flags and the deadline stay, but the deadline is asked for
-        anew if the item is written anew."""
+        """An `append` or a `prepend`: the flags and the deadline stay, but the deadline is asked
+        for anew if the item is written anew."""
         item = self.find(key, now)
         if item is None:
             return NOT_STORED

@@ -5,8 +5,7 @@ import served
 
 
 def ended(program, *words, file="/dev/stdin", script=b"", **how):
-    """The exit status of a replay of a script, or of this file, with these words, and what it wrote
-    on both outputs."""
+    """The exit status of a replay of a script or file, and what it wrote on both outputs."""
     return served.ended(program, "replay", file, *words, seconds=120, input=script, **how)
 
 

@@ -38,8 +38,7 @@ def stepped(serve, tmp_path):
 
 
 def store(server, name):
-    """Stores an item of ten seconds, one that ends at a Unix moment in an hour, and one that ended
-    an hour ago."""
+    """Stores items of ten seconds, until a Unix moment in an hour, and until an hour ago."""
     now = int(time.time())
     for kind, exptime in ((b"ten-", 10), (b"hour-", now + HOUR), (b"past-", now - HOUR)):
         key = kind + name

@@ -1,5 +1,5 @@
-"""How sessions of a served program end: half-closed clients, quitting ones, pieces of exactly a read's
-size, and what they leave."""
+"""How sessions of a served program end: half-closed clients, quitting ones, pieces of exactly a
+read's size, and what they leave."""
 import contextlib
 import signal
 import socket
@@ -41,8 +41,7 @@ def half_closed(server, number):
 
 
 def test_a_client_that_sends_no_more_gets_all_answers_of_a_process_that_stood_still(serve, storage):
-    """Some of them closed their sending half before the process stopped, and some while it stood
-    still."""
+    """Some closed their sending half before the process stopped, some while it stood still."""
     server = serve("--workers", "2", *storage)
     clients = [half_closed(server, number) for number in range(8)]
     for number, (stream, requests, _) in enumerate(clients):
@@ -181,8 +180,7 @@ for number in range(0, count, at_once):
 
 
 def test_sessions_that_came_and_went_leave_no_memory(serve, say):
-    """150,000 of them: with 16 bytes a session it would be 2.4 MB, and with 32 until a limit on
-    silence has passed 4.8 MB."""
+    """With 16 bytes for each of 150,000 it would be 2.4 MB, and with 32 for the silent 4.8 MB."""
     servers, resident = [serve("--workers", "1", *it) for it in ([], ["--idle", "86400"])], []
     # (the first ones take what is kept for later ones)
     for count in (20_000, 150_000):

@@ -40,7 +40,7 @@ PLAIN = [b"plain-%010d" % number for number in range(COUNT)]
 
 
 def microseconds_a_key(server, keys):
-    """The server's processor time for a `set` and a `get` of each key, in pipelines of a hundred."""
+    """The server's processor time for a `set` and a `get` of each key, a hundred at a time."""
     sets = [(put(key, b"x"), STORED) for key in keys]
     gets = [(get(key), hit(key, b"x")) for key in keys]
     pairs = sets + random.Random(1).sample(gets, len(gets))

@@ -150,7 +150,8 @@ def test_lookups_of_expired_items_are_counted(serve):
     """Those of items that are alive and of keys that never had one are not."""
     with serve("--lenient", "--exact-ttls").connect() as stream:
         shown = hit(b"b", b"x")
-        ask(stream, put(b"a", b"x", exptime=1) + put(b"b", b"x") + b"get b c\r\n", 2 * STORED + shown)
+        ask(stream, put(b"a", b"x", exptime=1) + put(b"b", b"x"), 2 * STORED)
+        ask(stream, b"get b c\r\n", shown)
         assert numbers(stream)["get_expired"] == 0
         time.sleep(2.1)
         ask(stream, b"get a\r\nget a b\r\n", END + shown)
@@ -168,16 +169,20 @@ def test_connections_that_are_set_aside_are_counted(serve):
 
 
 def test_failed_accepts_are_no_rejected_connections(serve):
-    """A process of 64 descriptors can't accept 150 connections, which wait in the system's queue."""
+    """A process of 64 descriptors can't accept 150 connections, which wait in the system's queue.
+    The others go on, and new ones are served once there are some."""
     server = serve("--lenient", limits={resource.RLIMIT_NOFILE: 64})
     stream, = opened(server, 1, MISS, END)
-    opened(server, 150)
+    others = opened(server, 150)
     comes_true(lambda: server.descriptors() >= 64)
     # (the next tries come a hundredth of a second after each other)
     time.sleep(0.2)
     found = numbers(stream)
     assert 30 < found["curr_connections"] < 64
     assert (found["rejected_connections"], found["listen_disabled_num"]) == (0, 0)
+    for it in others:
+        it.close()
+    opened(server, 1, MISS, END)
     server.process.kill()
     server.was_stopped = True
     assert "connections can't be accepted" in server.errors()
@@ -209,8 +214,8 @@ def test_what_is_not_stored_as_too_large_is_counted_and_nothing_else(serve):
 
 @pytest.mark.parametrize("words, budget", [([], 64 * MIB), (["--output-memory", str(16 * MIB)], 16 * MIB)], ids=["default", "told"])
 def test_a_worker_keeps_as_much_output_as_it_is_told(serve, words, budget):
-    """Each of forty clients asks for 7.9 MB and takes none, so that its socket takes some four MB. A
-    reply may turn out larger than was likely."""
+    """Each of forty clients asks for 7.9 MB and takes none, so its socket takes some four MB. A reply
+    may turn out larger than was likely."""
     server = serve("--lenient", "--workers", "1", "--segment-size", "1048576", *words)
     write_large(server)
     for _ in range(40):

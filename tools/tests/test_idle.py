@@ -78,8 +78,7 @@ def comes_late(server):
 
 
 def is_silent(server):
-    """A client that sends nothing is closed, and so is one that got all its answers and then sends
-    nothing."""
+    """A client that sends nothing is closed, also once it got all its answers."""
     (silent,), (answered,) = opened(server, 1), opened(server, 1, MISS, END)
     assert silent.recv(1) == answered.recv(1) == b""
 

@@ -97,8 +97,7 @@ def test_strictly_a_block_has_131072_bytes(program):
 
 
 def stopped(server, count, length):
-    """So many connections, each of which sends the first bytes of a value of 1,000,000, as far as
-    the server takes them."""
+    """So many connections, each of which sends as much of a large value as the server takes."""
     streams = opened(server, count)
     for stream in streams:
         stream.setblocking(False)

@@ -8,7 +8,6 @@ import collections
 import random
 import signal
 import socket
-import subprocess
 import sys
 import time
 
@@ -17,8 +16,8 @@ import pytest
 import served
 import tries
 from asking import (
-    BAD_BLOCK, BAD_LINE, DELETED, END, ERROR, NOT_FOUND, NOT_STORED, STORED, TOO_LARGE, TOUCHED,
-    ask, hit, hits, put)
+    BAD_BLOCK, BAD_LINE, DELETED, END, ERROR, MISS, NOT_FOUND, NOT_STORED, STORED, TOO_LARGE,
+    TOUCHED, ask, hit, hits, opened, put)
 from model import VERSION
 from pymemcache.client.base import Client
 from pymemcache.exceptions import MemcacheServerError
@@ -123,8 +122,8 @@ def test_what_clients_write_is_answered_in_its_place(server, sent, answer, close
 
 
 def test_the_version_is_that_of_the_program(program):
-    said = subprocess.run([program, "--version"], capture_output=True, text=True, check=True).stdout
-    assert VERSION == b"VERSION 1.6.0-segcached-%b\r\n" % said.splitlines()[0].split()[1].encode()
+    _, said, _ = served.ended(program, "--version")
+    assert VERSION == b"VERSION 1.6.0-segcached-%b\r\n" % said.split()[1]
 
 
 def test_an_append_gives_a_new_cas_number_and_a_touch_keeps_it(server):
@@ -193,9 +192,7 @@ def test_a_client_that_sends_no_more_is_closed_though_its_last_request_is_silent
 def test_a_large_block_takes_no_memory(program):
     """50 connections send all but the last byte of 8 MiB each, and are then answered."""
     with served.Server(program, "--lenient", "--workers", "1") as server:
-        streams = [server.connect() for _ in range(50)]
-        for stream in streams:
-            ask(stream, b"get none\r\n", END)
+        streams = opened(server, 50, MISS, END)
         before = server.kilobytes("VmRSS")
         for stream in streams:
             stream.sendall(b"set a 0 0 8388608\r\n" + 64 * BLOCK + b"\r")
@@ -246,8 +243,8 @@ print(right, wrong, joined)
 
 
 def test_libmemcached_reads_no_wrong_value_beside_its_appends(server):
-    ran = subprocess.run([sys.executable, "-c", LIBMEMCACHED, str(server.port)], capture_output=True, text=True, timeout=60)
-    assert (ran.returncode, ran.stdout) == (0, "600 0 60\n"), ran.stderr
+    ended = served.ended(sys.executable, "-c", LIBMEMCACHED, str(server.port))
+    assert ended[:2] == (0, b"600 0 60\n"), ended
 
 
 # (each call of the client of the binary protocol would wait for five seconds)
@@ -263,9 +260,9 @@ except pylibmc.Error:
 
 def test_a_client_of_the_binary_protocol_is_told_at_once(server):
     def seconds_until_told():
-        ran = subprocess.run([sys.executable, "-c", LIBMEMCACHED_BINARY, str(server.port)], capture_output=True, text=True, timeout=60)
-        assert ran.stdout.startswith("refused "), (ran.stdout, ran.stderr)
-        return float(ran.stdout.split()[1])
+        ended = served.ended(sys.executable, "-c", LIBMEMCACHED_BINARY, str(server.port))
+        assert ended[1].startswith(b"refused "), ended
+        return float(ended[1].split()[1])
 
     tries.all_in_time(seconds_until_told, 1)
 
@@ -299,14 +296,6 @@ def test_python_memcached_appends_and_deletes_with_a_zero(server):
 
 # ---- many clients behind a proxy
 
-def is_refused(client, key, value):
-    try:
-        client.set(key, value)
-    except MemcacheServerError:
-        return True
-    return False
-
-
 def mixed(port, number, turns):
     """What is seen by one of ten clients of a proxy, which shares its connections among them: the
     first one appends and touches as well, with and without a reply, and sends blocks that are too
@@ -318,9 +307,10 @@ def mixed(port, number, turns):
     for turn in range(turns):
         key = chance.choice(list(values))
         if number == 0 and turn % 20 == 19:
+            with pytest.raises(MemcacheServerError):
+                client.set(key, LARGE_BLOCK)
             # (the value is gone then)
-            was_refused = is_refused(client, key, LARGE_BLOCK) and client.get(key) is None
-            seen["refused" if was_refused else "stored"] += 1
+            seen["refused" if client.get(key) is None else "stored"] += 1
             client.set(key, values[key])
         elif number == 0 and turn % 2:
             client.touch(key, 1000, noreply=True)

@@ -21,8 +21,7 @@ PORT, ASKED = "127.0.0.1:0", b"get a\r\n"
 
 
 def must_not_listen(program, address, cause, status=3, **how):
-    """Status 2 says that the options are wrong, and 3 that the address can't be had. A line feed is
-    shown as two characters."""
+    """Status 2 is for wrong options, 3 for a taken address. A line feed is shown as `\\n`."""
     shown = address.replace("\n", "\\n")
     said = f"fault: cannot listen on {shown}: {cause}\n".encode()
     assert ended(program, "serve", "--listen", address, **how) == (status, b"", said)
@@ -129,8 +128,7 @@ def test_one_for_which_there_is_no_room_is_told_so(full):
     (b"get health\r\n", b"END\r\n"), (b"version\r\n", b"VERSION "), (b"stats\r\n", b"STAT "),
 ], ids=["get health", "version", "stats"])
 def test_probes_get_in_while_it_is_full(full, request_line, answer):
-    """Once as many have come as there are places for, a further one gets in when one of these has
-    gone."""
+    """Once all places are taken a further one gets in when one of the probes has gone."""
     # (they connect, and ask later)
     *probes, last = opened(full[0], PROBES + 1)
     time.sleep(0.2)

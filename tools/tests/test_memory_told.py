@@ -8,8 +8,7 @@ MIB = 1 << 20
 
 
 def said(program, words, under=()):
-    """What a server that is started so writes to standard error until it listens, after the line of
-    its options."""
+    """What a server writes to standard error until it listens, after the line of its options."""
     with served.Server(program, *words, under=under) as server:
         server.process.kill()
         server.was_stopped = True

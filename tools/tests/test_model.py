@@ -95,7 +95,8 @@ def random_request(chance, keys, ttls, longest):
     return b"flush_all", chance.choice((0, 20))
 
 
-# segment size, segments, the largest item if it isn't an eighth, tick, how many keys, TTLs that are asked for, whether it is lenient
+# segment size, segments, the largest item if it isn't an eighth, tick, how many keys, TTLs that are
+# asked for, whether it is lenient
 RUNS = (
     (4096, 8, None, 0, 600, (0,), False),
     (4096, 8, None, 1, 90, (0, 0, 5, 20, 60, 100, 300, -1), True),

@@ -28,8 +28,8 @@ def median_wait_of_newcomers(server):
 
 @pytest.mark.parametrize("before", [0, 3000], ids=["at first", "after many"])
 def test_a_worker_that_sleeps_is_woken_for_newcomers(serve, before):
-    """One that isn't hears of them a tenth of a second later. So does one that never reads the bytes
-    by which it is woken, once some hundreds of them fill its waker."""
+    """One that isn't hears of them a tenth of a second later. So does one that never reads the
+    bytes by which it is woken, once some hundreds of them fill its waker."""
     server = serve("--workers", "1")
     for _ in range(before):
         server.connect().close()
@@ -113,8 +113,7 @@ def test_what_comes_of_a_session_that_was_shut_is_heard(serve):
 
 
 def most_held(server, clients):
-    """How many more streams are open at once while so many sessions are shut, whose clients stay;
-    None if that takes long."""
+    """The most streams that are open beyond one while so many are shut; None if it takes long."""
     opened(server, 1, MISS, END)
     held, began, most = server.descriptors(), time.monotonic(), 0
     for _ in range(clients):

@@ -230,8 +230,7 @@ def test_a_run_with_an_rt_of_another_logic_says_so_in_one_line(tmp_path):
 
 
 def test_a_run_with_little_memory_says_so_in_one_line(tmp_path):
-    """The tools stand in a repository of their own, in which nothing is proved and memory is said
-    to be short."""
+    """The tools stand in a repository in which nothing is proved and memory is said to be short."""
     tools = tmp_path / "tools"
     shutil.copytree(f"{TOP}/tools", tools, ignore=shutil.ignore_patterns("tests"))
     before, after = (tools / "machine.py").read_text().split('"/proc/meminfo"')

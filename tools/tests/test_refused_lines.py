@@ -44,18 +44,15 @@ CASES = by_line({
     TOO_LARGE: [put(b"a", bytes(131_048))],
     UNKNOWN: [
         b"append a 0 0 5\r\nget  \r\n", b"touch a 5\r\n", b"gat 5 a\r\n", b"stats\r\n",
-        b"version\r\n",
-        b"verbosity 1\r\n", b"GET a\r\n", b"ms a 2 F0\r\nhi\r\n", b"\r\n",
+        b"version\r\n", b"verbosity 1\r\n", b"GET a\r\n", b"ms a 2 F0\r\nhi\r\n", b"\r\n",
     ],
 })
 # With --lenient segcached takes some of those, and these are further ones.
 LENIENT_CASES = CASES | by_line({
     None: [
         b"get a \r\n", get_of(8, 36), b"set a 0 0 1 \r\nx\r\n", b"delete a 0\r\n",
-        b"flush_all \r\n",
-        b"append a 0 0 5\r\nget  \r\n", b"touch a 5\r\n", b"gat 5 a\r\n", b"stats\r\n",
-        b"gats -1 a noreply \r\n", b"version\r\n",
-        b"verbosity 1\r\n",
+        b"flush_all \r\n", b"append a 0 0 5\r\nget  \r\n", b"touch a 5\r\n", b"gat 5 a\r\n",
+        b"stats\r\n", b"gats -1 a noreply \r\n", b"version\r\n", b"verbosity 1\r\n",
         b"delete a 0 noreply\r\n", b"delete 0\r\n", b"touch a -1 noreply\r\n", b"stats \r\n",
         b"cache_memlimit 64 noreply\r\n", b"stats items\r\n", b"stats resets\r\n",
         b"lru_crawler metadump all\r\n", get_of(130, 132),

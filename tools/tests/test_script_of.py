@@ -39,8 +39,7 @@ def test_sessions_go_to_the_workers_in_turn(tmp_path):
 
 
 def said_by_proxy(server, words, sessions):
-    """What the tool prints as a proxy in front of a server, through which these sessions go, each
-    with its answers."""
+    """What the tool prints as a proxy through which these sessions with their answers go."""
     words = [*TOOL, *words, "--to", f"127.0.0.1:{server.port}"]
     with subprocess.Popen(words, stdout=subprocess.PIPE, stderr=subprocess.PIPE) as proxy:
         port = int(proxy.stderr.readline().rpartition(b":")[2])

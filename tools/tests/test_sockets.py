@@ -113,8 +113,7 @@ def test_a_thousand_resets_in_the_middle_of_a_request_harm_nobody(serve):
 # ---- waiting
 
 def test_a_lone_client_is_answered_soon_after_a_pause(serve, say, storage):
-    """In some 100 microseconds, on a quiet machine; a storage thread that nobody wakes sleeps for
-    100 milliseconds."""
+    """In some 100 us on a quiet machine; a storage thread that isn't woken sleeps for 100 ms."""
     took = []
     with serve("--workers", "2", *storage).connect() as stream:
         for _ in range(100):

@@ -16,16 +16,15 @@ from served import ended, read_to_end
 from stats_of import numbers, told, wait_for
 
 # What monitors of Debian need of memcached's fields.
-NEEDED = {*COUNTED, *"""pid uptime time version pointer_size rusage_user rusage_system curr_connections
-    total_connections rejected_connections listen_disabled_num threads bytes_read bytes_written
-    limit_maxbytes bytes curr_items evictions reclaimed""".split()}
+NEEDED = {*COUNTED, *"""pid uptime time version pointer_size rusage_user rusage_system
+    curr_connections total_connections rejected_connections listen_disabled_num threads bytes_read
+    bytes_written limit_maxbytes bytes curr_items evictions reclaimed""".split()}
 KINDS = b"get gets set add replace append prepend cas delete incr decr touch gat gats".split()
 TURNS = 400
 
 
 class Counting:
-    """A client that uses keys of its own. A model knows what each request is answered, but for cas
-    numbers, and counts it."""
+    """A client with keys of its own, beside a model that counts its requests."""
 
     def __init__(self, server, number):
         self.stream, self.chance = server.connect(), random.Random(number)

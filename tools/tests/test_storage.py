@@ -65,11 +65,14 @@ def differs(program, number):
     return first != second or first[0] != 0
 
 
-def test_random_scripts_are_answered_alike(program, say):
+def those_that(differ, count):
     with concurrent.futures.ThreadPoolExecutor(8) as threads:
-        different = [number for number, it in enumerate(threads.map(lambda it: differs(program, it), range(SCRIPTS))) if it]
+        return [number for number, it in enumerate(threads.map(differ, range(count))) if it]
+
+
+def test_random_scripts_are_answered_alike(program, say):
+    assert those_that(lambda number: differs(program, number), SCRIPTS) == []
     say(f"{SCRIPTS:,} scripts")
-    assert different == []
 
 
 def test_random_scripts_are_answered_as_by_another_build(program, request):
@@ -78,13 +81,12 @@ def test_random_scripts_are_answered_as_by_another_build(program, request):
     if not other:
         pytest.skip("asked for by --against alone")
 
-    def is_same(number):
+    def are_two(number):
         words, script = random_script(number, [""])
-        return len({replays.ended(it, *words.split(), script=script) for it in (program, other)}) == 1
+        ends = {replays.ended(it, *words.split(), script=script) for it in (program, other)}
+        return len(ends) > 1
 
-    with concurrent.futures.ThreadPoolExecutor(8) as threads:
-        different = [number for number, it in enumerate(threads.map(is_same, range(20_000))) if not it]
-    assert different == []
+    assert those_that(are_two, 20_000) == []
 
 
 # ---- who is woken

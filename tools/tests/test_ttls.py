@@ -2,7 +2,7 @@
 import time
 
 import pytest
-from asking import END, STORED, ask, hit, put
+from asking import END, MISS, STORED, ask, get, hit, opened, put
 from served import read_exactly, together
 
 
@@ -12,8 +12,7 @@ def serve_early_in_a_second(serve):
         time.sleep(1.02 - time.time() % 1)
         second = int(time.time())
         server = serve("--workers", "1")
-        with server.connect() as stream:
-            ask(stream, b"get none\r\n", b"END\r\n")
+        opened(server, 1, MISS, END)
         if time.time() < second + 0.3:
             return server
     return pytest.fail("no server began to serve within a third of a second")
@@ -49,7 +48,7 @@ def test_items_are_hits_until_they_expire_and_then_misses(serve):
         time.sleep(max(0, began + after - time.time()))
         for key, (there_before, gone_from) in entries.items():
             asked, found = time.time(), hit(key, b"x")
-            stream.sendall(b"get %b\r\n" % key)
+            stream.sendall(get(key))
             got = read_exactly(stream, len(END))
             if got != END:
                 got += read_exactly(stream, len(found) - len(got))
@@ -85,11 +84,8 @@ def late_ones(rate, server):
                 sets.append((time.monotonic(), key))
             else:
                 over = [key for at, key in sets if time.monotonic() - at >= 1]
-                if over:
-                    stream.sendall(b"get %b\r\n" % over[-1])
-                    late += stream.recv(100) != END
-                else:
-                    ask(stream, b"get none\r\n", END)
+                stream.sendall(get(over[-1]) if over else MISS)
+                late += stream.recv(100) != END
             time.sleep(1.03 / rate)
     return late
 

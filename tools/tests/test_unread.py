@@ -1,6 +1,8 @@
-"""What waits until there is memory: strict sessions are answered whole, no client that reads is
-closed, and a lenient one that takes nothing is, in the end. (One test takes some fifteen seconds, and
-those of steady readers and of a client that takes nothing ten.)"""
+"""Large answers: what waits until there is memory, what they cost, and what is given back. Strict
+sessions are answered whole, no client that reads is closed, and a lenient one that takes nothing
+is, in the end. (test_store_rows.py has the limit of a lenient answer.)"""
+import concurrent.futures
+import os
 import selectors
 import statistics
 import time
@@ -8,9 +10,10 @@ import time
 import replays
 import tries
 from asking import (
-    ERROR, LARGE, ask, asks_for, get, hit, is_same, opened, put, seconds_to, write_large)
+    END, ERROR, LARGE, MISS, OUT_OF_MEMORY, STORED, ask, asks_for, get, hit, hits, is_same, opened,
+    put, seconds_to, write_large)
 from script_of import Script
-from served import read_exactly, together
+from served import OF_THE_PACKAGE, TUNABLES, comes_true, read_exactly, together
 from stats_of import told
 
 # A request for 60 large values, and its answer of 7.9 MB.
@@ -34,8 +37,7 @@ def test_strict_outputs_above_64_mib_are_whole(program):
 
 
 def read_steadily(streams, each, rate, most):
-    """Reads so many bytes of each at a rate for each of them; how many came whole in this many
-    seconds."""
+    """How many streams give so many bytes each, read at a rate, in this many seconds."""
     left, began = {it: each for it in streams}, time.monotonic()
     for it in streams:
         it.setblocking(False)
@@ -65,8 +67,7 @@ def test_clients_that_read_steadily_are_answered_whole(serve, storage):
 
 
 def waits_until_answered(small, large, seconds):
-    """How long requests of the one waited while the other was answered nothing, or for so many
-    seconds."""
+    """How long the one waited for replies until the other had one, or for so many seconds."""
     waits, until = [seconds_to(small)], time.monotonic() + seconds
     selector = selectors.DefaultSelector()
     selector.register(large, selectors.EVENT_READ)
@@ -76,8 +77,7 @@ def waits_until_answered(small, large, seconds):
 
 
 def beside_stalled(server, count, keys):
-    """Clients of which this many take nothing, one asks for little, and one waits for its
-    answer."""
+    """So many clients that take nothing, one that asks for little, and one that waits."""
     write_large(server)
     stalled = [asks_for(server, keys, 4096) for _ in range(count)]
     small, large = server.connect(), server.connect(30)
@@ -149,8 +149,7 @@ def test_a_client_that_takes_nothing_costs_no_processor(serve, storage, say):
 
 
 def test_what_stands_before_a_large_get_hides_nothing(serve):
-    """Eight clients ask for 60 large values each, behind a line that is no command; others wait no
-    longer for that."""
+    """Others wait no longer for eight that ask for 60 large values behind a line that is none."""
     server = serve("--lenient", *SIZES)
     write_large(server)
     line, answer = b"x\r\n" + MANY, len(ERROR + MANY_HITS)
@@ -170,3 +169,93 @@ def test_what_stands_before_a_large_get_hides_nothing(serve):
             waits.append(seconds_to(small))
             last = time.monotonic()
     assert statistics.median(waits) < 0.06
+
+
+# ---- what large answers cost
+
+def test_a_strict_answer_has_no_limit(serve):
+    """257 hits of 131,000 bytes."""
+    server, wanted = serve(*SIZES), hit(b"large", LARGE, times=257)
+    write_large(server)
+    stream = asks_for(server, 257)
+    assert is_same(read_exactly(stream, len(wanted)), wanted)
+    ask(stream, MISS, END)
+
+
+# How long the others may wait on a quiet machine, and how long they wait there if nobody asks for
+# much, in seconds; and on a busy machine, so many times as long as if nobody asks for much.
+MOST_WAIT, QUIET, ROOM = 0.060, 0.015, 8
+
+
+def longest_wait(server, ask_for_much):
+    """The longest that one of six others waited for an answer meanwhile, in seconds."""
+    def run():
+        longest = 0.0
+        with server.connect() as stream:
+            while not asked.done():
+                longest = max(longest, seconds_to(stream))
+                time.sleep(0.001)
+        return longest
+
+    with concurrent.futures.ThreadPoolExecutor(7) as pool:
+        asked = pool.submit(lambda: (time.sleep(0.1), ask_for_much()))
+        waits = [pool.submit(run) for _ in range(6)]
+        asked.result()
+        return max(it.result() for it in waits)
+
+
+def test_a_get_of_sixteen_thousand_large_values_costs_little(serve, say):
+    """Of 1,988 MiB and 7.9 seconds, if all its hits were written. (memcached's others wait 45 ms.)"""
+    line = get(b"k", 16_000)
+    assert len(line) == 32_005
+    server = serve("--lenient", "--segment-size", "1048576", "--segments", "64")
+
+    def ask_five_times():
+        for _ in range(5):
+            ask(stream, line, OUT_OF_MEMORY)
+
+    def attempt():
+        quiet = longest_wait(server, lambda: time.sleep(0.2))
+        waited = longest_wait(server, ask_five_times)
+        most = MOST_WAIT if quiet <= QUIET else ROOM * quiet
+        said = f"the others waited {waited * 1e3:.0f} ms at most, and without it {quiet * 1e3:.0f}"
+        return waited <= most, said
+
+    with server.connect() as stream:
+        ask(stream, put(b"k", b"k" * 130_000), STORED)
+        said = tries.in_two_of_three(attempt)
+    mebibytes = server.kilobytes("VmHWM") / 1024
+    say(f"at most {mebibytes:.0f} MiB resident, {said}")
+    # (one of its 64 segments is resident)
+    assert mebibytes < 100
+
+
+# ---- what a burst of them took is given back, with the package's settings of the C library
+
+MIB = 1024
+KEYS, VALUE = [b"k%d" % number for number in range(7)], b"v" * 1_000_000
+READERS, REPLIES = 60, 3
+
+
+def read_all(server):
+    """Reads some replies of 7 MB, all asked for at once."""
+    with server.connect(120) as stream:
+        stream.sendall((b"get %b\r\n" % b" ".join(KEYS)) * REPLIES)
+        length = len(b"".join(hits(key, VALUE) for key in KEYS) + b"END\r\n")
+        for _ in range(REPLIES):
+            assert len(read_exactly(stream, length)) == length
+
+
+def test_a_burst_of_large_replies_is_given_back(serve, say):
+    environment = {**os.environ, "GLIBC_TUNABLES": TUNABLES}
+    words = ["--workers", "2", "--segments", "64", *OF_THE_PACKAGE]
+    server = serve(*words, environment=environment)
+    with server.connect() as stream:
+        for key in KEYS:
+            ask(stream, put(key, VALUE), STORED)
+    before = server.kilobytes("VmRSS")
+    together([lambda: read_all(server)] * READERS)
+    kept = lambda: (server.kilobytes("VmRSS") - before) // MIB
+    is_given_back = comes_true(lambda: kept() <= 48, 60)
+    say(f"{kept()} MiB stay")
+    assert is_given_back

@@ -2,14 +2,15 @@
 import pytest
 import replays
 from asking import DELETED, STORED, hit, is_same, put
+from script_of import Script
 
 REQUESTS, PIECE = 2_000, 64
 SETS = 40_000
 
 
-def replayed(program, words, lines):
+def replayed(program, words, script):
     """What each session was given, by its worker; each worker has one session."""
-    printed = replays.printed(program, words, "".join(f"{line}\n" for line in lines).encode())
+    printed = replays.printed(program, words, script.text().encode())
     rows = (line.split(b" ") for line in printed.splitlines())
     return {int(worker): bytes.fromhex(given.decode()) for worker, _, given in rows}
 
@@ -32,19 +33,20 @@ def asked(worker, place):
 def test_each_worker_is_given_the_answers_to_its_requests(program, workers):
     each = REQUESTS // workers
     talks = [[asked(worker, place) for place in range(each)] for worker in range(workers)]
-    lines = [f"open {worker} 1" for worker in range(workers)]
+    script = Script(workers)
+    sessions = [script.open() for _ in talks]
     for at in range(0, each, PIECE):
-        for worker, talk in enumerate(talks):
-            lines.append(f"send {worker} 1 {b''.join(request for request, _ in talk[at:at + PIECE]).hex()}")
+        for session, talk in zip(sessions, talks):
+            script.send(session, b"".join(request for request, _ in talk[at : at + PIECE]))
     wanted = {worker: b"".join(answer for _, answer in talk) for worker, talk in enumerate(talks)}
-    assert replayed(program, f"--workers {workers}", lines) == wanted
+    assert replayed(program, f"--workers {workers}", script) == wanted
 
 
 @pytest.mark.parametrize("evict", ["oldest", "least-read"])
 def test_each_set_is_stored_while_segments_are_merged(program, evict):
     """The keys have eight bytes that look random, and the values a hundred."""
     keys = [(number * 0x9E3779B97F4A7C15 % 2**64).to_bytes(8, "little").hex()[:8] for number in range(SETS)]
-    sets = [put(key.encode(), b"v" * 100) for key in keys]
-    lines = ["open 0 1", *(f"send 0 1 {b''.join(sets[at:at + PIECE]).hex()}" for at in range(0, SETS, PIECE))]
+    script = Script(1)
+    script.send(script.open(), b"".join(put(key.encode(), b"v" * 100) for key in keys))
     words = f"--evict {evict} --segment-size 65536 --segments 64"
-    assert is_same(replayed(program, words, lines), {0: STORED * SETS})
+    assert is_same(replayed(program, words, script), {0: STORED * SETS})

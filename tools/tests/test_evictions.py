@@ -8,10 +8,9 @@ written again goes over its item: one of a segment that was opened at 1,088 and 
 seconds later.
 """
 import pytest
-from asking import END, STORED, hit, is_same
-from replays import given
+from asking import END, STORED, TOUCHED, hit, hits
+from test_store_rows import SMALL, found, key, must_answer, put
 
-EIGHT_SEGMENTS = "--segment-size 4096 --segments 8 "
 # (a segment holds eight items of this size)
 VALUE = b"v" * 476
 LEAST_READ = "--evict least-read"
@@ -40,19 +39,12 @@ RUNS = [
 
 @pytest.mark.parametrize("words, ttl, writes, reads, again, forgotten", RUNS)
 def test_merges_keep_what_was_read(program, words, ttl, writes, reads, again, forgotten):
-    sent, wanted = b"", b""
-    for key in range(1, writes + 1):
-        if key == 65:
-            sent += b"get k001\r\n" * reads
-            wanted += hit(b"k001", VALUE) * reads
-        sent += b"set k%03d 0 %d 476\r\n%b\r\n" % (key, ttl, VALUE)
-        wanted += STORED
-    sent += b"set k%03d 0 %d 476\r\n%b\r\n" % (writes, ttl, VALUE) * again
-    wanted += STORED * again
-    for key in range(1, writes + 1):
-        sent += b"get k%03d\r\n" % key
-        wanted += END if any(first <= key <= last for first, last in forgotten) else hit(b"k%03d" % key, VALUE)
-    assert is_same(given(program, EIGHT_SEGMENTS + words, sent), wanted)
+    numbers = range(1, writes + 1)
+    gone = {number for first, last in forgotten for number in range(first, last + 1)}
+    sets = [(put(key(number), ttl, VALUE), STORED) for number in numbers]
+    rows = [*sets[:64], *[found(1, VALUE)] * reads, *sets[64:], *[sets[-1]] * again]
+    rows += [found(number, None if number in gone else VALUE) for number in numbers]
+    must_answer(program, rows, *SMALL, *words.split())
 
 
 # Nine keys are written, each with a life of its own: eight times its number of seconds. They stand in nine buckets, of which eight have a
@@ -76,10 +68,10 @@ LIVES = [
 
 @pytest.mark.parametrize("words, before, after, touches, forgotten", LIVES)
 def test_the_oldest_or_the_least_read_is_cleared(program, words, before, after, touches, forgotten):
-    sets = [b"set k%d 0 %d 1\r\nx\r\n" % (key, 8 * key) for key in range(1, 10)]
-    read, touch = b"get k1\r\n", b"touch k1 8\r\n"
-    sent = b"".join(sets[:7]) + read * before + sets[7] + read * after + touch * touches + sets[8]
-    wanted = STORED * 7 + hit(b"k1", b"x") * before + STORED + hit(b"k1", b"x") * after + b"TOUCHED\r\n" * touches + STORED
-    sent += b"get k1 k2 k3 k4 k5 k6 k7 k8 k9\r\n"
-    wanted += b"".join(b"VALUE k%d 0 1\r\nx\r\n" % key for key in range(1, 10) if key != forgotten) + END
-    assert given(program, EIGHT_SEGMENTS + words, sent) == wanted
+    keys = [b"k%d" % number for number in range(1, 10)]
+    sets = [(put(it, 8 * number, b"x"), STORED) for number, it in enumerate(keys, 1)]
+    read, touch = (b"get k1\r\n", hit(b"k1", b"x")), (b"touch k1 8\r\n", TOUCHED)
+    rows = [*sets[:7], *[read] * before, sets[7], *[read] * after, *[touch] * touches, sets[8]]
+    shown = b"".join(hits(it, b"x") for it in keys if it != keys[forgotten - 1])
+    rows.append((b"get %b\r\n" % b" ".join(keys), shown + END))
+    must_answer(program, rows, *SMALL, *words.split())

@@ -133,7 +133,7 @@ def unproved(repository, monkeypatch):
     monkeypatch.setattr(prove, "PROOFS", str(repository / "out" / "proofs"))
     monkeypatch.setattr(prove, "LIBRARIES", str(repository / "out" / "proofs" / "libraries"))
     (repository / "out" / "proofs" / "libraries").mkdir(parents=True)
-    (repository / "crates" / "high" / "out" / "high.kept").unlink()
+    shutil.rmtree(repository / "crates" / "high" / "out")
     return repository
 
 

@@ -253,14 +253,17 @@ def waited(server, load):
 
 
 def in_two_of_three(measure, most, beside, said):
-    """What `measure` gives in the last try, and what is said of it, below these words. Trouble
+    """What `measure` gives in the last try, and what is said of it, behind these words. Trouble
     where others waited too long in two of three tries."""
-    def attempt():
-        here = measure()
-        is_fine, words = judged(here, most, beside)
-        return is_fine, (here, f"{said} {words}")
+    seen = []
 
-    return tries.in_two_of_three(attempt)
+    def attempt():
+        seen.append(measure())
+        is_fine, words = judged(seen[-1], most, beside)
+        return is_fine, f"{said} {words}"
+
+    words = tries.in_two_of_three(attempt)
+    return seen[-1], words
 
 
 def fairness_of(program, words):

@@ -14,6 +14,8 @@ from asking import END, MISS, STORED, ask, beside, hit, is_same, opened, put
 from served import comes_true, read_exactly, read_till_closed
 
 VALUE = b"v" * 8000
+# (32 MB)
+OWED_TIMES = 4_000
 
 
 def troubles_of(clients):
@@ -41,32 +43,20 @@ def sends_a_byte_every(server, seconds, until):
             ask(stream, b"", END)
 
 
-def reads_steadily(server, rate, until):
-    """A client that is owed much and reads so many bytes a second isn't closed, though its system's buffers stay almost full. (Its own buffer is
-    small, since Linux tells a peer of new room only once half of that buffer is free.)"""
+def reads(server, seconds, rate, until):
+    """A client that is owed much, and takes so many bytes a second again and again, isn't closed,
+    though it sends nothing and its system's buffers stay almost full. (Its own buffer is small,
+    since Linux tells a peer of new room only once half of that buffer is free.)"""
+    owed, read = hit(b"big", VALUE) * OWED_TIMES, 0
     with server.connect(receive_buffer=65536) as stream:
-        stream.sendall(b"get big\r\n" * 4000)
-        began, read = time.monotonic(), 0
+        stream.sendall(b"get big\r\n" * OWED_TIMES)
+        began = time.monotonic()
         while time.monotonic() < until:
-            time.sleep(0.05)
-            count = int((time.monotonic() - began) * rate) - read
-            assert len(read_exactly(stream, count)) == count
-            assert not is_closed(server, stream)
-            read += count
-
-
-def reads_slowly(server, seconds, until):
-    """A client that is owed answers and takes some of them again and again isn't closed, though it sends nothing."""
-    with server.connect(receive_buffer=65536) as stream:
-        answer, times = hit(b"big", VALUE), 4000
-        stream.sendall(b"get big\r\n" * times)
-        at_a_time = int(times * seconds / (until - time.monotonic())) + 1
-        left = times
-        while left:
-            count = min(left, at_a_time)
-            assert is_same(read_exactly(stream, count * len(answer)), count * answer)
-            left -= count
             time.sleep(seconds)
+            due = min(int((time.monotonic() - began) * rate), len(owed))
+            assert is_same(read_exactly(stream, due - read), owed[read:due])
+            assert not is_closed(server, stream)
+            read = due
 
 
 def comes_late(server):
@@ -119,9 +109,8 @@ def test_who_is_silent_or_reads_nothing_is_closed_and_no_one_else(serve):
         until = time.monotonic() + 4.2
         clients = [(speaks_every, server, seconds, until)
                    for seconds in (0.2, 0.35, 0.45, 0.55, 0.65, 0.75, 0.9)]
-        clients += [(sends_a_byte_every, server, 0.4, until), (reads_slowly, server, 0.3, until)]
-        clients += [(reads_steadily, server, 400_000, until), (comes_late, server),
-                    (is_silent, server)]
+        clients += [(sends_a_byte_every, server, 0.4, until), (reads, server, 0.3, 8e6, until)]
+        clients += [(reads, server, 0.05, 4e5, until), (comes_late, server), (is_silent, server)]
         clients += [(reads_nothing, server, times) for times in (4_000, 100_000)]
         troubles = troubles_of(clients)
         return not troubles, troubles

@@ -1,10 +1,10 @@
 """Reads the wrong bodies of a crate, and writes them into a copy of its folder, many beside one another: for tools/wrong_bodies.py."""
 import collections
-import dataclasses
 import glob
 import os
 import re
 import shutil
+from typing import NamedTuple
 
 import functions
 import prove
@@ -21,8 +21,7 @@ class Misplaced(Exception):
     """Why an edit can't be tried."""
 
 
-@dataclasses.dataclass(frozen=True)
-class Edit:
+class Edit(NamedTuple):
     """A wrong body: its text, what it replaces in which file, the functions that must fall, and whether it is tried in a copy of one."""
 
     name: str
@@ -101,8 +100,7 @@ class Crate:
         return not function.trait and not os.path.exists(f"{self.folder}/{self.proofs_of(function)}/Proof.antt")
 
 
-@dataclasses.dataclass
-class Round:
+class Round(NamedTuple):
     """The edits of one check: those in copies of their functions, and those in their places."""
 
     copied: list

@@ -1,7 +1,7 @@
 """Finds the functions of a crate's sources, in the layout that `rt fmt` gives them: for tools/wrong_bodies.py."""
 import collections
-import dataclasses
 import re
+from typing import NamedTuple
 
 HEAD = re.compile(r"^(?P<indent> *)(?:pub(?:\([^)]*\))? )?(?:(?:const|unsafe|final) )*fn (?P<name>\w+)")
 BLOCK = re.compile(r"^(?P<indent> *)(?:pub(?:\([^)]*\))? )?(?:unsafe )?(?:impl|trait)\b(?P<rest>.*)")
@@ -10,8 +10,7 @@ WORD = re.compile(r"[A-Za-z_]\w*")
 NO_CODE = re.compile(r'//[^\n]*|"(?:[^"\\]|\\.)*"')
 
 
-@dataclasses.dataclass(frozen=True)
-class Function:
+class Function(NamedTuple):
     """A function with a body: its file, the file of its type, that type, the trait of its impl, and its lines, counted from 0: its attributes' first one,
     that of its head, and the first and last of its body."""
 
@@ -98,7 +97,7 @@ def functions_in(texts):
         for it in functions_of(file, text):
             declared = homes.get(it.owner, [])
             is_elsewhere = declared and file not in declared and not it.trait
-            yield dataclasses.replace(it, home=declared[0] if is_elsewhere else file)
+            yield it._replace(home=declared[0] if is_elsewhere else file)
 
 
 def reach_of(functions):

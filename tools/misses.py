@@ -11,12 +11,12 @@ asked at one fixed rate. segcached is measured with the package's options, and w
 """
 import collections
 import concurrent.futures
-import dataclasses
 import math
 import os
 import subprocess
 import tempfile
 import time
+from typing import NamedTuple
 
 from asking import put
 from served import OPTIONS, Client, Memcached, Server, Trouble, together
@@ -37,8 +37,7 @@ SETTINGS = {"default": [], "package": OPTIONS}
 PLAIN = {name: value for name, value in os.environ.items() if name != "GLIBC_TUNABLES"}
 
 
-@dataclasses.dataclass(frozen=True)
-class Timed:
+class Timed(NamedTuple):
     """What keys with TTLs are asked for: the load's word for their TTLs, requests a second, the
     seconds of warming and of counting, and how many of 100 requests are writes and deletes beside
     the writes of keys that were missed."""
@@ -63,8 +62,7 @@ SHORT = Timed("with TTLs", "--ttls", 60_000, 100, 40)
 SITE = Timed("a site", "--long-ttls", 3_000, 5_400, 1_800, sets=10, deletes=1, pipeline=16)
 
 
-@dataclasses.dataclass(frozen=True)
-class Point:
+class Point(NamedTuple):
     """What is measured: MiB of memory, bytes of a value, the law's exponent, and what else."""
 
     memory: int
@@ -116,7 +114,7 @@ Side = collections.namedtuple("Side", "size resident missed rate")
 
 
 def by_settings(points):
-    return [dataclasses.replace(it, setting=setting) for it in points for setting in SETTINGS]
+    return [it._replace(setting=setting) for it in points for setting in SETTINGS]
 
 
 def curve():
@@ -132,7 +130,7 @@ def curve():
 def site(quick):
     """The points of a site: or a minute of a small one."""
     if quick:
-        brief = dataclasses.replace(SITE, rate=30_000, warm=45, count=15)
+        brief = SITE._replace(rate=30_000, warm=45, count=15)
         return by_settings([Point(16, 600, 1.0, timed=brief, segment_size=256 << 10)])
     return by_settings([Point(64, 600, 1.0, timed=SITE, segment_size=MIB)])
 

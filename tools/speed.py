@@ -8,13 +8,13 @@ of the rounds' ratios, for the main figure and the processor time with their qua
 these have 1 between them.
 """
 import contextlib
-import dataclasses
 import os
 import random
 import statistics
 import subprocess
 import tempfile
 import time
+from typing import NamedTuple
 
 from misses import MIB, markdown, plot
 from served import OPTIONS, TUNABLES, Memcached, Server, Trouble, compiled
@@ -33,8 +33,7 @@ BESIDE_KEYS = ("--value", 100_000, "--keys", 500, "--first", 5_000_000)
 BESIDE = (*BESIDE_KEYS, "--connections", 1, "--many", 83)
 
 
-@dataclasses.dataclass(frozen=True)
-class Load:
+class Load(NamedTuple):
     """A load's name and words, and the bytes of a value; whether it also runs with default options,
     what segcached has in place of the package's options, and whether large replies are asked for
     beside it."""

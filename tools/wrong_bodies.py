@@ -36,7 +36,6 @@ A check that the compiler refuses is halved until the bad edit stands alone.
 """
 import argparse
 import concurrent.futures
-import dataclasses
 import glob
 import os
 import re
@@ -45,6 +44,7 @@ import sys
 import tempfile
 import threading
 import time
+from typing import NamedTuple
 
 import edited_copies
 import kept_verdicts
@@ -65,8 +65,7 @@ OPEN = re.compile(r"not proved(; it stands on|$)|no proof: expected answers")
 LOST_NAME = re.compile(r"has no field|is not in scope|has no `|was not admitted|(was|were) not checked")
 
 
-@dataclasses.dataclass(frozen=True)
-class Verdict:
+class Verdict(NamedTuple):
     """What the try of an edit came to, and why."""
 
     word: str
@@ -76,8 +75,7 @@ class Verdict:
         return f"{self.word}: {self.why[:300]}" if self.why else self.word
 
 
-@dataclasses.dataclass
-class Said:
+class Said(NamedTuple):
     """What a check said, its status, and the seconds of a processor that it took."""
 
     text: str

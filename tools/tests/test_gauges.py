@@ -214,8 +214,8 @@ def test_what_is_not_stored_as_too_large_is_counted_and_nothing_else(serve):
 
 @pytest.mark.parametrize("words, budget", [([], 64 * MIB), (["--output-memory", str(16 * MIB)], 16 * MIB)], ids=["default", "told"])
 def test_a_worker_keeps_as_much_output_as_it_is_told(serve, words, budget):
-    """Each of forty clients asks for 7.9 MB and takes none, so its socket takes some four MB. A reply
-    may turn out larger than was likely."""
+    """Each of forty clients asks for 7.9 MB and takes none, so its socket takes some four MB. A
+    reply may turn out larger than was likely."""
     server = serve("--lenient", "--workers", "1", "--segment-size", "1048576", *words)
     write_large(server)
     for _ in range(40):

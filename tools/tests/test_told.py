@@ -221,7 +221,8 @@ def said(program, words, under=()):
 
 
 def most(workers, connections, segments, segment_size, values, reply, output=64):
-    """The sum in MiB, rounded up, with so much output of each worker. (a slot of the index is for an item of 32 bytes in half of the room)"""
+    """The sum in MiB, rounded up, with so much output of each worker. (A slot of the index is for
+    an item of 32 bytes in half of the room.)"""
     slots = 1 << (segments * segment_size // 16 - 1).bit_length()
     store = segments * segment_size * 257 // 256 + 11 * segment_size + slots * 4
     worker = connections * (1024 + 262_144 + 16_384) + (52 + values + 3 * (output + reply)) * MIB
@@ -232,10 +233,12 @@ def most(workers, connections, segments, segment_size, values, reply, output=64)
     (served.OF_THE_PACKAGE + ["--segments", "64"], 1924),
     (served.OF_THE_PACKAGE + ["--segments", "64", "--output-memory", "16777216"], 1588),
     ([], most(2, 1024, 64, 65536, 160, 128)),
-    (["--lenient", "--workers", "8", "--connections", "65536", "--segment-size", "4096"], most(8, 65536, 64, 4096, 40, 8)),
+    ("--lenient --workers 8 --connections 65536 --segment-size 4096".split(),
+     most(8, 65536, 64, 4096, 40, 8)),
     (["--workers", "3", "--output-memory", str(24 * MIB)], most(3, 1024, 64, 65536, 160, 128, 8)),
     (["--output-memory", str(1 << 40)], most(2, 1024, 64, 65536, 160, 128, 1 << 19)),
-], ids=["the package", "with little output", "no options", "many connections", "a budget for three", "the most output"])
+], ids=["the package", "with little output", "no options", "many connections", "a budget for three",
+        "the most output"])
 def test_the_sum_is_told(program, words, wanted):
     assert said(program, words)[0] == TAKES.format(wanted)
 
@@ -251,7 +254,8 @@ exec "$@"
 """
 
 
-@pytest.mark.parametrize("limit, warning", [(600 * MIB, [WARNS.format(600)]), (1924 * MIB, []), ("max", [])])
+@pytest.mark.parametrize("limit, warning", [
+    (600 * MIB, [WARNS.format(600)]), (1924 * MIB, []), ("max", [])])
 def test_a_control_group_with_less_is_warned_of(program, apart, limit, warning):
     """The system's files of limits are replaced for the server alone."""
     group = apart("--mount", "sh", "-c", GROUP, str(limit))

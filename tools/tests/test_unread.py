@@ -205,7 +205,7 @@ def longest_wait(server, ask_for_much):
 
 
 def test_a_get_of_sixteen_thousand_large_values_costs_little(serve, say):
-    """Of 1,988 MiB and 7.9 seconds, if all its hits were written. (memcached's others wait 45 ms.)"""
+    """Of 1,988 MiB and 7.9 seconds, if all hits were written. (memcached's others wait 45 ms.)"""
     line = get(b"k", 16_000)
     assert len(line) == 32_005
     server = serve("--lenient", "--segment-size", "1048576", "--segments", "64")

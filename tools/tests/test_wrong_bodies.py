@@ -1,6 +1,5 @@
 """Tests of tools/wrong_bodies.py over a small crate: which edits it passes, which it fails, and what it keeps. Each of a few checks takes some seconds.
 """
-import dataclasses
 import os
 import re
 import sys
@@ -271,13 +270,13 @@ def test_nothing_is_kept_past_a_change_of_what_the_check_reads(low, kept, path):
 
 
 def test_nothing_is_kept_past_a_change_of_the_edit_or_of_the_tools(low, kept, monkeypatch):
-    assert not kept_verdicts.Kept("low").has(dataclasses.replace(kept, text=kept.text + "# more\n"))
+    assert not kept_verdicts.Kept("low").has(kept._replace(text=kept.text + "# more\n"))
     monkeypatch.setattr(kept_verdicts, "sum_of_tools", lambda: "others")
     assert not kept_verdicts.Kept("low").has(kept)
 
 
 def test_what_changed_during_its_check_is_not_kept(low, kept):
-    again = dataclasses.replace(kept, name="again")
+    again = kept._replace(name="again")
     at = kept_verdicts.Kept("low")
     write(low / "src" / "lib.rt", SOURCE + "\n")
     at.keep([again])

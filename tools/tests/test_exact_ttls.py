@@ -3,12 +3,13 @@
 A row is worked out from the TTL alone: at a moment and a TTL later the item is gone, and until a second before it is there. (The tests that
 wait take sixteen, twelve and six seconds.)
 """
+import collections
 import time
 
 import pytest
 import tries
 from asking import END, NOT_FOUND, NOT_STORED, STORED, TOUCHED, hit
-from served import with_faketime
+from served import Client, with_faketime
 from test_store_rows import IN_PLACE, LENIENT, SHOWN, found, key, must_answer, must_answer_at, put
 
 EXACT = "--exact-ttls"
@@ -153,45 +154,36 @@ def test_24_items_of_each_ttl_live_as_long_less_at_most_a_second(faster, times, 
     def now():
         return time.monotonic() * times
 
-    with faster(times, EXACT).connect() as stream, stream.makefile("rb") as answers:
-        sent, stored, hits, misses = {}, {}, 0, 0
-        for number in range(COUNT):
-            for ttl in ttls:
-                name = b"k-%d-%d" % (ttl, number)
-                sent[name] = now()
-                stream.sendall(b"set %b 0 %d 1\r\nx\r\n" % (name, ttl))
-                assert answers.readline() == STORED
-                stored[name] = now(), ttl
-            time.sleep(1 / COUNT / times)
-        while any(now() < at + ttl + 0.3 for at, ttl in stored.values()):
-            for name, (at, ttl) in stored.items():
-                asked = now()
-                stream.sendall(b"get %b\r\n" % name)
-                is_hit = answers.readline() != END
-                if is_hit:
-                    assert (answers.readline(), answers.readline()) == (b"x\r\n", END)
-                assert not (is_hit and asked >= at + ttl), f"{name} is there {asked - at:.2f} seconds after it was stored"
-                told = now()
-                assert is_hit or told >= sent[name] + ttl - 1, f"{name} is gone {told - sent[name]:.2f} seconds after it was sent"
-                hits, misses = hits + is_hit, misses + (not is_hit)
-            time.sleep(0.05 / times)
-        assert hits > COUNT * len(ttls) and misses > COUNT * len(ttls)
+    client, sent, stored, found = Client(faster(times, EXACT)), {}, {}, collections.Counter()
+    for number in range(COUNT):
+        for ttl in ttls:
+            name = b"k-%d-%d" % (ttl, number)
+            sent[name] = now()
+            assert client.set(name, b"x", exptime=ttl) == b"STORED"
+            stored[name] = now(), ttl
+        time.sleep(1 / COUNT / times)
+    while any(now() < at + ttl + 0.3 for at, ttl in stored.values()):
+        for name, (at, ttl) in stored.items():
+            asked, value, told = now(), client.get(name), now()
+            stays, goes = asked - at, told - sent[name]
+            assert value is None or stays < ttl, f"{name} is there {stays:.2f} seconds after it was stored"
+            assert value or goes >= ttl - 1, f"{name} is gone {goes:.2f} seconds after it was sent"
+            found[value] += 1
+        time.sleep(0.05 / times)
+    assert found.keys() == {b"x", None} and min(found.values()) > COUNT * len(ttls)
 
 
 def passed_in_a_minute(server, times):
     """Of 300 requests within a minute, how many a limit of 100 lets pass; and whether they came within it. It counts each in a counter of a
     minute, which it adds where there is none."""
-    passed, began = 0, time.monotonic()
-    with server.connect() as stream, stream.makefile("rb") as answers:
-        for number in range(300):
-            stream.sendall(b"incr n 1\r\n")
-            count = answers.readline()
-            if count == NOT_FOUND:
-                stream.sendall(b"add n 0 60 1\r\n1\r\n")
-                assert answers.readline() == STORED
-                count = b"1\r\n"
-            passed += int(count) <= 100
-            time.sleep(max(0, began + number * 58 / 300 / times - time.monotonic()))
+    client, passed, began = Client(server), 0, time.monotonic()
+    for number in range(300):
+        count = client.ask(b"incr n 1")
+        if count == b"NOT_FOUND":
+            assert client.set(b"n", b"1", b"add", exptime=60) == b"STORED"
+            count = b"1"
+        passed += int(count) <= 100
+        time.sleep(max(0, began + number * 58 / 300 / times - time.monotonic()))
     return passed, (time.monotonic() - began) * times < 59
 
 

@@ -2,8 +2,8 @@
 import time
 
 import pytest
-from asking import END, MISS, STORED, ask, get, hit, opened, put
-from served import read_exactly, together
+from asking import END, MISS, ask, hit, opened
+from served import Client, together
 
 
 def serve_early_in_a_second(serve):
@@ -23,7 +23,7 @@ def stored_within_a_second(serve):
     of each key: a moment before which it is there, and one from which it isn't. A TTL is rounded
     down, here to 8 or 56 seconds, and one of up to 7 ends with the second."""
     for _ in range(10):
-        stream = serve_early_in_a_second(serve).connect()
+        client = Client(serve_early_in_a_second(serve))
         time.sleep(1.4 - time.time() % 1)
         second = int(time.time())
         entries = {
@@ -33,28 +33,24 @@ def stored_within_a_second(serve):
             b"over": (-1, 0, 0), b"over-unix": (second - 1, 0, 0),
         }
         for key, (exptime, *_) in entries.items():
-            ask(stream, put(key, b"x", exptime=exptime), STORED)
+            assert client.set(key, b"x", exptime=exptime) == b"STORED"
         if time.time() < second + 0.9:
-            return stream, {key: (second + least, second + most)
+            return client, {key: (second + least, second + most)
                             for key, (_, least, most) in entries.items()}
     return pytest.fail("no items were stored within half a second")
 
 
 def test_items_are_hits_until_they_expire_and_then_misses(serve):
     """(Where this process stood still an answer may come too late to show a hit.)"""
-    stream, entries = stored_within_a_second(serve)
+    client, entries = stored_within_a_second(serve)
     began = time.time()
     for after in (0, 4, 11):
         time.sleep(max(0, began + after - time.time()))
         for key, (there_before, gone_from) in entries.items():
-            asked, found = time.time(), hit(key, b"x")
-            stream.sendall(get(key))
-            got = read_exactly(stream, len(END))
-            if got != END:
-                got += read_exactly(stream, len(found) - len(got))
-            assert got in (found, END)
-            assert got == found or time.time() >= there_before, (key, after)
-            assert got == END or asked < gone_from, (key, after)
+            asked, value = time.time(), client.get(key)
+            assert value in (b"x", None)
+            assert value or time.time() >= there_before, (key, after)
+            assert value is None or asked < gone_from, (key, after)
 
 
 def test_the_clock_is_neither_late_nor_early(serve):
@@ -75,18 +71,16 @@ def late_ones(rate, server):
     """A client with this rate of requests a second, sets and gets in turn, and in the middle two of
     one kind: how many items it sees after they expired. An item of up to 7 seconds expires within
     one."""
-    sets, ticks, late = [], 5 * rate, 0
-    with server.connect() as stream:
-        for tick in range(ticks):
-            key = b"tick-%d" % tick
-            if (tick + (tick >= ticks // 2)) % 2 == 0:
-                ask(stream, put(key, b"x", exptime=7), STORED)
-                sets.append((time.monotonic(), key))
-            else:
-                over = [key for at, key in sets if time.monotonic() - at >= 1]
-                stream.sendall(get(over[-1]) if over else MISS)
-                late += stream.recv(100) != END
-            time.sleep(1.03 / rate)
+    client, sets, ticks, late = Client(server), [], 5 * rate, 0
+    for tick in range(ticks):
+        key = b"tick-%d" % tick
+        if (tick + (tick >= ticks // 2)) % 2 == 0:
+            assert client.set(key, b"x", exptime=7) == b"STORED"
+            sets.append((time.monotonic(), key))
+        else:
+            over = [key for at, key in sets if time.monotonic() - at >= 1]
+            late += client.get(over[-1] if over else b"none") is not None
+        time.sleep(1.03 / rate)
     return late
 
 

@@ -36,24 +36,16 @@ def test_strict_outputs_above_64_mib_are_whole(program):
     assert is_same(found, b"".join(b"0 %d %b\n" % (it, given) for it in sessions))
 
 
-def read_steadily(streams, each, rate, most):
-    """How many streams give so many bytes each, read at a rate, in this many seconds."""
-    left, began = {it: each for it in streams}, time.monotonic()
-    for it in streams:
-        it.setblocking(False)
-    while any(left.values()) and time.monotonic() < began + most:
+def comes_whole(stream, count, rate, most):
+    """Whether so many bytes come that are read at this rate, in this many seconds."""
+    began, read = time.monotonic(), 0
+    while read < count and time.monotonic() < began + most:
         time.sleep(0.02)
-        for stream in [it for it in streams if left[it]]:
-            due = rate * (time.monotonic() - began) - (each - left[stream])
-            while due > 0 and left[stream]:
-                try:
-                    got = stream.recv(min(int(due) + 1, 65_536, left[stream]))
-                except BlockingIOError:
-                    break
-                if not got:
-                    return sum(not it for it in left.values())
-                due, left[stream] = due - len(got), left[stream] - len(got)
-    return sum(not it for it in left.values())
+        due = min(int(rate * (time.monotonic() - began)), count) - read
+        if len(read_exactly(stream, due)) < due:
+            break
+        read += due
+    return read == count
 
 
 def test_clients_that_read_steadily_are_answered_whole(serve, storage):
@@ -61,7 +53,7 @@ def test_clients_that_read_steadily_are_answered_whole(serve, storage):
     server = serve("--lenient", *storage, *SIZES)
     write_large(server)
     streams = [asks_for(server, 60) for _ in range(30)]
-    assert read_steadily(streams, len(MANY_HITS), 4e6, 60) == 30
+    assert all(together(lambda it=it: comes_whole(it, len(MANY_HITS), 4e6, 60) for it in streams))
     with server.connect() as stream:
         assert told(stream)["closed_unread"] == "0"
 

@@ -162,9 +162,10 @@ LOADS = {
 
 def send_fast(server, key, load):
     """Sends writes that aren't answered, and reads nothing."""
-    stream, text = server.connect(60), put(key, b"v" * load.size, words=b" noreply")
+    text = put(key, b"v" * load.size, words=b" noreply") * (AT_A_TIME // load.size)
+    stream = server.connect(60)
     while True:
-        stream.sendall(text * (AT_A_TIME // load.size))
+        stream.sendall(text)
 
 
 def read_fast(server, key, load):

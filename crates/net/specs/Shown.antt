@@ -38,6 +38,12 @@ abbrev pub Lists : ℕ → OpenStream → OpenStream → List ℕ → List ℕ �
 Lists session before after ready_before ready_after =
     ready_after ≡ ready_before ++ cond (is_listed before.input) [] (listing session after)
 
+-- A stream that was read goes behind the others if more may be there, but before them while something is ahead of it.
+abbrev pub ListsRead : ℕ → OpenStream → List ℕ → List ℕ → Type 0
+ListsRead session after ready_before ready_after =
+    (length after.stream.ahead ≡ 0 → ready_after ≡ ready_before ++ listing session after)
+    × (0 < length after.stream.ahead → ready_after ≡ listing session after ++ ready_before)
+
 abbrev pub seen_of : OpenStream → Seen
 seen_of o =
     record {

@@ -7,7 +7,7 @@ ghost use Rattle.exchange.specs.Beginnings.{StartsWith};
 ghost use Rattle.exchange.specs.Ends.{ExchangeId};
 ghost use Rattle.net.specs.Seen.{Seen, fresh, then_received, then_sent, then_paused};
 ghost use Rattle.net.specs.Sockets.{IsNewLog};
-ghost use Rattle.net.specs.Shown.{seen_of, Arrives, listing, Lists, IsTakenOff};
+ghost use Rattle.net.specs.Shown.{seen_of, Arrives, listing, Lists, ListsRead, IsTakenOff};
 ghost use Rattle.worker_port.specs.Giving.{MayBeSent, by_system_clock, sent_for};
 
 use crate::read_memory::ReadMemory;
@@ -139,6 +139,7 @@ impl OpenStream {
     /// event.
     fn list(&mut self, session: u64, drains: bool, ready: &mut VecDeque<u64>)
         ensures seen { seen_of self.new ≡ then_paused false (seen_of self.old) }
+        ensures ahead { self.new.stream.ahead ≡ self.old.stream.ahead }
         ensures behind { ready.new.items ≡ ready.old.items ++ listing session self.new }
     {
         if ready.push_back(session).is_err() {
@@ -150,8 +151,24 @@ impl OpenStream {
         }
     }
 
+    /// Puts the stream before those that are to be read, as something is ahead of it. Without memory it waits for
+    /// another event.
+    fn list_first(&mut self, session: u64, drains: bool, ready: &mut VecDeque<u64>)
+        ensures seen { seen_of self.new ≡ then_paused false (seen_of self.old) }
+        ensures ahead { self.new.stream.ahead ≡ self.old.stream.ahead }
+        ensures before { ready.new.items ≡ listing session self.new ++ ready.old.items }
+    {
+        self.input = if ready.push_front(session).is_err() {
+            Input::Waiting
+        } else if drains {
+            Input::Draining
+        } else {
+            Input::Listed
+        };
+    }
+
     /// Tells what is ahead, or reads once, if the stream is to be read, after this many looks for idle sessions. It was taken off
-    /// the list, and goes behind the others if more may be there.
+    /// the list, and goes behind the others if more may be there, but before them while something is ahead.
     pub(crate) fn read(
         &mut self,
         owner: Owner,
@@ -169,7 +186,7 @@ impl OpenStream {
             → Reads owner.dialect (seen_of self.old).received messages rest
             → StartsWith (asks messages) (sent_for sender.now.end.sent session) }
         ensures arrives { Arrives (seen_of self.old) result (seen_of self.new) }
-        ensures behind { ready.new.items ≡ ready.old.items ++ listing session self.new }
+        ensures listed { ListsRead session self.new ready.old.items ready.new.items }
     {
         let input = self.input;
         if let Input::Paused { .. } = input {
@@ -213,7 +230,7 @@ impl OpenStream {
         requires waits { IsTakenOff self.old }
         requires none_ahead { self.old.stream.ahead ≡ [] }
         ensures arrives { Arrives (seen_of self.old) result (seen_of self.new) }
-        ensures behind { ready.new.items ≡ ready.old.items ++ listing session self.new }
+        ensures listed { ListsRead session self.new ready.old.items ready.new.items }
     {
         match self.stream.read(owner, session, sender, scratch) {
             Ok(0) => Reading::Ended,
@@ -251,7 +268,7 @@ impl OpenStream {
         requires waits { IsTakenOff self.old }
         requires none_ahead { self.old.stream.ahead ≡ [] }
         ensures arrives { Arrives (seen_of self.old) result (seen_of self.new) }
-        ensures behind { ready.new.items ≡ ready.old.items ++ listing session self.new }
+        ensures listed { ListsRead session self.new ready.old.items ready.new.items }
     {
         match self
             .stream
@@ -268,18 +285,22 @@ impl OpenStream {
         }
     }
 
-    /// Tells the first piece of what is ahead. The stream goes behind the others if the piece is whole, as it is unless it's the
-    /// last one, or if something was heard of since it was read: more is ahead then, or may have come.
+    /// Tells the first piece of what is ahead. The stream goes before the others if more is ahead, so that all of a
+    /// read is told while it is in the processor's cache. Else it goes behind them if more may have come: it drains,
+    /// the piece is whole, or something was heard of since it was read.
     fn tell(&mut self, session: u64, drains: bool, looks: u64, ready: &mut VecDeque<u64>) -> Reading
         requires waits { IsTakenOff self.old }
         requires some { 0 < length self.old.stream.ahead }
         ensures arrives { Arrives (seen_of self.old) result (seen_of self.new) }
-        ensures behind { ready.new.items ≡ ready.old.items ++ listing session self.new }
+        ensures listed { ListsRead session self.new ready.old.items ready.new.items }
     {
         let Some(piece) = self.stream.next_piece() else {
             return Reading::Gone;
         };
-        if drains | self.has_more | (piece.len() >= MAX_PIECE) {
+        let has_ahead = self.stream.has_ahead();
+        if has_ahead {
+            self.list_first(session, drains, ready);
+        } else if drains | self.has_more | (piece.len() >= MAX_PIECE) {
             self.list(session, drains, ready);
         }
         if matches!(self.output, Output::Free) {

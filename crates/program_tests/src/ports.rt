@@ -19,8 +19,8 @@ const CALLS: usize = 100_000_000;
 /// How many times it is asked where none may come. It waits a little from the 8,192nd on, so more would take long.
 const FEW_CALLS: usize = 10_000;
 
-/// How many whole pieces in a row come of each of some sessions that are read in turn.
-const PIECES_IN_TURN: usize = 40;
+/// How often each of some sessions is read that are read in turn.
+const TURNS: usize = 20;
 
 /// In how many events another client is heard, while one sends all that the port takes.
 const EVENTS_UNTIL_HEARD: usize = 64;
@@ -223,8 +223,8 @@ where
     check_next(rt, port, CALLS, Came::Data(1, 7), "a request");
 }
 
-/// Whole pieces of the sessions from number 1 on come in turn, while each client has sent another one before its last
-/// was read.
+/// The sessions from number 1 on are read in turn, and all of a read comes in a row: one piece of the first read, and
+/// two of each later one, as each client has sent another piece whenever one came.
 fn check_in_turn<R>(rt: &R, alloc: Global, port: &mut AskedPort<R>, fast: &[TcpStream])
 where
     R: Wait + Clock + Abort + Drop,
@@ -233,12 +233,36 @@ where
         send_piece(rt, alloc, client);
         send_piece(rt, alloc, client);
     }
-    for _ in 0..PIECES_IN_TURN {
+    for turn in 0..TURNS {
+        let pieces = if turn == 0 { 1 } else { 2 };
         for (session, client) in (1..=fast.len() as u64).zip(fast) {
-            let whole = Came::Data(session, MAX_PIECE);
-            check_next(rt, port, CALLS, whole, "a whole piece of the next session");
-            send_piece(rt, alloc, client);
+            check_turn(rt, alloc, port, session, client, pieces);
         }
+    }
+}
+
+/// So many whole pieces of the session come in a row, while its client sends another one whenever one came.
+fn check_turn<R>(
+    rt: &R,
+    alloc: Global,
+    port: &mut AskedPort<R>,
+    session: u64,
+    client: &TcpStream,
+    pieces: usize,
+)
+where
+    R: Wait + Clock + Abort + Drop,
+{
+    for _ in 0..pieces {
+        let whole = Came::Data(session, MAX_PIECE);
+        check_next(
+            rt,
+            port,
+            CALLS,
+            whole,
+            "a whole piece of the session whose turn it is",
+        );
+        send_piece(rt, alloc, client);
     }
 }
 

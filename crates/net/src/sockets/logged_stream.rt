@@ -122,6 +122,7 @@ impl<S: Read + Write + Drop> LoggedStream<S> {
         ensures failed { OnErr result (self.new.received.items ≡ self.old.received.items) }
         ensures failed_came { OnErr result (self.new.came.items ≡ self.old.came.items) }
         ensures failed_on { OnErr result (self.new.has_ended ≡ false) }
+        ensures ahead { self.new.ahead ≡ self.old.ahead }
         ensures sent { self.new.sent.items ≡ self.old.sent.items }
         ensures origin { self.new.origin.items ≡ self.old.origin.items }
         ensures exchange { self.new.exchange.value ≡ self.old.exchange.value }
@@ -158,6 +159,8 @@ impl<S: Read + Write + Drop> LoggedStream<S> {
             (λ n. self.new.came.items ≡ self.old.came.items ++ self.new.ahead)) }
         ensures ended { IfOk result (λ came. IfSome came (λ n. self.new.has_ended ≡ (n == 0))) }
         ensures failed { OnErr result ((self.new.came.items ≡ self.old.came.items) × (self.new.has_ended ≡ false)) }
+        ensures failed_ahead { OnErr result (self.new.ahead ≡ self.old.ahead) }
+        ensures lost { result ≡ Ok None → self.new.ahead ≡ self.old.ahead }
         ensures received { self.new.received.items ≡ self.old.received.items }
         ensures sent { self.new.sent.items ≡ self.old.sent.items }
         ensures origin { self.new.origin.items ≡ self.old.origin.items }

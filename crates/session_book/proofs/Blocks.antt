@@ -16,11 +16,11 @@ use Rattle.proto.specs.declared.message.FatalKind.TheVariants as fatal
 use Rattle.proto.specs.declared.storage_line.StoreMode.{StoreMode}
 use Rattle.proto.specs.declared.storage_line.StoreMode.TheVariants as mode
 use Rattle.proto.specs.Answers.{is_ask}
-use Rattle.proto.specs.Grammar.{most_kept, Spells, data_of, fault_of, lenient_words, begins_with}
+use Rattle.proto.specs.Grammar.{most_kept, Spells, fault_of, lenient_words, begins_with}
 use Rattle.proto.specs.Lines.{IsSearched, line_text}
 use Rattle.proto.specs.Needs.{NeedsMore}
 use Rattle.proto.specs.PlainReader.{message_by}
-use Rattle.proto.proofs.Options.{some_is, none_is_some}
+use Rattle.proto.proofs.Options.{some_is, none_is_some, data_of}
 use Rattle.session_book.specs.Input.{InputState, MayDrop, Takes, HoldsMessage}
 use Rattle.session_book.proofs.Inputs.{none_gone, holds_none}
 use Rattle.session_book.proofs.Needing.{needs_one}

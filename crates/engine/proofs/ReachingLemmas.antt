@@ -5,9 +5,13 @@ use mathlib.Core.List.{map-append}
 use native.Mathlib.Decide.{ℕ_discrete}
 use Rattle.std.specs.Prelude.{◌⊎◌}
 use Rattle.proto.specs.declared.message.Reply.{Reply}
+use Rattle.proto.specs.declared.message.Reply.TheVariants.{NoMemory}
+use Rattle.proto.specs.declared.message.Reply.TheVariants as replies
+use Rattle.proto.specs.declared.message.Request.{Request}
 use Rattle.proto.specs.declared.message.Request.TheVariants.{Stats}
 use Rattle.proto.specs.declared.counts.Counts.{Counts}
-use Rattle.proto.specs.Tallies.{no_counts, counted, TellsCounts, CountsFrom, counts_after}
+use Rattle.proto.specs.StatTexts.{IsStats}
+use Rattle.proto.specs.Tallies.{no_counts, counted, CountsFrom, counts_after}
 use Rattle.proto.specs.declared.history.Answered.{Answered}
 use Rattle.proto.specs.ClockAnswers.{GivenAnswer}
 use Rattle.proto.specs.Sizes.{Sizes}
@@ -22,6 +26,10 @@ use Rattle.proto.proofs.HistoryLemmas.{numbered}
 abbrev pub IsStepOf : Sizes → Cache → Answered → Cache → Type 0
 IsStepOf sizes before e after =
     (reply : Reply) × ((reply ≡ e.reply) ⊎ (e.request ≡ Stats)) × Steps sizes before e.moment e.request reply after
+
+-- what a request is told, where these counts stand before it
+abbrev pub TellsCounts : Counts → Request → Reply → Type 0
+TellsCounts c q reply = q ≡ Stats → (reply ≡ NoMemory) ⊎ ((lines : List ℕ) × (reply ≡ replies.Stats lines) × IsStats c lines)
 
 -- a chain with one step more
 pub chain_more : (sizes : Sizes) (before : Cache) (h : List Answered) (caches : List Cache) (e : Answered)

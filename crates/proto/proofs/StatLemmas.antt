@@ -11,7 +11,7 @@ use Rattle.std.proofs.lemmas.List.{append-nil, length-append}
 use Rattle.std.proofs.lemmas.List.Folds.{list_all-append}
 use Rattle.std.proofs.lemmas.Str.Parse.{numerals_by_value, tells_all_ascii_digits}
 use Rattle.proto.specs.declared.counts.Counts.{Counts}
-use Rattle.proto.specs.StatTexts.{stat_bytes, number_bytes, count_lines, is_plain, names_gauge, IsStats}
+use Rattle.proto.specs.StatTexts.{stat_bytes, count_lines, is_plain, names_gauge, IsStats}
 
 -- a byte of a plain word
 abbrev is_plain_byte : ℕ → Bool
@@ -68,12 +68,12 @@ pub gauge_more : (c : Counts) (lines name value : List ℕ) → IsStats c lines 
 gauge_more c lines name value is plain word =
     let line : List ℕ × List ℕ = (name, value) in
     let one : flat_map stat_bytes (line ∷ []) ≡ stat_bytes line = append-nil (stat_bytes line) in
-    let all : flat_map stat_bytes (is.0 ++ line ∷ []) ≡ flat_map stat_bytes is.0 ++ stat_bytes line =
-    flat_map-append stat_bytes is.0 (line ∷ []) ∙ ap (λ (l : List ℕ). flat_map stat_bytes is.0 ++ l) one in
+    let said = count_lines c ++ is.0 in
+    let all : flat_map stat_bytes (said ++ line ∷ []) ≡ flat_map stat_bytes said ++ stat_bytes line =
+    flat_map-append stat_bytes said (line ∷ []) ∙ ap (λ (l : List ℕ). flat_map stat_bytes said ++ l) one in
     let last : list_all (is_line c) (line ∷ []) ≡ true = and_from (is_line c line) true (and_from _ _ plain word) refl in (
       is.0 ++ line ∷ [],
       list_all-append (is_line c) is.0 (line ∷ []) ∙ and_from (list_all (is_line c) is.0) (list_all (is_line c) (line ∷ [])) is.1 last,
-      ap (λ (l : List ℕ). l ++ stat_bytes line) is.2
-          ∙ append_assoc (flat_map number_bytes (count_lines c)) (flat_map stat_bytes is.0) (stat_bytes line)
-          ∙ ap (λ (l : List ℕ). flat_map number_bytes (count_lines c) ++ l) (sym all),
+      ap (λ (l : List ℕ). l ++ stat_bytes line) is.2 ∙ sym all
+          ∙ ap (λ (l : List (List ℕ × List ℕ)). flat_map stat_bytes l) (append_assoc (count_lines c) is.0 (line ∷ [])),
     )

@@ -14,24 +14,19 @@ more n k = (n + k) % 2 ^ 64
 unfoldable pub stat_bytes : List ℕ × List ℕ → List ℕ
 stat_bytes line = codes "STAT " ++ line.0 ++ codes " " ++ line.1 ++ codes "\r\n"
 
-unfoldable pub number_bytes : List ℕ × ℕ → List ℕ
-number_bytes line = stat_bytes (line.0, decimal line.1)
-
-unfoldable pub total_lines : Counts → List (List ℕ × ℕ)
-total_lines c =
-    (codes "cmd_get", more c.gets.hits c.gets.misses) ∷ (codes "cmd_set", more c.sets.hits c.sets.misses)
-    ∷ (codes "cmd_touch", more c.touches.hits c.touches.misses) ∷ (codes "cmd_flush", c.flushes)
-    ∷ (codes "total_items", c.sets.hits) ∷ (codes "cas_badval", c.badvals) ∷ (codes "out_of_memory", c.refused) ∷ []
-
-unfoldable pub tally_lines : List ℕ → Tally → List (List ℕ × ℕ)
-tally_lines name t = (name ++ codes "_hits", t.hits) ∷ (name ++ codes "_misses", t.misses) ∷ []
+unfoldable pub tally_lines : List ℕ → Tally → List (List ℕ × List ℕ)
+tally_lines name t = (name ++ codes "_hits", decimal t.hits) ∷ (name ++ codes "_misses", decimal t.misses) ∷ []
 
 -- the names of counts, each with its number
-unfoldable pub count_lines : Counts → List (List ℕ × ℕ)
+unfoldable pub count_lines : Counts → List (List ℕ × List ℕ)
 count_lines c =
-    total_lines c ++ tally_lines (codes "get") c.gets ++ tally_lines (codes "delete") c.deletes
-    ++ tally_lines (codes "incr") c.incrs ++ tally_lines (codes "decr") c.decrs ++ tally_lines (codes "touch") c.touches
-    ++ tally_lines (codes "cas") c.cas
+    (codes "cmd_get", decimal (more c.gets.hits c.gets.misses))
+    ∷ (codes "cmd_set", decimal (more c.sets.hits c.sets.misses))
+    ∷ (codes "cmd_touch", decimal (more c.touches.hits c.touches.misses)) ∷ (codes "cmd_flush", decimal c.flushes)
+    ∷ (codes "total_items", decimal c.sets.hits) ∷ (codes "cas_badval", decimal c.badvals)
+    ∷ (codes "out_of_memory", decimal c.refused)
+    ∷ (tally_lines (codes "get") c.gets ++ tally_lines (codes "delete") c.deletes ++ tally_lines (codes "incr") c.incrs
+    ++ tally_lines (codes "decr") c.decrs ++ tally_lines (codes "touch") c.touches ++ tally_lines (codes "cas") c.cas)
 
 -- letters, digits, `_`, `.` and `-`
 abbrev pub is_plain : List ℕ → Bool
@@ -46,4 +41,4 @@ names_gauge c name = is_plain name && not (list_any (λ count. bytes_eq name cou
 abbrev pub IsStats : Counts → List ℕ → Type 0
 IsStats c lines = (gauges : List (List ℕ × List ℕ))
     × IsTrue (list_all (λ gauge. names_gauge c gauge.0 && is_plain gauge.1) gauges)
-    × (lines ≡ flat_map number_bytes (count_lines c) ++ flat_map stat_bytes gauges)
+    × (lines ≡ flat_map stat_bytes (count_lines c ++ gauges))

@@ -1,9 +1,9 @@
 //! What requests and their replies count.
 
-ghost use Rattle.std.specs.Prelude.{◌≡◌};
+ghost use Rattle.std.specs.Prelude.{◌≡◌, ◌-◌};
 ghost use Rattle.proto.specs.Stored.{is_no_memory};
 ghost use Rattle.proto.specs.StatTexts.{more};
-ghost use Rattle.proto.specs.Tallies.{counted, counted_by, counted_put, hits_in, misses_in};
+ghost use Rattle.proto.specs.Tallies.{counted, counted_by, told_in};
 ghost use Rattle.proto.specs.Tallies.{no_counts, tallied};
 
 use crate::message::{Reply, Request};
@@ -38,7 +38,7 @@ pub struct Counts {
 
 /// How many keys the reply says to be there, or to have been stored, changed or taken out.
 fn hits_in(reply: &Reply) -> u64
-    ensures { result ≡ hits_in reply.now }
+    ensures { result ≡ (told_in reply.now).hits }
 {
     match reply {
         Reply::Values(hits) => hits.len() as u64,
@@ -49,7 +49,7 @@ fn hits_in(reply: &Reply) -> u64
 
 /// Whether the reply says that the key isn't there, as a number.
 fn misses_in(reply: &Reply) -> u64
-    ensures { result ≡ misses_in reply.now }
+    ensures { result ≡ (told_in reply.now).misses }
 {
     u64::from(matches!(reply, Reply::NotFound))
 }
@@ -70,7 +70,7 @@ impl Tally {
 
     /// Counts a key, by the reply.
     fn count(&mut self, reply: &Reply)
-        ensures { self.new ≡ tallied self.old (hits_in reply.now) (misses_in reply.now) }
+        ensures { self.new ≡ tallied self.old (told_in reply.now).hits (told_in reply.now).misses }
     {
         self.add(hits_in(reply), misses_in(reply));
     }
@@ -103,7 +103,9 @@ impl Counts {
 
     /// Counts a storage command.
     fn count_put(&mut self, reply: &Reply)
-        ensures { self.new ≡ counted_put self.old reply.now }
+        ensures { self.new ≡ record self.old {
+          sets = tallied self.old.sets (told_in reply.now).hits (1 - (told_in reply.now).hits);
+        } }
     {
         let stored = hits_in(reply);
         self.sets.add(stored, 1u64.saturating_sub(stored));

@@ -125,7 +125,7 @@ const GAUGES: usize = Gauge::MergeLongest as usize + 1;
 
 /// Each gauge that is told as a whole number, with its name, in the order in which they are told. Those that memcached tells as
 /// settings come once more, under their names there.
-#[tactic(auto, unfolding(crate::specs::StatTexts::names_gauge, crate::specs::StatTexts::count_lines, crate::specs::StatTexts::total_lines, crate::specs::StatTexts::tally_lines))]
+#[tactic(auto, unfolding(crate::specs::StatTexts::names_gauge, crate::specs::StatTexts::count_lines, crate::specs::StatTexts::tally_lines))]
 pub(crate) fn gauge_names() -> [(Gauge, &'static [u8]); 47]
     ensures { (c : Counts) → IsTrue (list_all (λ row. names_gauge c row.1.now) result) }
 {
@@ -182,7 +182,7 @@ pub(crate) fn gauge_names() -> [(Gauge, &'static [u8]); 47]
 
 /// The names of what a worker tells of itself alone, from its number: how many connections it has, and how many microseconds it
 /// was busy.
-#[tactic(auto, unfolding(crate::specs::StatTexts::names_gauge, crate::specs::StatTexts::count_lines, crate::specs::StatTexts::total_lines, crate::specs::StatTexts::tally_lines))]
+#[tactic(auto, unfolding(crate::specs::StatTexts::names_gauge, crate::specs::StatTexts::count_lines, crate::specs::StatTexts::tally_lines))]
 pub(crate) fn worker_names(worker: usize) -> (&'static [u8], &'static [u8])
     ensures connections { (c : Counts) → IsTrue (names_gauge c result.0.now) }
     ensures busy { (c : Counts) → IsTrue (names_gauge c result.1.now) }

@@ -1,7 +1,7 @@
 //! The lines of a `stats`, as text.
 
 ghost use Rattle.std.specs.Prelude.{◌≡◌, ◌++◌, IsTrue, IfOk, OnOk, decimal, drop, flat_map};
-ghost use Rattle.proto.specs.StatTexts.{stat_bytes, number_bytes, tally_lines, count_lines, is_plain};
+ghost use Rattle.proto.specs.StatTexts.{stat_bytes, tally_lines, count_lines, is_plain};
 ghost use Rattle.proto.specs.StatTexts.{names_gauge, IsStats};
 
 use crate::byte_string::ByteString;
@@ -43,16 +43,15 @@ fn push_line(text: &mut Vec<u8>, name: &[u8], value: &[u8]) -> Result<(), NoMemo
 }
 
 /// Appends the line of a count.
-#[tactic(auto, unfolding(crate::specs::StatTexts::number_bytes))]
 fn push_count(text: &mut Vec<u8>, name: &[u8], n: u64) -> Result<(), NoMemory>
-    ensures { OnOk result (text.new.items ≡ text.old.items ++ number_bytes (name.now, n)) }
+    ensures { OnOk result (text.new.items ≡ text.old.items ++ stat_bytes (name.now, decimal n)) }
 {
     push_line(text, name, Buffer::new().format(n).as_bytes())
 }
 
 /// Appends the line of a count whose name has two parts.
 fn push_part(text: &mut Vec<u8>, name: &[u8], part: &[u8], n: u64) -> Result<(), NoMemory>
-    ensures { OnOk result (text.new.items ≡ text.old.items ++ number_bytes (name.now ++ part.now, n)) }
+    ensures { OnOk result (text.new.items ≡ text.old.items ++ stat_bytes (name.now ++ part.now, decimal n)) }
 {
     text.extend_from_slice(b"STAT ")?;
     text.extend_from_slice(name)?;
@@ -65,7 +64,7 @@ fn push_part(text: &mut Vec<u8>, name: &[u8], part: &[u8], n: u64) -> Result<(),
 
 /// Appends the lines of hits and misses.
 fn push_tally(text: &mut Vec<u8>, name: &[u8], tally: Tally) -> Result<(), NoMemory>
-    ensures { OnOk result (text.new.items ≡ text.old.items ++ flat_map number_bytes (tally_lines name.now tally)) }
+    ensures { OnOk result (text.new.items ≡ text.old.items ++ flat_map stat_bytes (tally_lines name.now tally)) }
 {
     push_part(text, name, b"_hits", tally.hits)?;
     push_part(text, name, b"_misses", tally.misses)?;
@@ -74,7 +73,7 @@ fn push_tally(text: &mut Vec<u8>, name: &[u8], tally: Tally) -> Result<(), NoMem
 
 /// Appends the lines of counts.
 fn push_counts(text: &mut Vec<u8>, counts: &Counts) -> Result<(), NoMemory>
-    ensures { OnOk result (text.new.items ≡ text.old.items ++ flat_map number_bytes (count_lines counts.now)) }
+    ensures { OnOk result (text.new.items ≡ text.old.items ++ flat_map stat_bytes (count_lines counts.now)) }
 {
     push_count(text, b"cmd_get", counts.gets.total())?;
     push_count(text, b"cmd_set", counts.sets.total())?;

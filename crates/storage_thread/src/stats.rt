@@ -1,7 +1,7 @@
 //! What a `stats` shows.
 
-ghost use Rattle.std.specs.Prelude.{◌≡◌, ◌⊎◌, IfOk};
-ghost use Rattle.proto.specs.Tallies.{TellsCounts};
+ghost use Rattle.std.specs.Prelude.{◌≡◌, ◌⊎◌, ℕ, List, IfOk};
+ghost use Rattle.proto.specs.StatTexts.{IsStats};
 
 use engine::StorageEngine;
 use exchange::StorageSignals;
@@ -55,7 +55,7 @@ impl StatsSource {
 
     /// These counts, the gauges, and the lines of each worker, for a worker that asks.
     #[inline(never)]
-    #[tactic(auto, unfolding(proto::specs::StatTexts::names_gauge, proto::specs::StatTexts::count_lines, proto::specs::StatTexts::total_lines, proto::specs::StatTexts::tally_lines))]
+    #[tactic(auto, unfolding(proto::specs::StatTexts::names_gauge, proto::specs::StatTexts::count_lines, proto::specs::StatTexts::tally_lines))]
     fn text<S: StorageEngine, R: Clock>(
         &self,
         rt: &R,
@@ -98,7 +98,8 @@ impl StatsSource {
         request: &Request,
         reply: Reply,
     ) -> Reply
-        ensures tells { TellsCounts counts.now request.now result }
+        ensures tells { request.now ≡ Request.Stats → (result ≡ Reply.NoMemory)
+            ⊎ ((lines : List ℕ) × (result ≡ Reply.Stats lines) × IsStats counts.now lines) }
         ensures same { (reply ≡ result) ⊎ (request.now ≡ Request.Stats) }
     {
         match request {

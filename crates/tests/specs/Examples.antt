@@ -24,7 +24,7 @@ use Rattle.proto.specs.Commands.{Outcome, act}
 use Rattle.proto.specs.declared.history.Answered.{Answered}
 use Rattle.proto.specs.ClockAnswers.{GivenAnswer}
 use Rattle.proto.specs.declared.counts.Counts.{Counts}
-use Rattle.proto.specs.StatTexts.{number_bytes, count_lines}
+use Rattle.proto.specs.StatTexts.{stat_bytes, count_lines}
 use Rattle.proto.specs.Tallies.{no_counts, counted, CountsFrom}
 use Rattle.proto.specs.History.{Legal, session_share, had, asked}
 use Rattle.proto.specs.Buckets.{bucket_of, width_of, life_width, lower_end, shared_deadline, MayLive}
@@ -537,7 +537,7 @@ some_counts gets hits misses =
 
 pub record StatsAre : Type 0 where
   pub told : told_counts session_history (some_counts (codes "1") (codes "1") (codes "0") ++ codes "STAT uptime 5\r\n")
-  pub text : flat_map number_bytes
+  pub text : flat_map stat_bytes
       (count_lines (record no_counts { gets = record { hits = 2; misses = 1 }; sets = record { hits = 1; misses = 0 } }))
       ≡ some_counts (codes "3") (codes "2") (codes "1")
 

@@ -1,9 +1,9 @@
 use Rattle.std.proofs.Common.{append_assoc}
-use Rattle.proto.specs.StatTexts.{stat_bytes, number_bytes}
+use Rattle.proto.specs.StatTexts.{stat_bytes}
 use Rattle.proto.proofs.stats.push_part.Goals as goal
 
 pub returns : goal.returns
-unfolding number_bytes stat_bytes
+unfolding stat_bytes
 returns c =
     rw (
       c.in_ok-extend_from_slice-6.ensures.items,

@@ -7,14 +7,14 @@ use Rattle.proto.proofs.HistoryLemmas.{refuses_more}
 use Rattle.proto.specs.Sizes.{Sizes}
 use Rattle.proto.specs.Steps.{Steps, IsCarriedOut}
 use Rattle.proto.specs.declared.counts.Counts.{Counts}
-use Rattle.proto.specs.Tallies.{no_counts, counted, TellsCounts, counts_after}
+use Rattle.proto.specs.Tallies.{no_counts, counted, counts_after}
 use Rattle.exchange.specs.Ends.{StorageView}
 use Rattle.engine.specs.Reaching.{Reaches}
 use Rattle.storage_thread.specs.Serving.{IsReadSince}
 use Rattle.storage_thread.specs.Keeping.{LeadsKeeping}
 use Rattle.storage_thread.specs.Deadlines.{LeadsAsAsked}
 use Rattle.engine.specs.Deadlines.{IsExactStep}
-use Rattle.engine.proofs.ReachingLemmas.{reaches_more, legal_of, counted_more}
+use Rattle.engine.proofs.ReachingLemmas.{TellsCounts, reaches_more, legal_of, counted_more}
 use Rattle.proto.proofs.Outcomes.{IsGet}
 use Rattle.storage_thread.proofs.Turns.{read_more}
 use Rattle.storage_thread.proofs.Kept.{KeepsStep, keeps_told, refused_told, leads_more}

@@ -11,7 +11,7 @@ use Rattle.proto.specs.Stored.{is_no_memory}
 use Rattle.proto.specs.Sizes.{Sizes}
 use Rattle.proto.specs.Cache.{Cache}
 use Rattle.proto.specs.Commands.{SetsNoDeadline}
-use Rattle.proto.specs.Steps.{Step, touched_by, TouchesEach, IsCarriedOut, Steps}
+use Rattle.proto.specs.Steps.{Step, touched_by, TouchesEach, IsCarriedOut}
 
 -- what a step may be
 abbrev StepBy : Type 1
@@ -47,13 +47,13 @@ touched_undated _ reply sets = refl
 
 -- which is one step
 pub one_step : (sizes : Sizes) (before : Cache) (t : ℕ) (q : Request) (reply : Reply) (after : Cache) → SetsNoDeadline q
-    → Steps sizes before t q reply after → Step sizes before t q reply after
+    → IsCarriedOut (Step sizes t) before q reply after → Step sizes t before q reply after
 one_step sizes before t q reply after sets s =
     let none = touched_undated q s.0 sets in
     let same : (reply ≡ s.0) × (after ≡ s.1) =
-    subst (λ (l : List Touch). TouchesEach (λ old asked given new. Step sizes old t asked given new) s.1 l s.0 reply after) none s.3 in
-    subst (λ (r : Reply). Step sizes before t q r after) (sym same.0)
-    (subst (λ (c : Cache). Step sizes before t q s.0 c) (sym same.1) s.2)
+    subst (λ (l : List Touch). TouchesEach (Step sizes t) s.1 l s.0 reply after) none s.3 in
+    subst (λ (r : Reply). Step sizes t before q r after) (sym same.0)
+    (subst (λ (c : Cache). Step sizes t before q s.0 c) (sym same.1) s.2)
 
 -- the touches that give each of these keys the deadline of an exptime
 abbrev pub touches_of : ℤ → List (List ℕ) → List Touch

@@ -168,7 +168,7 @@ denied m old new found done reply is d =
 pub step_from_handled : {M P S : Type 0} (m : MapOf M P S) (old : Engine M) (t : ℕ) (q : Request) (reply : Reply)
     (new : Engine M)
     → IsHandled m old t q reply new
-    → Step (m.sizes old.map) (cache_in m.entries old) t q reply (cache_in m.entries new)
+    → Step (m.sizes old.map) t (cache_in m.entries old) q reply (cache_in m.entries new)
 step_from_handled m old t q reply new h =
     let done = outcome_at (m.sizes old.map) (cache_in m.entries old) t q in
     elim h.leaves.gives [

@@ -16,30 +16,37 @@ use Rattle.proto.specs.declared.history.Answered.{Answered}
 use Rattle.proto.specs.ClockAnswers.{GivenAnswer}
 use Rattle.proto.specs.Sizes.{Sizes}
 use Rattle.proto.specs.Cache.{Cache, empty_cache}
-use Rattle.proto.specs.Steps.{Steps}
+use Rattle.proto.specs.Steps.{Step, IsCarriedOut}
 use Rattle.proto.specs.History.{max_moment, MomentsFrom, answers_by, Chain, NumbersFrom, worker_share, Legal}
 use Rattle.engine.specs.Reaching.{last_or, last_cache, Reaches}
 use Rattle.proto.proofs.CountLemmas.{share_mine, share_other}
 use Rattle.proto.proofs.HistoryLemmas.{numbered}
 
--- the step of an entry, whatever a `stats` was answered
+-- what a step at a moment may be
+abbrev pub StepAt : Type 1
+StepAt = ℕ → Cache → Request → Reply → Cache → Type 0
+
+-- the steps of an entry, whatever a `stats` was answered
+abbrev pub IsDoneBy : StepAt → Cache → Answered → Cache → Type 0
+IsDoneBy IsStep before e after =
+    (reply : Reply) × ((reply ≡ e.reply) ⊎ (e.request ≡ Stats)) × IsCarriedOut (IsStep e.moment) before e.request reply after
+
 abbrev pub IsStepOf : Sizes → Cache → Answered → Cache → Type 0
-IsStepOf sizes before e after =
-    (reply : Reply) × ((reply ≡ e.reply) ⊎ (e.request ≡ Stats)) × Steps sizes before e.moment e.request reply after
+IsStepOf sizes before e after = IsDoneBy (Step sizes) before e after
+
+-- a chain with the steps of one entry more
+pub chain_more : (IsStep : StepAt) (before : Cache) (h : List Answered) (caches : List Cache) (e : Answered)
+    (after : Cache)
+    → Chain IsStep before h caches → IsDoneBy IsStep (last_cache before caches) e after
+    → Chain IsStep before (h ++ e ∷ []) (caches ++ after ∷ [])
+chain_more IsStep before [] [] e after c s = (s.0, s.1, s.2, tt)
+chain_more IsStep before [] (x ∷ caches) e after c s = absurd c
+chain_more IsStep before (b ∷ h) [] e after c s = absurd c
+chain_more IsStep before (b ∷ h) (x ∷ caches) e after c s = (c.0, c.1, c.2, chain_more IsStep x h caches e after c.3 s)
 
 -- what a request is told, where these counts stand before it
 abbrev pub TellsCounts : Counts → Request → Reply → Type 0
 TellsCounts c q reply = q ≡ Stats → (reply ≡ NoMemory) ⊎ ((lines : List ℕ) × (reply ≡ replies.Stats lines) × IsStats c lines)
-
--- a chain with one step more
-pub chain_more : (sizes : Sizes) (before : Cache) (h : List Answered) (caches : List Cache) (e : Answered)
-    (after : Cache)
-    → Chain sizes before h caches → IsStepOf sizes (last_cache before caches) e after
-    → Chain sizes before (h ++ e ∷ []) (caches ++ after ∷ [])
-chain_more sizes before [] [] e after c s = (s.0, s.1, s.2, tt)
-chain_more sizes before [] (x ∷ caches) e after c s = absurd c
-chain_more sizes before (b ∷ h) [] e after c s = absurd c
-chain_more sizes before (b ∷ h) (x ∷ caches) e after c s = (c.0, c.1, c.2, chain_more sizes x h caches e after c.3 s)
 
 -- the cache after that step is the last one
 pub last_more : (before : Cache) (caches : List Cache) (after : Cache)
@@ -101,7 +108,7 @@ pub reaches_more : (sizes : Sizes) (h : List Answered) (c after : Cache) (m : �
     → e.number ≡ length (worker_share h e.worker) + 1 → Reaches sizes (h ++ e ∷ []) after e.moment
 reaches_more sizes h c after m e r s tells high answer by at next = record {
   caches = r.caches ++ after ∷ [];
-  chain = chain_more sizes (empty_cache 0) h r.caches e after r.chain
+  chain = chain_more (Step sizes) (empty_cache 0) h r.caches e after r.chain
       (subst (λ (z : Cache). IsStepOf sizes z e after) (sym r.cache_is) s);
   cache_is = last_more (empty_cache 0) r.caches after;
   moments_are = timed_on [] 0 h e answer r.moments_are by

@@ -24,12 +24,12 @@ StoresAsAsked sizes before t q reply after =
 
 -- a step that stores its entry so
 abbrev pub IsExactStep : Sizes → ℕ → Cache → Request → Reply → Cache → Type 0
-IsExactStep sizes t before q reply after = Step sizes before t q reply after × StoresAsAsked sizes before t q reply after
+IsExactStep sizes t before q reply after = Step sizes t before q reply after × StoresAsAsked sizes before t q reply after
 
 -- a step, which stores its entry so where deadlines are kept to the second
 abbrev pub IsKeepingStep : Bool → Sizes → ℕ → Cache → Request → Reply → Cache → Type 0
 IsKeepingStep exact sizes t before q reply after =
-    Step sizes before t q reply after × (exact ≡ true → StoresAsAsked sizes before t q reply after)
+    Step sizes t before q reply after × (exact ≡ true → StoresAsAsked sizes before t q reply after)
 
 -- A store that keeps deadlines to the second goes on so, and another one too. Where it does, the request stores its entry as it asks.
 abbrev pub KeepsDeadlines : {E : Type 0} → (E → Sizes) → (E → Cache) → (E → Bool) → E → ℕ → Request → Reply → E → Type 0

@@ -3,6 +3,7 @@ use Rattle.std.specs.Prelude.{◌≡◌, ℕ, ◌≤◌, max, min, List, [], ◌
 use Rattle.proto.specs.declared.history.Answered.{Answered}
 use Rattle.proto.specs.Sizes.{Sizes}
 use Rattle.proto.specs.Cache.{Cache, empty_cache}
+use Rattle.proto.specs.Steps.{Step}
 use Rattle.proto.specs.Tallies.{no_counts, CountsFrom}
 use Rattle.proto.specs.History.{max_moment, MomentsFrom, Chain, NumbersFrom, worker_share}
 
@@ -26,7 +27,7 @@ last_cache before (after ∷ caches) = last_cache after caches
 -- The history is legal, and leads from the empty cache to this cache and this moment.
 pub record Reaches (sizes : Sizes) (history : List Answered) (cache : Cache) (moment : ℕ) : Type 0 where
   pub caches : List Cache
-  pub chain : Chain sizes (empty_cache 0) history caches
+  pub chain : Chain (Step sizes) (empty_cache 0) history caches
   pub cache_is : last_cache (empty_cache 0) caches ≡ cache
   pub moments_are : MomentsFrom [] 0 history
   pub moment_is : last_or 0 (map (λ e. e.moment) history) ≡ moment

@@ -4,7 +4,7 @@ ghost use Rattle.std.specs.Prelude.{◌≡◌, ◌≢◌, ◌≤◌, Bool, [], m
 ghost use Rattle.proto.specs.Stored.{is_no_memory};
 ghost use Rattle.proto.specs.declared.message.Reply.{Reply};
 ghost use Rattle.proto.specs.Commands.{shows_hits};
-ghost use Rattle.proto.specs.Steps.{Steps, touched_by, TouchesEach, IsCarriedOut};
+ghost use Rattle.proto.specs.Steps.{Step, touched_by, TouchesEach, IsCarriedOut};
 ghost use Rattle.proto.specs.History.{max_moment};
 ghost use Rattle.engine.specs.Keeping.{KeepsAll};
 ghost use Rattle.engine.specs.Deadlines.{IsKeepingStep, IsExactStep};
@@ -74,7 +74,8 @@ pub fn carry_out<S: StorageEngine>(store: &mut S, now: u64, request: &mut Reques
     requires not_before { S.moment store.old ≤ now }
     requires in_range { now ≤ max_moment }
     ensures request { request.new ≡ request.old }
-    ensures steps { Steps (S.sizes store.old) (S.cache store.old) now request.old result (S.cache store.new) }
+    ensures steps { IsCarriedOut (Step (S.sizes store.old) now) (S.cache store.old) request.old result
+        (S.cache store.new) }
     ensures sizes { S.sizes store.new ≡ S.sizes store.old }
     ensures moment { S.moment store.new ≡ now }
 

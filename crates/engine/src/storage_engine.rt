@@ -60,7 +60,7 @@ pub trait StorageEngine {
         requires not_before { moment self.old ≤ now }
         requires in_range { now ≤ max_moment }
         ensures request { request.new ≡ request.old }
-        ensures step { Step (sizes self.old) (cache self.old) now request.old result (cache self.new) }
+        ensures step { Step (sizes self.old) now (cache self.old) request.old result (cache self.new) }
         ensures sizes { sizes self.new ≡ sizes self.old }
         ensures moment { moment self.new ≡ now }
 
@@ -78,7 +78,7 @@ pub trait StorageEngine {
     fn touch(&mut self, now: u64, key: &[u8], exptime: i64) -> Reply
         requires not_before { moment self.old ≤ now }
         requires in_range { now ≤ max_moment }
-        ensures step { Step (sizes self.old) (cache self.old) now (Request.Touch (record { key = key.now; exptime = exptime }))
+        ensures step { Step (sizes self.old) now (cache self.old) (Request.Touch (record { key = key.now; exptime = exptime }))
             result (cache self.new) }
         ensures sizes { sizes self.new ≡ sizes self.old }
         ensures moment { moment self.new ≡ now }

@@ -188,7 +188,7 @@ impl<M: StoreMap> StorageEngine for Engine<M> {
         // what the map does beyond what any map does: step by step, and as the map promises it of whole requests
         ensures handled { IsHandled M.LiveMap self.old now request.old result self.new }
         ensures promised { M.promises self.old now request.old result self.new }
-        ensures step { Step (M.sizes self.old.map) (cache_in M.entries self.old) now request.old result
+        ensures step { Step (M.sizes self.old.map) now (cache_in M.entries self.old) request.old result
             (cache_in M.entries self.new) }
         ensures sizes { M.sizes self.new.map ≡ M.sizes self.old.map }
         ensures moment { M.moment self.new.map ≡ now }
@@ -227,7 +227,7 @@ impl<M: StoreMap> StorageEngine for Engine<M> {
             self.new }
         ensures promised { M.promises self.old now (Request.Touch (record { key = key.now; exptime = exptime })) result
             self.new }
-        ensures step { Step (M.sizes self.old.map) (cache_in M.entries self.old) now
+        ensures step { Step (M.sizes self.old.map) now (cache_in M.entries self.old)
             (Request.Touch (record { key = key.now; exptime = exptime })) result (cache_in M.entries self.new) }
         ensures sizes { M.sizes self.new.map ≡ M.sizes self.old.map }
         ensures moment { M.moment self.new.map ≡ now }

@@ -7,8 +7,8 @@ use Rattle.proto.specs.declared.history.Answered.{Answered}
 use Rattle.proto.specs.Sizes.{Sizes}
 use Rattle.proto.specs.Cache.{Cache}
 use Rattle.proto.specs.Reading.{Reads, asks}
+use Rattle.proto.specs.Steps.{Step}
 use Rattle.proto.specs.History.{Chain, session_share}
-use Rattle.engine.specs.Reaching.{last_cache}
 use Rattle.worker_port.specs.Ports.{PortTrace, fed}
 
 -- The one was answered before the other was sent, at one port or at two. A port told the first trace when it was given the answer:
@@ -25,19 +25,13 @@ pub record AnsweredBeforeSent (answering sending : PortTrace) (later : List Answ
   pub unsent : length (asks messages) ≤ further
   pub stands : get_elem? (session_share later sending.worker session) further ≡ some other
 
--- In a history the one comes before the other.
-pub record Precedes (history : List Answered) (one other : Answered) : Type 0 where
+-- In the history the one comes before the other, and a chain leads through both and all entries between them. So the other
+-- is executed on the cache that the one left, or on what the entries between them made of it.
+pub record SeesLeft (sizes : Sizes) (history : List Answered) (one other : Answered) : Type 0 where
   pub before : List Answered
   pub between : List Answered
   pub after : List Answered
   pub stands : history ≡ before ++ one ∷ (between ++ other ∷ after)
-
--- The other is executed on the cache that the one left, or on what the entries between them made of it.
-pub record SeesLeft (sizes : Sizes) (one : Answered) (between : List Answered) (other : Answered) : Type 0 where
   pub found : Cache
-  pub left : Cache
-  pub leaves : Chain sizes found (one ∷ []) (left ∷ [])
   pub caches : List Cache
-  pub leads : Chain sizes left between caches
-  pub new : Cache
-  pub sees : Chain sizes (last_cache left caches) (other ∷ []) (new ∷ [])
+  pub leads : Chain (Step sizes) found (one ∷ (between ++ other ∷ [])) caches

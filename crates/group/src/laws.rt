@@ -7,7 +7,7 @@ ghost use Rattle.proto.specs.History.{Legal};
 ghost use Rattle.exchange.specs.Beginnings.{AreOfOne};
 ghost use Rattle.worker_port.specs.Ports.{PortTrace};
 ghost use Rattle.worker_port.specs.Giving.{HasAskedOnly};
-ghost use Rattle.group.specs.Precedence.{AnsweredBeforeSent, Precedes, SeesLeft};
+ghost use Rattle.group.specs.Precedence.{AnsweredBeforeSent, SeesLeft};
 
 use exchange::{ToldHistory, WorkerBatch};
 use worker_port::laws::order_in_real_time;
@@ -27,7 +27,7 @@ pub fn later_requests_see_earlier_ones(
     ensures sees { (sizes : Sizes) (answering sending : PortTrace) (later : List Answered) (one other : Answered)
         → answering.history ≡ earlier.items → HasAskedOnly sending sender.old.end
         → AreOfOne earlier.items later → Legal sizes later → AnsweredBeforeSent answering sending later one other
-        → (p : Precedes later one other) × SeesLeft sizes one p.between other }
+        → SeesLeft sizes later one other }
 {
     order_in_real_time(sender, earlier)
 }

@@ -100,7 +100,7 @@ others_forgotten sizes new stored key forgotten is (inr h) =
 
 -- a set whose deadline hasn't come, and that is answered as stored, leaves its entry at its key
 set_leaves : (sizes : Sizes) (before after : Cache) (t : ℕ) (p : Put)
-    → has_arrived (deadline_of p.exptime t) t ≡ false → Step sizes before t (Set p) Stored after → SetLeaves t p after
+    → has_arrived (deadline_of p.exptime t) t ≡ false → Step sizes t before (Set p) Stored after → SetLeaves t p after
 set_leaves sizes before after t p waits (inr x) = let e = x.reply_is in absurd (cc e)
 set_leaves sizes before after t p waits (inl x) =
     let found = found_at before t in

@@ -14,7 +14,7 @@ use Rattle.proto.specs.ClockAnswers.{GivenAnswer, IsRead}
 use Rattle.proto.specs.Sizes.{Sizes}
 use Rattle.proto.specs.Cache.{Cache, empty_cache}
 use Rattle.proto.specs.Commands.{shows_hits}
-use Rattle.proto.specs.Steps.{Steps}
+use Rattle.proto.specs.Steps.{Step, IsCarriedOut}
 use Rattle.proto.specs.Tallies.{no_counts, CountsFrom}
 
 -- After these answers of the clock, and this moment, each request has one answer more, and its moment: that answer, up to the
@@ -35,12 +35,12 @@ answers_by told [] = told
 answers_by told (e ∷ history) = answers_by e.clock history
 
 -- The requests are carried out by their steps, one after the other, from the cache before, and these are the caches that they
--- leave. What a `stats` is told isn't the cache's matter.
-abbrev pub Chain : Sizes → Cache → List Answered → List Cache → Type 0
-Chain sizes before [] [] = ⊤
-Chain sizes before (e ∷ history) (after ∷ caches) =
-    (reply : Reply) × ((reply ≡ e.reply) ⊎ (e.request ≡ Stats)) × Steps sizes before e.moment e.request reply after
-    × Chain sizes after history caches
+-- leave. `IsStep` says what a step at a moment is. What a `stats` is told isn't the cache's matter.
+abbrev pub Chain : (ℕ → Cache → Request → Reply → Cache → Type 0) → Cache → List Answered → List Cache → Type 0
+Chain IsStep before [] [] = ⊤
+Chain IsStep before (e ∷ history) (after ∷ caches) =
+    (reply : Reply) × ((reply ≡ e.reply) ⊎ (e.request ≡ Stats))
+    × IsCarriedOut (IsStep e.moment) before e.request reply after × Chain IsStep after history caches
 Chain _ _ _ _ = ⊥
 
 -- the entries are numbered n, n + 1 and so on
@@ -66,7 +66,7 @@ asked history = map (λ e. e.request) history
 pub record Legal (sizes : Sizes) (history : List Answered) : Type 0 where
   pub moments : MomentsFrom [] 0 history
   pub caches : List Cache
-  pub chain : Chain sizes (empty_cache 0) history caches
+  pub chain : Chain (Step sizes) (empty_cache 0) history caches
   pub counts : CountsFrom no_counts history
   pub numbers : (worker place : ℕ) (e : Answered) → get_elem? (worker_share history worker) place ≡ some e → e.number ≡ place + 1
 

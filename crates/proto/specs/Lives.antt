@@ -22,7 +22,7 @@ pub record HasPut (entries : Entries) (p : Put) : Type 0 where
 abbrev pub LivesItsTime : Type 0
 LivesItsTime =
     (sizes : Sizes) (before after : Cache) (t life u : ℕ) (p : Put)
-    → 1 ≤ life → deadline_of p.exptime t ≡ Some (t + life) → Step sizes before t (Set p) Stored after
+    → 1 ≤ life → deadline_of p.exptime t ≡ Some (t + life) → Step sizes t before (Set p) Stored after
     → has_arrived after.pending u ≡ false
     → (u ≡ t → HasPut (found_at after u).entries p)
     × (u + 2 * life_width life ≤ t + min life 8388608 → HasPut (found_at after u).entries p)
@@ -32,5 +32,5 @@ LivesItsTime =
 abbrev pub LivesForGood : Type 0
 LivesForGood =
     (sizes : Sizes) (before after : Cache) (t u : ℕ) (p : Put)
-    → p.exptime ≡ pos 0 → Step sizes before t (Set p) Stored after → has_arrived after.pending u ≡ false
+    → p.exptime ≡ pos 0 → Step sizes t before (Set p) Stored after → has_arrived after.pending u ≡ false
     → HasPut (found_at after u).entries p

@@ -10,7 +10,7 @@ use Rattle.proto.specs.declared.message.Reply.{Reply}
 use Rattle.proto.specs.declared.history.Answered.{Answered}
 use Rattle.proto.specs.ClockAnswers.{GivenAnswer}
 use Rattle.proto.specs.Sizes.{Sizes}
-use Rattle.proto.specs.Steps.{Steps}
+use Rattle.proto.specs.Steps.{Step, IsCarriedOut}
 use Rattle.proto.specs.History.{max_moment, answers_by, worker_share, session_share}
 use Rattle.engine.specs.Reaching.{moments_after, last_or, Reaches}
 use Rattle.engine.proofs.ReachingLemmas.{moments, moment_after, moments_more, answers_more, reaches_more}
@@ -76,8 +76,8 @@ led_more setup h session old new t q reply led x =
     x.moment_is
     ∙ ap (λ (m : ℕ). moment_after m (answer_of old.clock 0)) (sym led.reaches.moment_is)
     ∙ ap (moment_after (last_or 0 (moments h))) next in
-    let steps : Steps setup.sizes old.cache t q x.first new.cache =
-    subst (λ (s : Sizes). Steps s old.cache t q x.first new.cache) led.sizes_are x.steps in
+    let steps : IsCarriedOut (Step setup.sizes t) old.cache q x.first new.cache =
+    subst (λ (s : Sizes). IsCarriedOut (Step s t) old.cache q x.first new.cache) led.sizes_are x.steps in
     let small : old.moment ≤ max_moment = led.reaches.small in
     let at : t ≡ max old.moment (min (answer_of old.clock 0) max_moment) = x.moment_is in
     record {

@@ -10,7 +10,7 @@ use Rattle.proto.specs.declared.message.Message.TheVariants.{Ask, Local, Quit, F
 use Rattle.proto.specs.Sizes.{Sizes}
 use Rattle.proto.specs.Cache.{Cache, cache_code}
 use Rattle.proto.specs.Answers.{answer}
-use Rattle.proto.specs.Steps.{Steps}
+use Rattle.proto.specs.Steps.{Step, IsCarriedOut}
 use Rattle.proto.specs.History.{max_moment}
 use Rattle.script.specs.Clocks.{ClockState, answer_of}
 
@@ -41,7 +41,7 @@ pub record Executes (old : Execution) (t : ℕ) (q : Request) (reply : Reply) (n
   pub first : Reply
   pub same : (first ≡ reply) ⊎ (q ≡ Stats)
   pub uncounted : q ≡ Stats → reply ≡ NoMemory
-  pub steps : Steps old.sizes old.cache t q first new.cache
+  pub steps : IsCarriedOut (Step old.sizes t) old.cache q first new.cache
   pub sizes_stay : new.sizes ≡ old.sizes
   pub last : new.moment ≡ t
   pub later : (n : ℕ) → answer_of new.clock n ≡ answer_of old.clock (n + 1)

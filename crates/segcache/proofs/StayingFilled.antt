@@ -246,7 +246,7 @@ leaves_filled way found after done _ kept other (refuses same) =
 
 -- a request that stores nothing forgets nothing
 unstored : (before after : Engine SegmentMap) (t : ℕ) (q : Request) (reply : Reply)
-    → Step (sizes_in before) (segmented_cache before) t q reply (segmented_cache after)
+    → Step (sizes_in before) t (segmented_cache before) q reply (segmented_cache after)
     → (outcome_at (sizes_in before) (segmented_cache before) t q).stored ≡ None
     → ForgetsNone (sizes_in before) (segmented_cache before) t q reply (segmented_cache after)
 unstored before after t q reply (inr r) none = inl r.reply_is
@@ -264,7 +264,7 @@ unstored before after t q reply (inl x) none =
 
 -- by what a request does to the segments it forgets nothing where they hold little
 pub stays_filled : (before : Engine SegmentMap) (t : ℕ) (q : Request) (reply : Reply) (after : Engine SegmentMap)
-    → Step (sizes_in before) (segmented_cache before) t q reply (segmented_cache after) → after.map.moment ≡ t
+    → Step (sizes_in before) t (segmented_cache before) q reply (segmented_cache after) → after.map.moment ≡ t
     → HandlesSegments before t q reply after
     → StaysFilled before t q reply after
 stays_filled before t q reply after step moment h filled little =

@@ -1,14 +1,15 @@
 -- A history that goes on without forgetting anything.
-use Rattle.std.proofs.Common.{◌≡◌, ◌+◌, List, [], ◌∷◌, ◌++◌, refl, sym, ap, subst, ◌∙◌, inl, inr, arith}
+use Rattle.std.proofs.Common.{◌≡◌, ◌+◌, ◌-◌, ◌*◌, ◌≤◌, All, List, [], ◌∷◌, ◌++◌, refl, sym, ap, subst, ◌∙◌, inl, inr, arith}
 use Rattle.std.specs.Prelude.{◌⊎◌}
 use Rattle.std.specs.List.{AllByRecursion}
 use Rattle.std.proofs.lemmas.List.Elements.{All-from_recursion, recursion_from_All}
 use Rattle.std.proofs.lemmas.List.Sums.{sum_by-append}
 use Rattle.proto.specs.declared.history.Answered.{Answered}
 use Rattle.proto.specs.declared.message.Reply.TheVariants.{NoMemory}
-use Rattle.proto.specs.Sizes.{Sizes}
+use Rattle.proto.specs.Sizes.{Sizes, item_limit}
 use Rattle.proto.specs.Cache.{Cache, empty_cache}
 use Rattle.proto.specs.History.{Chain}
+use Rattle.proto.specs.Steps.{Step}
 use Rattle.proto.specs.Commands.{SetsNoDeadline}
 use Rattle.proto.specs.Stored.{StoredItem, is_no_memory, written}
 use Rattle.std.proofs.Common.{◌∙◌, ℕ, ◌≢◌, Bool, true, false, inl, inr}
@@ -21,18 +22,18 @@ use Rattle.proto.proofs.Outcomes.{IsGet}
 use Rattle.engine.specs.Outcomes.{outcome_at}
 use Rattle.engine.specs.Keeping.{IsWithinBound, stored_in, ForgetsNone}
 use Rattle.engine.specs.Reaching.{last_cache}
-use Rattle.storage_thread.specs.Keeping.{stored_size, stored_bytes, ForgetsNothing, MayForgetNothing, KeepsSoFar, LeadsKeeping}
+use Rattle.storage_thread.specs.Keeping.{stored_bytes, ForgetsNothing, KeepsSoFar, LeadsKeeping}
 use Rattle.storage_thread.specs.Keeping.{MayAlwaysForgetNothing}
 use Rattle.exchange.specs.Beginnings.{StartsWith}
 use Rattle.engine.proofs.ReachingLemmas.{IsStepOf, chain_more, last_more}
 use Rattle.storage_thread.proofs.Undated.{NoneDated, undated_empty, undated_outcome, undated_chain, all_left}
-use Rattle.storage_thread.proofs.Undated.{undated_append, undated_in, written_in, within_bound}
+use Rattle.storage_thread.proofs.Undated.{undated_append, undated_in, stored_size, written_in, within_bound}
 
 -- ---- a longer history
 
 -- what it stores
 bytes_more : (sizes : Sizes) (before : Cache) (h : List Answered) (caches : List Cache) (e : Answered) (after : Cache)
-    → Chain sizes before h caches
+    → Chain (Step sizes) before h caches
     → stored_bytes sizes before (h ++ e ∷ []) (caches ++ after ∷ [])
     ≡ stored_bytes sizes before h caches
     + stored_size (outcome_at sizes (last_cache before caches) e.moment e.request) e.reply
@@ -45,7 +46,7 @@ bytes_more sizes before (b ∷ h) (x ∷ caches) e after c =
 
 -- it forgets nothing
 forgets_more : (sizes : Sizes) (before : Cache) (h : List Answered) (caches : List Cache) (e : Answered) (after : Cache)
-    → Chain sizes before h caches
+    → Chain (Step sizes) before h caches
     → ForgetsNothing sizes before h caches
     → (e.reply ≡ NoMemory)
     ⊎ (after.entries ≡ (outcome_at sizes (last_cache before caches) e.moment e.request).entries)
@@ -127,7 +128,7 @@ keeps_told sizes before e first after old new (inr stats) other keeps items kept
 -- one more step
 keeps_more : (sizes : Sizes) (h : List Answered) (caches : List Cache) (e : Answered) (after : Cache)
     (old new : List StoredItem → Type 0)
-    → Chain sizes (empty_cache 0) h caches → KeepsSoFar sizes h caches old
+    → Chain (Step sizes) (empty_cache 0) h caches → KeepsSoFar sizes h caches old
     → KeepsStep sizes (last_cache (empty_cache 0) caches) e after old new
     → KeepsSoFar sizes (h ++ e ∷ []) (caches ++ after ∷ []) new
 keeps_more sizes h caches e after old new chain so_far step undated within =
@@ -187,6 +188,15 @@ split_last (y ∷ h) (x ∷ b) r e s = on (split_last h b r e (ap tail_of s))
     on (inl t) = inl (λ i. sym first i ∷ t i)
     on (inr (m, t)) = inr (m, λ i. first i ∷ t i)
 
+-- what `MayAlwaysForgetNothing` says of one beginning
+abbrev MayForgetNothing : Sizes → List Answered → Type 0
+MayForgetNothing sizes h =
+    let start = empty_cache 0 in
+    All (λ e. SetsNoDeadline e.request) h
+    → ((caches : List Cache) → Chain (Step sizes) start h caches
+    → stored_bytes sizes start h caches ≤ (sizes.segments - 1) * (sizes.segment_size - item_limit sizes))
+    → (caches : List Cache) × Chain (Step sizes) start h caches × ForgetsNothing sizes start h caches
+
 always_more : (sizes : Sizes) (h : List Answered) (e : Answered) → MayAlwaysForgetNothing sizes h
     → MayForgetNothing sizes (h ++ e ∷ []) → MayAlwaysForgetNothing sizes (h ++ e ∷ [])
 always_more sizes h e was now b (r, is) = pick (split_last h b r e is)
@@ -214,7 +224,7 @@ pub leads_more : (sizes : Sizes) (h : List Answered) (c after : Cache) (e : Answ
     → LeadsKeeping sizes (h ++ e ∷ []) after new
 leads_more sizes h c after e old new l s step =
     let caches = l.caches ++ after ∷ [] in
-    let chain = chain_more sizes (empty_cache 0) h l.caches e after l.chain
+    let chain = chain_more (Step sizes) (empty_cache 0) h l.caches e after l.chain
     (subst (λ (z : Cache). IsStepOf sizes z e after) (sym l.cache_is) s) in
     let kept = keeps_more sizes h l.caches e after old new l.chain l.kept
     (subst (λ (z : Cache). KeepsStep sizes z e after old new) (sym l.cache_is) step) in record {

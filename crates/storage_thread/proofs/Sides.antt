@@ -58,7 +58,7 @@ module _ {S C : Type 0} (cache : S → Cache) (moment : S → ℕ) (sizes : S �
     bounded = λ began. subst (λ (t : Terms). MayAlwaysForgetNothing t.geometry s.end.end.history) i.serving.same.2
         (i.kept began).always;
     dated = λ on. let l = i.dated on in
-        subst (λ (t : Terms). MayStoreAsAsked t.geometry s.end.end.history) i.serving.same.2 (l.caches, l.chain, l.stores);
+        subst (λ (t : Terms). MayStoreAsAsked t.geometry s.end.end.history) i.serving.same.2 (l.caches, l.chain);
     executed = i.counted;
   }
 

@@ -24,7 +24,6 @@ use Rattle.engine.specs.Outcomes.{outcome_at}
 use Rattle.engine.specs.Keeping.{IsWithinBound, stored_in, ForgetsNone}
 use Rattle.engine.specs.Reaching.{last_cache}
 use Rattle.engine.proofs.CarryingLemmas.{one_step}
-use Rattle.storage_thread.specs.Keeping.{stored_size}
 
 -- ---- entries
 
@@ -87,7 +86,7 @@ out_undated false o none = none
 
 -- a step
 pub undated_step : (sizes : Sizes) (before : Cache) (t : ℕ) (q : Request) (reply : Reply) (after : Cache)
-    → Step sizes before t q reply after → SetsNoDeadline q → NoneDated before.entries → NoneDated after.entries
+    → Step sizes t before q reply after → SetsNoDeadline q → NoneDated before.entries → NoneDated after.entries
 undated_step sizes before t q reply after step sets none =
     elim step [
       | inl x ↦
@@ -102,7 +101,7 @@ undated_step sizes before t q reply after step sets none =
 
 -- a chain of steps
 pub undated_chain : (sizes : Sizes) (before : Cache) (h : List Answered) (caches : List Cache)
-    → Chain sizes before h caches → AllByRecursion (λ (e : Answered). SetsNoDeadline e.request) h
+    → Chain (Step sizes) before h caches → AllByRecursion (λ (e : Answered). SetsNoDeadline e.request) h
     → NoneDated before.entries → NoneDated (last_cache before caches).entries
 undated_chain sizes before [] [] chain sets none = none
 undated_chain sizes before [] (x ∷ caches) chain sets none = absurd chain
@@ -170,6 +169,9 @@ stored_at t done None = refl
 stored_at t done (Some key) = item_bytes t key (finite.get done.entries key)
 
 -- the size of the item that a reply leaves stored
+abbrev pub stored_size : Outcome → Reply → ℕ
+stored_size done reply = if is_no_memory reply then 0 else option_map_or (size_at done.entries) done.stored 0
+
 by_reply : (t : ℕ) (done : Outcome) (reply : Reply)
     → written (if is_no_memory reply then [] else item_stored t done done.stored) ≡ stored_size done reply
 by_reply t done NoMemory = refl

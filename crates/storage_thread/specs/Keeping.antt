@@ -1,29 +1,26 @@
 -- Histories in which nothing is forgotten, since little is stored.
-use Rattle.std.specs.Prelude.{◌≡◌, ℕ, ◌+◌, ◌-◌, ◌*◌, ◌≤◌, ◌⊎◌, ⊤, List, ◌∷◌, All, None}
+use Rattle.std.specs.Prelude.{◌≡◌, ℕ, ◌+◌, ◌-◌, ◌*◌, ◌≤◌, ◌⊎◌, ⊤, List, ◌∷◌, All, None, if◌then◌else◌}
 use Rattle.std.specs.List.{AllByRecursion}
 use Rattle.std.specs.Option.{option_map_or}
 use Rattle.proto.specs.declared.history.Answered.{Answered}
-use Rattle.proto.specs.declared.message.Reply.{Reply}
 use Rattle.proto.specs.declared.message.Reply.TheVariants.{NoMemory}
 use Rattle.proto.specs.Sizes.{Sizes, item_limit}
 use Rattle.proto.specs.Cache.{Cache, empty_cache}
 use Rattle.proto.specs.Buckets.{bucket_of}
-use Rattle.proto.specs.Commands.{Outcome, SetsNoDeadline}
-use Rattle.proto.specs.Steps.{size_at}
+use Rattle.proto.specs.Commands.{SetsNoDeadline}
+use Rattle.proto.specs.Steps.{size_at, Step}
 use Rattle.proto.specs.History.{Chain}
-use Rattle.proto.specs.Stored.{StoredItem, written}
+use Rattle.proto.specs.Stored.{StoredItem, is_no_memory, written}
 use Rattle.exchange.specs.Beginnings.{StartsWith}
 use Rattle.engine.specs.Outcomes.{outcome_at}
 use Rattle.engine.specs.Reaching.{last_cache}
 
--- the size of the item that a request stores, 0 where there is none
-abbrev pub stored_size : Outcome → Reply → ℕ
-stored_size done NoMemory = 0
-stored_size done _ = option_map_or (size_at done.entries) done.stored 0
-
+-- the sizes of the items that requests store, in sum; one that is refused memory stores none
 abbrev pub stored_bytes : Sizes → Cache → List Answered → List Cache → ℕ
 stored_bytes sizes before (e ∷ history) (after ∷ caches) =
-    stored_size (outcome_at sizes before e.moment e.request) e.reply + stored_bytes sizes after history caches
+    let done = outcome_at sizes before e.moment e.request in
+    (if is_no_memory e.reply then 0 else option_map_or (size_at done.entries) done.stored 0)
+    + stored_bytes sizes after history caches
 stored_bytes _ _ _ _ = 0
 
 abbrev pub ForgetsNothing : Sizes → Cache → List Answered → List Cache → Type 0
@@ -32,20 +29,15 @@ ForgetsNothing sizes before (e ∷ history) (after ∷ caches) =
     × ForgetsNothing sizes after history caches
 ForgetsNothing _ _ _ _ = ⊤
 
--- If no request sets a deadline, and each chain stores no more than all segments but one hold, each less the size of a largest
--- item, then some chain forgets nothing.
-abbrev pub MayForgetNothing : Sizes → List Answered → Type 0
-MayForgetNothing sizes history =
-    let start = empty_cache 0 in
-    All (λ e. SetsNoDeadline e.request) history
-    → ((caches : List Cache) → Chain sizes start history caches
-    → stored_bytes sizes start history caches ≤ (sizes.segments - 1) * (sizes.segment_size - item_limit sizes))
-    → (caches : List Cache) × Chain sizes start history caches × ForgetsNothing sizes start history caches
-
--- so it is of each beginning of the history
+-- Of each beginning of the history: if no request sets a deadline, and each chain stores no more than all segments but
+-- one hold, each less the size of a largest item, then some chain forgets nothing.
 abbrev pub MayAlwaysForgetNothing : Sizes → List Answered → Type 0
 MayAlwaysForgetNothing sizes history =
-    (beginning : List Answered) → StartsWith history beginning → MayForgetNothing sizes beginning
+    let start = empty_cache 0 in
+    (beginning : List Answered) → StartsWith history beginning → All (λ e. SetsNoDeadline e.request) beginning
+    → ((caches : List Cache) → Chain (Step sizes) start beginning caches
+    → stored_bytes sizes start beginning caches ≤ (sizes.segments - 1) * (sizes.segment_size - item_limit sizes))
+    → (caches : List Cache) × Chain (Step sizes) start beginning caches × ForgetsNothing sizes start beginning caches
 
 -- Where no request set a deadline, and what was stored is within the bound, nothing was forgotten so far, and a store keeps
 -- items of as many bytes, none of which has a deadline.
@@ -62,7 +54,7 @@ KeepsSoFar sizes history caches keeps =
 pub record LeadsKeeping (sizes : Sizes) (history : List Answered) (cache : Cache)
     (keeps : List StoredItem → Type 0) : Type 0 where
   pub caches : List Cache
-  pub chain : Chain sizes (empty_cache 0) history caches
+  pub chain : Chain (Step sizes) (empty_cache 0) history caches
   pub cache_is : last_cache (empty_cache 0) caches ≡ cache
   pub kept : KeepsSoFar sizes history caches keeps
   pub always : MayAlwaysForgetNothing sizes history

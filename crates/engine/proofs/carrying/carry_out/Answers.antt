@@ -25,8 +25,8 @@ returns-in-Some-clause-steps g c =
     let each : TouchesEach keeping next (touches_of exptime keys) shown c.touch_each.result after =
     subst (λ (e : ℤ). TouchesEach keeping next (touches_of e keys) shown c.touch_each.result after) (to_z-of_z w64 exptime fits)
     c.touch_each.ensures.touched in
-    carried_touches keeping (λ old asked given new. Step (m.sizes c.args.store.now) old c.args.now asked given new)
-    (λ old asked given new step. subst (λ (z : Sizes). Step z old c.args.now asked given new) c.handle-shown.ensures.sizes step.0)
+    carried_touches keeping (Step (m.sizes c.args.store.now) c.args.now)
+    (λ old asked given new step. subst (λ (z : Sizes). Step z c.args.now old asked given new) c.handle-shown.ensures.sizes step.0)
     (m.cache c.args.store.now) next q (touches_of exptime keys) shown c.touch_each.result after c.handle-shown.ensures.step is each
 
 pub returns-in-Some-clause-deadlines : goal.returns-in-Some-clause-deadlines
@@ -46,7 +46,7 @@ returns-in-Some-clause-deadlines g c on =
     subst (λ (e : ℤ). TouchesEach keeping next (touches_of e keys) shown c.touch_each.result after) (to_z-of_z w64 exptime fits)
     c.touch_each.ensures.touched in
     carried_touches keeping (IsExactStep (m.sizes c.args.store.now) c.args.now) (λ old asked given new step. (
-      subst (λ (z : Sizes). Step z old c.args.now asked given new) c.handle-shown.ensures.sizes step.0,
+      subst (λ (z : Sizes). Step z c.args.now old asked given new) c.handle-shown.ensures.sizes step.0,
       subst (λ (z : Sizes). StoresAsAsked z old c.args.now asked given new) c.handle-shown.ensures.sizes
           (step.1 (c.handle-shown.ensures.deadlines.0 ∙ on)),
     )) (m.cache c.args.store.now) next q (touches_of exptime keys) shown c.touch_each.result after
@@ -57,7 +57,7 @@ returns-in-None-clause-steps g c =
     let m = g.S.StorageEngine in
     let none : touched_by c.args.request.now c.handle-shown.result ≡ [] =
     subst (λ (q : Request). touched_by q c.handle-shown.result ≡ []) c.handle-shown.ensures.request c.in-None.ensures in
-    carried_alone (λ old asked given new. Step (m.sizes c.args.store.now) old c.args.now asked given new) (m.cache c.args.store.now)
+    carried_alone (Step (m.sizes c.args.store.now) c.args.now) (m.cache c.args.store.now)
     c.args.request.now c.handle-shown.result (m.cache c.handle-shown.new.self) c.handle-shown.ensures.step none
 
 pub returns-in-None-clause-refused : goal.returns-in-None-clause-refused

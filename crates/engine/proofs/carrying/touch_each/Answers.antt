@@ -18,8 +18,8 @@ loop-key-preserved g c =
     let old = m.cache c.loop-key.store in
     let new = m.cache c.touch-answered.new.self in
     let answered = c.touch-answered.result in
-    let step : Step sizes old c.args.now asked answered new =
-    subst (λ (s : Sizes). Step s old c.args.now asked answered new) inv.sizes c.touch-answered.ensures.step in
+    let step : Step sizes c.args.now old asked answered new =
+    subst (λ (s : Sizes). Step s c.args.now old asked answered new) inv.sizes c.touch-answered.ensures.step in
     let stores : m.is_exact c.args.store.now ≡ true → StoresAsAsked sizes old c.args.now asked answered new =
     λ on. subst (λ (s : Sizes). StoresAsAsked s old c.args.now asked answered new) inv.sizes
     (c.touch-answered.ensures.deadlines.1 (inv.exact ∙ on)) in

@@ -5,7 +5,7 @@ use Rattle.proto.specs.ClockAnswers.{GivenAnswer}
 use Rattle.proto.specs.History.{answers_by, RefusesBy}
 use Rattle.proto.proofs.HistoryLemmas.{refuses_more}
 use Rattle.proto.specs.Sizes.{Sizes}
-use Rattle.proto.specs.Steps.{Steps, IsCarriedOut}
+use Rattle.proto.specs.Steps.{Step, IsCarriedOut}
 use Rattle.proto.specs.declared.counts.Counts.{Counts}
 use Rattle.proto.specs.Tallies.{no_counts, counted, counts_after}
 use Rattle.exchange.specs.Ends.{StorageView}
@@ -60,7 +60,7 @@ answer_later-told-requires-clause-legal g c = let p = c.args.posted in
     (g.S.StorageEngine.cache c.carry_out-stored.new.store) (g.S.StorageEngine.moment c.args.store.now) e c.requires.reaches (
       c.carry_out-stored.result,
       c.reply-reply.ensures.same,
-      subst (λ (z : Sizes × Request). Steps z.0 (g.S.StorageEngine.cache c.args.store.now) e.moment z.1 c.carry_out-stored.result
+      subst (λ (z : Sizes × Request). IsCarriedOut (Step z.0 e.moment) (g.S.StorageEngine.cache c.args.store.now) z.1 c.carry_out-stored.result
           (g.S.StorageEngine.cache c.carry_out-stored.new.store))
           (λ i. (c.requires.sizes i, sym c.carry_out-stored.ensures.request i)) c.carry_out-stored.ensures.steps,
     )
@@ -92,7 +92,7 @@ returns-clause-reaches g c = let p = c.args.posted in
     (g.S.StorageEngine.cache c.carry_out-stored.new.store) (g.S.StorageEngine.moment c.args.store.now) e c.requires.reaches (
       c.carry_out-stored.result,
       c.reply-reply.ensures.same,
-      subst (λ (z : Sizes × Request). Steps z.0 (g.S.StorageEngine.cache c.args.store.now) e.moment z.1 c.carry_out-stored.result
+      subst (λ (z : Sizes × Request). IsCarriedOut (Step z.0 e.moment) (g.S.StorageEngine.cache c.args.store.now) z.1 c.carry_out-stored.result
           (g.S.StorageEngine.cache c.carry_out-stored.new.store))
           (λ i. (c.requires.sizes i, sym c.carry_out-stored.ensures.request i)) c.carry_out-stored.ensures.steps,
     )
@@ -121,7 +121,7 @@ returns-clause-kept g c l = let p = c.args.posted in let m = g.S.StorageEngine i
     (m.keeps c.carry_out-stored.new.store) l (
       c.carry_out-stored.result,
       c.reply-reply.ensures.same,
-      subst (λ (z : Sizes × Request). Steps z.0 old e.moment z.1 c.carry_out-stored.result after)
+      subst (λ (z : Sizes × Request). IsCarriedOut (Step z.0 e.moment) old z.1 c.carry_out-stored.result after)
           (λ i. (sizes i, request i)) c.carry_out-stored.ensures.steps,
     )
     (keeps_told c.args.end.now.end.terms.geometry old e c.carry_out-stored.result after (m.keeps c.args.store.now)
@@ -147,13 +147,7 @@ returns-clause-dated g c l = let p = c.args.posted in let m = g.S.StorageEngine 
     let sizes : m.sizes c.args.store.now ≡ c.args.end.now.end.terms.geometry = c.requires.sizes in
     let request : p.request ≡ c.carry_out-stored.new.request = sym c.carry_out-stored.ensures.request in
     let more = dated_more c.args.end.now.end.terms.geometry c.args.end.now.end.history old after e (m.is_exact c.args.store.now)
-    (m.is_exact c.carry_out-stored.new.store) l (
-      c.carry_out-stored.result,
-      c.reply-reply.ensures.same,
-      subst (λ (z : Sizes × Request). Steps z.0 old e.moment z.1 c.carry_out-stored.result after)
-          (λ i. (sizes i, request i)) c.carry_out-stored.ensures.steps,
-    )
-    c.carry_out-stored.ensures.exact
+    (m.is_exact c.carry_out-stored.new.store) l c.carry_out-stored.ensures.exact
     (λ on. (
       c.carry_out-stored.result,
       c.reply-reply.ensures.same,

@@ -1,5 +1,5 @@
 use Rattle.std.proofs.Common.{rules, subst}
-use Rattle.proto.specs.Steps.{Steps}
+use Rattle.proto.specs.Steps.{Step, IsCarriedOut}
 use Rattle.reference.specs.Execution.{Execution, Executes}
 use Rattle.reference.proofs.sequential_session.Executor.execute.Goals as goal
 
@@ -11,7 +11,7 @@ returns-clause-executes g c = (
     first = c.carry_out-stored.result;
     same = search rules;
     uncounted = search rules;
-    steps = subst (λ (x : Execution). Steps x.sizes x.cache c.max-moment.result c.args.request.now c.carry_out-stored.result
+    steps = subst (λ (x : Execution). IsCarriedOut (Step x.sizes c.max-moment.result) x.cache c.args.request.now c.carry_out-stored.result
         (g.E.StorageEngine.cache c.carry_out-stored.new.store)) c.self.view_is c.carry_out-stored.ensures.steps;
     sizes_stay = search rules;
     last = search rules;

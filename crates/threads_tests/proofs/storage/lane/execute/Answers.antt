@@ -3,7 +3,7 @@ use Rattle.proto.specs.declared.history.Answered.{Answered}
 use Rattle.proto.specs.declared.message.Request.{Request}
 use Rattle.proto.specs.ClockAnswers.{GivenAnswer}
 use Rattle.proto.specs.Sizes.{Sizes}
-use Rattle.proto.specs.Steps.{Steps}
+use Rattle.proto.specs.Steps.{Step, IsCarriedOut}
 use Rattle.engine.proofs.ReachingLemmas.{reaches_more, legal_of}
 use Rattle.threads_tests.proofs.storage.lane.execute.Goals as goal
 
@@ -25,7 +25,7 @@ answer-requires-clause-legal g c =
           (g.S.StorageEngine.cache c.carry_out-stored.new.store) (g.S.StorageEngine.moment c.args.store.now) e c.requires.reaches (
             c.carry_out-stored.result,
             c.uncounted-reply.ensures.same,
-            subst (λ (z : Sizes × Request). Steps z.0 (g.S.StorageEngine.cache c.args.store.now) e.moment z.1 c.carry_out-stored.result
+            subst (λ (z : Sizes × Request). IsCarriedOut (Step z.0 e.moment) (g.S.StorageEngine.cache c.args.store.now) z.1 c.carry_out-stored.result
                 (g.S.StorageEngine.cache c.carry_out-stored.new.store))
                 (λ i. (c.requires.sizes i, sym c.carry_out-stored.ensures.request i)) c.carry_out-stored.ensures.steps,
           )

@@ -4,7 +4,7 @@ use Rattle.std.specs.Prelude.{true, false, ◌==◌, if◌then◌else◌, IfSome
 use Rattle.std.specs.List.{filter, range_with_len}
 use mathlib.Core.Option.{some}
 use lib.ListN.{get_elem?}
-use Rattle.atomic_table.specs.Seated.{TableId}
+pub use Rattle.atomic_table.specs.Seated.{TableId}
 use Rattle.proto.specs.declared.limits.TheConstants.{WINDOW}
 use Rattle.proto.specs.declared.terms.Terms.{Terms}
 use Rattle.proto.specs.declared.history.Posted.{Posted}
@@ -14,10 +14,6 @@ use Rattle.exchange.specs.declared.messages.Taken.{Taken}
 use Rattle.exchange.specs.declared.messages.Taken.TheVariants.{Asked, Bye}
 use Rattle.proto.specs.Counts.{times}
 use Rattle.exchange.specs.Beginnings.{StartsWith, posted_of}
-
--- which exchange it is
-abbrev pub ExchangeId : Type 0
-ExchangeId = TableId
 
 -- What a worker knows: the exchange that its end belongs to, the terms by which histories are legal, the
 -- requests that it sent, whether it said bye, the answers that it took back, the history that it was told

@@ -58,9 +58,9 @@ pub struct ExchangeName {
 }
 
 impl Model for ExchangeName {
-    ghost use Rattle.exchange.specs.Ends.{ExchangeId};
+    ghost use Rattle.exchange.specs.Ends.{TableId};
 
-    ghost Value = { ExchangeId };
+    ghost Value = { TableId };
 
     ghost view = { λ n. n.end.value.exchange };
 }

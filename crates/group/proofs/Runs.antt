@@ -10,7 +10,7 @@ use Rattle.proto.specs.declared.history.Posted.{Posted}
 use Rattle.proto.specs.declared.history.Answered.{Answered}
 use Rattle.proto.specs.History.{worker_share, asked_posted}
 use Rattle.exchange.specs.declared.opening.Gathered.{Gathered}
-use Rattle.exchange.specs.Ends.{ExchangeId, WorkerView, StorageView, AreMade, AreTogether, AreCounted, new_worker_view, new_storage_view}
+use Rattle.exchange.specs.Ends.{TableId, WorkerView, StorageView, AreMade, AreTogether, AreCounted, new_worker_view, new_storage_view}
 use Rattle.exchange.proofs.Lists.{at_below, at_some, starts_trans}
 use Rattle.storage_thread.specs.declared.serving.StorageReport.{StorageReport}
 use Rattle.storage_thread.specs.Sides.{IsLeftBySide}
@@ -113,7 +113,7 @@ module _ {P : Type 0} (told : P → Option PortTrace) (leads_to : P → P → Ty
       → AreJoined told leads_to terms s ports reports → AreJoined told leads_to terms t ports reports
   rejoined terms s t same ports reports j = record {
     one_each = j.one_each;
-    each = λ w port report there at. subst (λ (x : ExchangeId). KeepsWorker told leads_to port (new_worker_view x terms w) report)
+    each = λ w port report there at. subst (λ (x : TableId). KeepsWorker told leads_to port (new_worker_view x terms w) report)
         (sym same) (j.each w port report there at);
   }
 

@@ -8,7 +8,7 @@ use Rattle.proto.specs.declared.logged_clock.ClockStart.{ClockStart}
 use Rattle.proto.specs.Cache.{Cache, empty_cache}
 use Rattle.proto.specs.Sizes.{Sizes}
 use Rattle.proto.specs.History.{RefusesBy}
-use Rattle.exchange.specs.Ends.{ExchangeId, WorkerView, StorageView, new_worker_view, new_storage_view}
+use Rattle.exchange.specs.Ends.{TableId, WorkerView, StorageView, new_worker_view, new_storage_view}
 use Rattle.storage_thread.specs.Keeping.{MayAlwaysForgetNothing}
 use Rattle.storage_thread.specs.Deadlines.{MayStoreAsAsked}
 use Rattle.storage_thread.specs.Serving.{IsSameExchange}
@@ -63,7 +63,7 @@ IsCalledOff id (NoThread off) = (off.start.value.id ≡ id) × (off.begins.value
 IsCalledOff id NotNew = ⊤
 
 -- the ports of workers 0, 1 and so on, of this exchange, by these terms and in this dialect, at which nothing has happened yet
-abbrev pub ArePortsOf : {P : Type 0} → (P → Option PortTrace) → ExchangeId → Terms → Dialect → List P → Type 0
+abbrev pub ArePortsOf : {P : Type 0} → (P → Option PortTrace) → TableId → Terms → Dialect → List P → Type 0
 ArePortsOf {P} told exchange terms d ports =
     (w : ℕ) (port : P) → get_elem? ports w ≡ some port → (trace : PortTrace) → told port ≡ Some trace
     → (trace.worker ≡ w) × (trace.terms ≡ terms) × (trace.dialect ≡ d) × (trace.events ≡ []) × (trace.history ≡ [])

@@ -25,7 +25,8 @@ pub fn later_requests_see_earlier_ones(
     ensures same { sender.new ≡ sender.old }
     ensures handed_back { result ≡ earlier }
     ensures sees { (sizes : Sizes) (answering sending : PortTrace) (later : List Answered) (one other : Answered)
-        → answering.history ≡ earlier.items → HasAskedOnly sending sender.old.end
+        → answering.history ≡ earlier.items
+        → HasAskedOnly sending sender.old.end.exchange sender.old.end.worker sender.old.end.sent
         → AreOfOne earlier.items later → Legal sizes later → AnsweredBeforeSent answering sending later one other
         → SeesLeft sizes later one other }
 {

@@ -3,7 +3,7 @@ use Rattle.std.proofs.Common.{◌≡◌, ℕ, zero, suc, ◌+◌, ◌-◌, Bool,
 use Rattle.std.specs.Prelude.{ℤ, Option, None, Some, is_some, slice_get}
 use Rattle.std.specs.Bool.{nat_eq}
 use Rattle.std.proofs.lemmas.Bool.{both_ways, eqb-true}
-use Rattle.exchange.specs.Ends.{ExchangeId}
+use Rattle.exchange.specs.Ends.{TableId}
 use Rattle.net.specs.Seen.{Seen, IsSet, fresh, open_socket}
 use Rattle.net.specs.Ties.{SocketsAgree, SocketTies, AreOfExchange}
 
@@ -39,7 +39,7 @@ module _ (streams next : ℕ → Option Seen) (s : ℕ) (now : Option Seen) (soc
   sockets_set set here old o = set_case o (set o) here (old o) (nat_eq s o) refl
 
 module _ (streams next : ℕ → Option Seen) (last : ℕ) (sockets : List ℤ) (s : ℕ) (t : SocketTies streams last sockets) where
-  pub kept_opened : (y : ℤ) (e : ExchangeId) → s ≡ last + 1 → IsSet s (Some (fresh y e)) streams next
+  pub kept_opened : (y : ℤ) (e : TableId) → s ≡ last + 1 → IsSet s (Some (fresh y e)) streams next
       → SocketTies next s (sockets ++ y ∷ [])
   kept_opened y e n set =
       let place : s - 1 ≡ length sockets = omega (arith, t.1) in (
@@ -52,7 +52,7 @@ module _ (streams next : ℕ → Option Seen) (last : ℕ) (sockets : List ℤ) 
 -- ---- how they keep their exchange
 
 -- one stream is set that is of the exchange, or none
-module _ (e : ExchangeId) (streams next : ℕ → Option Seen) (s : ℕ) (now : Option Seen) where
+module _ (e : TableId) (streams next : ℕ → Option Seen) (s : ℕ) (now : Option Seen) where
   named_case : (o : ℕ) (x : Seen) (b : Bool) → (now ≡ Some x → x.exchange ≡ e) → (streams o ≡ Some x → x.exchange ≡ e)
       → cond b now (streams o) ≡ Some x → x.exchange ≡ e
   named_case o x true here old is = here is
@@ -62,13 +62,13 @@ module _ (e : ExchangeId) (streams next : ℕ → Option Seen) (s : ℕ) (now : 
       → AreOfExchange e next
   named_set here set old o x is = named_case o x (nat_eq s o) (here x) (old o x) (sym (set o) ∙ is)
 
-abbrev exchange_or : ExchangeId → Option Seen → ExchangeId
+abbrev exchange_or : TableId → Option Seen → TableId
 exchange_or e None = e
 exchange_or e (Some x) = x.exchange
 
 -- a stream that is set, or none, is of the exchange
-pub named_now : (e : ExchangeId) (y : Seen) → y.exchange ≡ e → (x : Seen) → Some y ≡ Some x → x.exchange ≡ e
+pub named_now : (e : TableId) (y : Seen) → y.exchange ≡ e → (x : Seen) → Some y ≡ Some x → x.exchange ≡ e
 named_now e y of x is = sym (ap (exchange_or e) is) ∙ of
 
-pub named_none : (e : ExchangeId) (x : Seen) → None ≡ Some x → x.exchange ≡ e
+pub named_none : (e : TableId) (x : Seen) → None ≡ Some x → x.exchange ≡ e
 named_none e x is = absurd (both_ways false refl (ap is_some is))

@@ -9,7 +9,7 @@ use Rattle.worker_port.specs.declared.events.PortRecord.{PortRecord}
 use Rattle.worker_port.specs.declared.events.PortRecord.TheVariants.{Opened, Data, EndOfInput, Gone, Accepted, Shut}
 use Rattle.worker_port.specs.declared.events.PortEvent.TheVariants as event
 use Rattle.worker_port.specs.Ports.{PortTrace, is_open}
-use Rattle.exchange.specs.Ends.{ExchangeId}
+use Rattle.exchange.specs.Ends.{TableId}
 use Rattle.net.specs.Seen.{Seen, IsSet, fresh, then_received, then_input_ended, then_sent, is_paused_stream, has_input_ended}
 use Rattle.net.specs.Shown.{shown_stream, seen_of}
 use Rattle.net.specs.Ties.{Ties}
@@ -123,7 +123,7 @@ module _ (old : Streams) (after : List (ℕ × OpenStream)) (s : ℕ) (told : Li
           (t.0, t.1, t.2, goes_on, t.4) is_open_now set)
 
   -- a session was opened
-  module _ (socket : ℤ) (exchange : ExchangeId) (number : s ≡ old.last + 1) (e : told ≡ old.told.items ++ Opened s ∷ [])
+  module _ (socket : ℤ) (exchange : TableId) (number : s ≡ old.last + 1) (e : told ≡ old.told.items ++ Opened s ∷ [])
       (set : IsSet s (Some (fresh socket exchange)) before (shown_stream after)) where
     pub agree_opened : Ties (shown_stream after) s told old.has_ended
     agree_opened = subst (λ (k : List PortRecord). Ties (shown_stream after) s k old.has_ended) (sym e)

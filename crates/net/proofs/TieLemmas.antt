@@ -11,7 +11,7 @@ use Rattle.worker_port.specs.Ports.{is_in, is_open, opened_count}
 use Rattle.worker_port.specs.PortFacts.{PortFacts, port_facts}
 use Rattle.worker_port.proofs.Facts.{about, elsewhere, facts_are, opened_here, fed_here, input_ended_here, gone_here, shut_here, accepted_here}
 use Rattle.worker_port.proofs.Lists.{ended_same, ended_now, count_same, count_more}
-use Rattle.exchange.specs.Ends.{ExchangeId}
+use Rattle.exchange.specs.Ends.{TableId}
 use Rattle.net.specs.Seen.{Seen, IsSet, fresh, then_received, then_sent, then_input_ended, has_input_ended, received_of, sent_of}
 use Rattle.net.specs.Ties.{Ties, NoneBehind}
 
@@ -83,7 +83,7 @@ module _ (streams next : ℕ → Option Seen) (last : ℕ) (l : List PortRecord)
 
 -- ---- what the entry says of its own session
 
-at_opened : (socket : ℤ) (exchange : ExchangeId) (f : PortFacts) → f ≡ no_facts
+at_opened : (socket : ℤ) (exchange : TableId) (f : PortFacts) → f ≡ no_facts
     → At (Some (fresh socket exchange)) (record f { opened = true })
 at_opened socket exchange f n = record {
   opens = subst (λ (g : PortFacts). (true && not (g.gone || g.shut)) ≡ true) (sym n) refl;
@@ -146,7 +146,7 @@ at_shut f = record {
 -- ---- each entry
 
 module _ (streams next : ℕ → Option Seen) (last after : ℕ) (l : List PortRecord) (e : Bool) (s : ℕ) (t : Ties streams last l e) where
-  pub ties_opened : (socket : ℤ) (exchange : ExchangeId) → s ≡ last + 1 → after ≡ s
+  pub ties_opened : (socket : ℤ) (exchange : TableId) → s ≡ last + 1 → after ≡ s
       → IsSet s (Some (fresh socket exchange)) streams next
       → Ties next after (l ++ Opened s ∷ []) e
   ties_opened socket exchange n a set =

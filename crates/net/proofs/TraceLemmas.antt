@@ -9,7 +9,7 @@ use Rattle.worker_port.specs.declared.events.PortRecord.{PortRecord}
 use Rattle.worker_port.specs.declared.events.PortRecord.TheVariants.{Opened, Data, EndOfInput, Gone, Accepted, Shut}
 use Rattle.worker_port.specs.declared.events.PortEvent.TheVariants as event
 use Rattle.worker_port.specs.Ports.{PortTrace, then_told, with_pause, is_in, is_open}
-use Rattle.exchange.specs.Ends.{ExchangeId}
+use Rattle.exchange.specs.Ends.{TableId}
 use Rattle.net.specs.Seen.{Seen, IsSet, fresh, then_received, then_sent, then_input_ended, then_paused, is_paused_stream}
 use Rattle.net.specs.Seen.{has_input_ended}
 use Rattle.net.specs.Ties.{Ties}
@@ -75,7 +75,7 @@ module _ (w : Whose) (streams next : ℕ → Option Seen) (s : ℕ) (now : Optio
   kept set same o = kept_case o (set o) same (nat_eq s o) refl
 
 module _ (w : Whose) (streams next : ℕ → Option Seen) (last : ℕ) (l : List PortRecord) (s : ℕ) (t : Ties streams last l false) where
-  pub tells_opened : (socket : ℤ) (exchange : ExchangeId) → s ≡ last + 1 → IsSet s (Some (fresh socket exchange)) streams next
+  pub tells_opened : (socket : ℤ) (exchange : TableId) → s ≡ last + 1 → IsSet s (Some (fresh socket exchange)) streams next
       → Tells (trace w streams l) (event.Opened s) (trace w next (l ++ Opened s ∷ []))
   tells_opened socket exchange n set =
       let behind = t.2 s (omega arith) in

@@ -2,18 +2,18 @@
 use Rattle.std.specs.Prelude.{◌≡◌, Bool, true, false, cond, ℕ, ℤ, List, [], ◌++◌, Option, None, Some}
 use Rattle.std.specs.Option.{option_map}
 use Rattle.std.specs.Bool.{nat_eq}
-use Rattle.exchange.specs.Ends.{ExchangeId}
+use Rattle.exchange.specs.Ends.{TableId}
 
 pub record Seen : Type 0 where
   pub socket : ℤ
-  pub exchange : ExchangeId
+  pub exchange : TableId
   pub paused : Bool
   pub input_ended : Bool
   pub received : List ℕ
   pub sent : List ℕ
 
 -- a stream over this socket that was just opened for a worker of this exchange
-abbrev pub fresh : ℤ → ExchangeId → Seen
+abbrev pub fresh : ℤ → TableId → Seen
 fresh socket exchange = record {
   socket = socket;
   exchange = exchange;

@@ -1,7 +1,7 @@
 -- What clauses see of a socket: its number with the system.
 use Rattle.std.specs.Prelude.{◌≡◌, ℤ, pos, List, [], ◌∷◌, false}
 use Rattle.mio.specs.Net.{stream_fd}
-use Rattle.exchange.specs.Ends.{ExchangeId}
+use Rattle.exchange.specs.Ends.{TableId}
 use Rattle.net.specs.declared.sockets.raw.RawStream.{RawStream}
 use Rattle.net.specs.declared.sockets.raw.RawStream.TheVariants.{Tcp, Unix}
 use Rattle.net.specs.declared.sockets.NewStream.{NewStream}
@@ -26,7 +26,7 @@ abbrev pub served_socket : LoggedStream RawStream → ℤ
 served_socket served = first_socket served.origin.items
 
 -- a stream over this socket, of this exchange, from which nothing was read, and which took nothing
-pub record IsNewLog (socket : ℤ) (exchange : ExchangeId) (served : LoggedStream RawStream) : Type 0 where
+pub record IsNewLog (socket : ℤ) (exchange : TableId) (served : LoggedStream RawStream) : Type 0 where
   pub socket_is : served_socket served ≡ socket
   pub exchange_is : served.exchange.value ≡ exchange
   pub received : served.received.items ≡ []

@@ -2,7 +2,7 @@
 use Rattle.std.specs.Prelude.{◌≡◌, ℕ, ℤ, ◌-◌, ◌<◌, Bool, true, false, List, [], ◌++◌, length, is_some, Option, Some, slice_get}
 use Rattle.std.specs.Map.{lookup}
 use Rattle.std.specs.Bool.{nat_eq}
-use Rattle.exchange.specs.Ends.{ExchangeId}
+use Rattle.exchange.specs.Ends.{TableId}
 use Rattle.worker_port.specs.declared.events.PortRecord.{PortRecord}
 use Rattle.worker_port.specs.declared.events.PortRecord.TheVariants as was
 use Rattle.worker_port.specs.Ports.{fed, given, is_in, is_open, opened_count}
@@ -48,5 +48,5 @@ abbrev pub SocketTies : (ℕ → Option Seen) → ℕ → List ℤ → Type 0
 SocketTies streams last sockets = SocketsAgree streams sockets × (length sockets ≡ last)
 
 -- each open stream is of this exchange
-abbrev pub AreOfExchange : ExchangeId → (ℕ → Option Seen) → Type 0
+abbrev pub AreOfExchange : TableId → (ℕ → Option Seen) → Type 0
 AreOfExchange exchange streams = (s : ℕ) (x : Seen) → streams s ≡ Some x → x.exchange ≡ exchange

@@ -9,7 +9,7 @@ use Rattle.worker_port.specs.declared.events.PortEvent.{PortEvent}
 use Rattle.worker_port.specs.declared.events.PortEvent.TheVariants as event
 use Rattle.worker_port.specs.declared.events.PortRecord.TheVariants as was
 use Rattle.exchange.specs.Beginnings.{StartsWith}
-use Rattle.exchange.specs.Ends.{ExchangeId}
+use Rattle.exchange.specs.Ends.{TableId}
 use Rattle.worker_port.specs.Giving.{by_system_clock}
 use Rattle.worker_port.specs.Ports.{PortTrace, told_last, event_records, then_told, MayCome, is_open, is_in, opened_count}
 use Rattle.net.specs.declared.streams.Streams.{Streams}
@@ -21,7 +21,7 @@ pub record Whose : Type 0 where
   pub terms : Terms
   pub dialect : Dialect
   pub worker : ℕ
-  pub exchange : ExchangeId
+  pub exchange : TableId
   pub history : List Answered
 
 abbrev pub whose_of : Streams → Whose
@@ -51,7 +51,7 @@ abbrev pub trace_of : Streams → PortTrace
 trace_of streams = trace (whose_of streams) (shown_stream streams.open.entries) streams.told.items
 
 -- the port of this worker, of which nothing was told
-pub record IsNew (sizes : Sizes) (d : Dialect) (worker : ℕ) (exchange : ExchangeId) (trace : PortTrace) : Type 0 where
+pub record IsNew (sizes : Sizes) (d : Dialect) (worker : ℕ) (exchange : TableId) (trace : PortTrace) : Type 0 where
   pub none : trace.events ≡ []
   pub terms_are : trace.terms ≡ by_system_clock sizes
   pub dialect_is : trace.dialect ≡ d

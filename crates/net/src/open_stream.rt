@@ -4,7 +4,7 @@ ghost use Rattle.std.specs.Prelude.{◌≡◌, ◌≤◌, ◌<◌, ◌++◌, ℕ
 ghost use Rattle.proto.specs.declared.message.Message.{Message};
 ghost use Rattle.proto.specs.Reading.{Reads, asks};
 ghost use Rattle.exchange.specs.Beginnings.{StartsWith};
-ghost use Rattle.exchange.specs.Ends.{ExchangeId};
+ghost use Rattle.exchange.specs.Ends.{TableId};
 ghost use Rattle.net.specs.Seen.{Seen, fresh, then_received, then_sent, then_paused};
 ghost use Rattle.net.specs.Sockets.{IsNewLog};
 ghost use Rattle.net.specs.Shown.{seen_of, Arrives, listing, Lists, ListsRead, IsTakenOff};
@@ -100,7 +100,7 @@ pub(crate) struct OpenStream {
 impl OpenStream {
     /// The stream of a session that was just opened, after this many looks for idle sessions.
     pub(crate) fn new(stream: ServedStream, looks: u64) -> OpenStream
-        ensures { (socket : ℤ) (exchange : ExchangeId) → IsNewLog socket exchange stream
+        ensures { (socket : ℤ) (exchange : TableId) → IsNewLog socket exchange stream
             → seen_of result ≡ fresh socket exchange }
     {
         OpenStream {

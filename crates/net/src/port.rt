@@ -126,7 +126,8 @@ impl<R: Wait + Clock + Drop> MioPort<R> {
     /// a session that was idle for long enough, so that nobody is ended whose input was heard of. Sessions are numbered from 1,
     /// and no number is given twice.
     pub fn next_event(&mut self, sender: &WorkerBatch) -> PortEvent
-        requires { HasAskedOnly (trace_of self.old.served) sender.now.end }
+        requires { HasAskedOnly (trace_of self.old.served) sender.now.end.exchange sender.now.end.worker
+            sender.now.end.sent }
         ensures told { Tells (trace_of self.old.served) result (trace_of self.new.served) }
         ensures sockets { AddsSockets self.old.served self.new.served }
     {

@@ -166,7 +166,8 @@ impl Streams {
     /// Reads from the streams that may have something, until there is an event to tell.
     pub(crate) fn next_input(&mut self, sender: &WorkerBatch) -> Option<PortEvent>
         requires goes_on { GoesOn (trace_of self.old) }
-        requires asked { HasAskedOnly (trace_of self.old) sender.now.end }
+        requires asked { HasAskedOnly (trace_of self.old) sender.now.end.exchange sender.now.end.worker
+            sender.now.end.sent }
         ensures told { MayTell (trace_of self.old) result (trace_of self.new) }
         ensures sockets { KeepsSockets self.old self.new }
     {
@@ -182,7 +183,8 @@ impl Streams {
     /// Reads at most once from a stream that was taken off the list, if it is open and to be read, and tells what came.
     fn read(&mut self, session: u64, sender: &WorkerBatch) -> Option<PortEvent>
         requires goes_on { GoesOn (trace_of self.old) }
-        requires asked { HasAskedOnly (trace_of self.old) sender.now.end }
+        requires asked { HasAskedOnly (trace_of self.old) sender.now.end.exchange sender.now.end.worker
+            sender.now.end.sent }
         ensures told { MayTell (trace_of self.old) result (trace_of self.new) }
         ensures sockets { KeepsSockets self.old self.new }
     {
@@ -251,7 +253,7 @@ impl Streams {
         history: ToldHistory,
     ) -> Result<usize, Gone>
         requires open { HasOpen session (trace_of self.old) }
-        requires said { MayBeGiven (trace_of self.old) history session bytes.now }
+        requires said { MayBeGiven (trace_of self.old) history.exchange history.items session bytes.now }
         ensures within { IfOk result (λ n. n ≤ length bytes.now) }
         ensures told { trace_of self.new ≡ then_gave session bytes.now result history.items (trace_of self.old) }
         ensures sockets { KeepsSockets self.old self.new }

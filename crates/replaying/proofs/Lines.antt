@@ -4,7 +4,7 @@ use Rattle.std.proofs.Common.{Some, None, refl, sym, ap, ◌∙◌, subst}
 use Rattle.std.proofs.Common.{arith, append_assoc, append-nil, length-append, ⊎_elim}
 use Rattle.std.specs.Prelude.{flat_map, slice_index_or}
 use Rattle.std.specs.Io.KnownBytes.{Appends, Keeps}
-use Rattle.exchange.specs.Ends.{ExchangeId}
+use Rattle.exchange.specs.Ends.{TableId}
 use Rattle.exchange.proofs.Lists.{at_some, at_below, at_end}
 use Rattle.proto.specs.declared.dialect.Dialect.{Dialect}
 use Rattle.proto.specs.Sizes.{Sizes}
@@ -122,7 +122,7 @@ trace_is port trace told =
 -- ---- the ports of a run
 
 -- one more, of the worker after the last
-pub ports_more : (sizes : Sizes) (d : Dialect) (exchange : ExchangeId) (accept fail_give : ℕ) (scripts : Workers) (ports : List PortState)
+pub ports_more : (sizes : Sizes) (d : Dialect) (exchange : TableId) (accept fail_give : ℕ) (scripts : Workers) (ports : List PortState)
     (events : List ScriptEvent) (port : PortState)
     → ArePorts sizes d exchange accept fail_give scripts ports → IsPort sizes d exchange accept fail_give (length ports) events port
     → ArePorts sizes d exchange accept fail_give (scripts ++ events ∷ []) (ports ++ port ∷ [])
@@ -145,7 +145,7 @@ ports_more sizes d exchange accept fail_give scripts ports events port old new =
       (at_end scripts events w e left),
 )
 
-module _ (sizes : Sizes) (d : Dialect) (exchange : ExchangeId) (accept fail_give : ℕ) (scripts : Workers) (ports : List PortState)
+module _ (sizes : Sizes) (d : Dialect) (exchange : TableId) (accept fail_give : ℕ) (scripts : Workers) (ports : List PortState)
     (each : ArePorts sizes d exchange accept fail_give scripts ports) where
   -- each is one of them
   port_at : (w : ℕ) (port : PortState) → get_elem? ports w ≡ some port

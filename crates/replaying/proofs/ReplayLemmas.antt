@@ -16,7 +16,7 @@ use Rattle.proto.specs.Sizes.{Sizes}
 use Rattle.proto.specs.Reading.{Reads}
 use Rattle.proto.proofs.GrammarLaws.{has_reading}
 use Rattle.exchange.specs.Beginnings.{posted_of}
-use Rattle.exchange.specs.Ends.{ExchangeId}
+use Rattle.exchange.specs.Ends.{TableId}
 use Rattle.exchange.proofs.Lists.{at_below, at_some}
 use Rattle.session_book.specs.declared.causes.EndCause.{EndCause}
 use Rattle.session_book.specs.declared.causes.EndCause.TheVariants as causes
@@ -211,7 +211,7 @@ timed_by clock told after history clock_is none legal gives is =
 -- are what is printed for the script's bytes
 pub replayed : (sizes : Sizes) (d : Dialect) (exact : Bool) (clock : ClockState) (workers accept fail_give : ℕ) (text : List ℕ) (scripts : Workers)
     → AreEventsOf workers text scripts
-    → (exchange : ExchangeId) (ports : List PortState) → ArePorts sizes d exchange accept fail_give scripts ports → (told : RecordingClock)
+    → (exchange : TableId) (ports : List PortState) → ArePorts sizes d exchange accept fail_give scripts ports → (told : RecordingClock)
     → told.clock ≡ clock → told.answers.items ≡ []
     → (report : GroupReport PortState RecordingClock) → IsRun trace_told PlaysOn
     (λ (c : RecordingClock). Some c.answers.items) GivesAnswers ⊤ exact false sizes ports told report

@@ -10,7 +10,7 @@ use Rattle.proto.specs.Sizes.{Sizes}
 use Rattle.script.specs.declared.event.ScriptEvent.{ScriptEvent}
 use Rattle.script.specs.Clocks.{ClockState}
 use Rattle.script.specs.Scripts.{Workers, AreEventsOf}
-use Rattle.exchange.specs.Ends.{ExchangeId}
+use Rattle.exchange.specs.Ends.{TableId}
 use Rattle.worker_port.specs.declared.events.PortRecord.{PortRecord}
 use Rattle.worker_port.specs.Ports.{given}
 use Rattle.script.specs.declared.clock.RecordingClock.{RecordingClock}
@@ -49,7 +49,7 @@ events_of worker = worker.port.player.records
 
 -- the port of a worker of this exchange that tells, over a store of these sizes and in this dialect, with all these events
 -- left to play, and with these faults
-abbrev pub IsPort : Sizes → Dialect → ExchangeId → ℕ → ℕ → ℕ → List ScriptEvent → PortState → Type 0
+abbrev pub IsPort : Sizes → Dialect → TableId → ℕ → ℕ → ℕ → List ScriptEvent → PortState → Type 0
 IsPort sizes d exchange accept fail_give worker events port =
     (is_playable events ≡ true)
     × (port ≡ record {
@@ -62,7 +62,7 @@ IsPort sizes d exchange accept fail_give worker events port =
     })
 
 -- a port for the events of each worker
-abbrev pub ArePorts : Sizes → Dialect → ExchangeId → ℕ → ℕ → Workers → List PortState → Type 0
+abbrev pub ArePorts : Sizes → Dialect → TableId → ℕ → ℕ → Workers → List PortState → Type 0
 ArePorts sizes d exchange accept fail_give scripts ports =
     (length scripts ≡ length ports)
     × ((w : ℕ) (events : List ScriptEvent) (port : PortState) → get_elem? scripts w ≡ some events
@@ -90,7 +90,7 @@ pub record IsPrinted (sizes : Sizes) (in_place : Bool) (d : Dialect) (eviction :
     (workers accept fail_give : ℕ) (text printed : List ℕ) : Type 0 where
   pub scripts : Workers
   pub read : AreEventsOf workers text scripts
-  pub exchange : ExchangeId
+  pub exchange : TableId
   pub ports : List PortState
   pub ports_are : ArePorts sizes d exchange accept fail_give scripts ports
   pub store : Store

@@ -6,7 +6,7 @@ use Rattle.script.specs.declared.event.ScriptEvent.{ScriptEvent}
 use Rattle.proto.specs.declared.dialect.Dialect.{Dialect}
 use Rattle.proto.specs.Sizes.{Sizes}
 use Rattle.proto.specs.declared.history.Answered.{Answered}
-use Rattle.exchange.specs.Ends.{ExchangeId}
+use Rattle.exchange.specs.Ends.{TableId}
 use Rattle.worker_port.specs.declared.events.PortRecord.{PortRecord}
 use Rattle.worker_port.specs.declared.events.PortRecord.TheVariants as was
 use Rattle.worker_port.specs.declared.events.PortEvent.{PortEvent}
@@ -95,7 +95,7 @@ pub record IsFirst (p : Player) (e : ScriptEvent) : Type 0 where
 -- where the port tells, an event came as it may
 pub record TellsNext (old : PlayerState) (result : PortEvent) (new : PlayerState) : Type 0 where
   pub records_are : new.records ≡ old.records ++ list.event_records result
-  pub may : (sizes : Sizes) (dialect : Dialect) (worker : ℕ) (exchange : ExchangeId) (history : List Answered)
+  pub may : (sizes : Sizes) (dialect : Dialect) (worker : ℕ) (exchange : TableId) (history : List Answered)
       → list.MayCome (script_trace (record {
         player = old;
         sizes = sizes;

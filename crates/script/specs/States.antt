@@ -10,7 +10,7 @@ use Rattle.script.specs.declared.event.ScriptEvent.TheVariants as script
 use Rattle.proto.specs.declared.dialect.Dialect.{Dialect}
 use Rattle.proto.specs.Sizes.{Sizes}
 use Rattle.proto.specs.declared.history.Answered.{Answered}
-use Rattle.exchange.specs.Ends.{ExchangeId}
+use Rattle.exchange.specs.Ends.{TableId}
 use Rattle.worker_port.specs.declared.events.PortEvent.{PortEvent}
 use Rattle.worker_port.specs.declared.events.PortEvent.TheVariants as event
 use Rattle.worker_port.specs.declared.events.PortRecord.{PortRecord}
@@ -145,7 +145,7 @@ pub record PortState : Type 0 where
   pub sizes : Sizes
   pub dialect : Dialect
   pub worker : ℕ
-  pub exchange : ExchangeId
+  pub exchange : TableId
   pub history : List Answered
 
 -- its list and which sessions are paused, and whose port it is
@@ -181,7 +181,7 @@ pub plays_later : (first second third : PortState) → PlaysOn first second → 
 plays_later first second third before after = (after.0 ∙ before.0, after.1 ∙ before.1, after.2 ∙ before.2)
 
 -- a worker's port of which nothing was asked yet
-abbrev pub IsNewPort : Sizes → Dialect → ℕ → ExchangeId → List ScriptEvent → PortState → Type 0
+abbrev pub IsNewPort : Sizes → Dialect → ℕ → TableId → List ScriptEvent → PortState → Type 0
 IsNewPort sizes d worker exchange events port =
     port ≡ record {
       player = new_player events;

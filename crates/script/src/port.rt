@@ -133,7 +133,7 @@ impl Port for ScriptPort {
     fn give(&mut self, session: u64, bytes: &[u8], history: ToldHistory) -> Result<usize, Gone>
         requires open { IsOpenWhereTold self.old session }
         requires said { (trace : PortTrace) → trace_told self.old ≡ Some trace
-            → MayBeGiven trace history session bytes.now }
+            → MayBeGiven trace history.exchange history.items session bytes.now }
         ensures within { IfOk result (λ n. n ≤ length bytes.now) }
         ensures leads { PlaysOn self.old self.new }
         ensures told { trace_told self.new ≡ option_map (then_gave session bytes.now result history.items)

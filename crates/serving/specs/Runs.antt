@@ -5,7 +5,7 @@ use lib.ListN.{get_elem?}
 use Rattle.command_line.specs.declared.options.ServeOptions.{ServeOptions}
 use Rattle.proto.specs.declared.dialect.Dialect.{Dialect}
 use Rattle.proto.specs.Sizes.{Sizes}
-use Rattle.exchange.specs.Ends.{ExchangeId}
+use Rattle.exchange.specs.Ends.{TableId}
 use Rattle.exchange.specs.Made.{ExchangeView}
 use Rattle.worker_port.specs.Giving.{by_system_clock}
 use Rattle.worker_port.specs.Ports.{PortTrace}
@@ -26,7 +26,7 @@ abbrev pub clock_told : ClockLog → Option (List ℕ)
 clock_told clock = Some (map (seconds_since clock.start) clock.readings)
 
 -- each is the port of its worker at this exchange, of which nothing was told
-abbrev pub AreNewPorts : {R : Type 0} → Sizes → Dialect → ExchangeId → List (MioPort R) → Type 0
+abbrev pub AreNewPorts : {R : Type 0} → Sizes → Dialect → TableId → List (MioPort R) → Type 0
 AreNewPorts {R} sizes d exchange ports =
     (w : ℕ) (port : MioPort R) → get_elem? ports w ≡ some port → IsNew sizes d w exchange (trace_of port.served)
 
@@ -49,7 +49,7 @@ pub record IsSetUp {R : Type 0} (sizes : Sizes) (seed : ℕ) (options : ServeOpt
 -- reading.
 pub record IsServed {R : Type 0} (sizes : Sizes) (seed : ℕ) (options : ServeOptions)
     (report : GroupReport (MioPort R) ClockLog) : Type 0 where
-  pub exchange : ExchangeId
+  pub exchange : TableId
   pub ports : List (MioPort R)
   pub new_ports : AreNewPorts sizes options.dialect exchange ports
   pub count : length ports ≡ options.workers

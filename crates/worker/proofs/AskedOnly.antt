@@ -45,7 +45,7 @@ module _ (f : SessionFacts) (messages : List Message) (rest : List ℕ) (reads :
 
 -- so it is between the steps of a worker
 pub has_asked_only : {P : Type 0} (told : P → Option PortTrace) (w : WorkerState P) → IsWorkerServing told w
-    → (trace : PortTrace) → told w.port ≡ Some trace → HasAskedOnly trace w.batch.end
+    → (trace : PortTrace) → told w.port ≡ Some trace → HasAskedOnly trace w.batch.end.exchange w.batch.end.worker w.batch.end.sent
 has_asked_only told w h trace e = let whose = (h.whose trace e).0 in
     let end : WorkerView = end_of w in
     let sent : List Posted = w.batch.end.sent in

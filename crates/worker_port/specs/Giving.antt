@@ -14,7 +14,7 @@ use Rattle.proto.specs.History.{Legal, RefusesBy, session_share}
 use Rattle.proto.specs.Reading.{Reads, asks}
 use Rattle.proto.specs.Answers.{said}
 use Rattle.exchange.specs.Beginnings.{StartsWith}
-use Rattle.exchange.specs.Ends.{ExchangeId, WorkerView, ToldView}
+use Rattle.exchange.specs.Ends.{TableId, WorkerView}
 use Rattle.worker_port.specs.Ports.{PortTrace, fed, given}
 
 -- the sizes, moments by the system's clock, and no request that stores refused
@@ -42,25 +42,26 @@ pub record MayBeSent (terms : Terms) (d : Dialect) (worker : ℕ) (history : Lis
       → BeginsAnswers history worker s (took ++ bytes) messages
 
 -- by what the port tells: the history was told at its exchange, it begins with that of the last give, and these bytes may be sent
-pub record MayBeGiven (trace : PortTrace) (history : ToldView) (s : ℕ) (bytes : List ℕ) : Type 0 where
-  pub exchange : history.exchange ≡ trace.exchange
-  pub later : StartsWith history.items trace.history
-  pub may : MayBeSent trace.terms trace.dialect trace.worker history.items s (fed s trace.events) (given s trace.events) bytes
+pub record MayBeGiven (trace : PortTrace) (told_at : TableId) (history : List Answered) (s : ℕ) (bytes : List ℕ)
+    : Type 0 where
+  pub exchange : told_at ≡ trace.exchange
+  pub later : StartsWith history trace.history
+  pub may : MayBeSent trace.terms trace.dialect trace.worker history s (fed s trace.events) (given s trace.events) bytes
 
 -- the requests of a session among those that were sent
 abbrev pub sent_for : List Posted → ℕ → List Request
 sent_for sent s = map (λ (p : Posted). p.request) (filter (λ (p : Posted). p.session == s) sent)
 
--- The end is that of the port's worker, and it has sent for each session only requests that the bytes spell which came of it,
--- from the first one on.
-pub record HasAskedOnly (trace : PortTrace) (end : WorkerView) : Type 0 where
-  pub exchange : end.exchange ≡ trace.exchange
-  pub worker : end.worker ≡ trace.worker
+-- The worker w of this exchange is the port's. For each session it has sent only requests that the bytes spell which came
+-- of it, from the first one on.
+pub record HasAskedOnly (trace : PortTrace) (sent_at : TableId) (w : ℕ) (sent : List Posted) : Type 0 where
+  pub exchange : sent_at ≡ trace.exchange
+  pub worker : w ≡ trace.worker
   pub asked : (s : ℕ) (messages : List Message) (rest : List ℕ) → Reads trace.dialect (fed s trace.events) messages rest
-      → StartsWith (asks messages) (sent_for end.sent s)
+      → StartsWith (asks messages) (sent_for sent s)
 
 -- The exchange, the terms and the number are those of the worker's end, and its history begins with that of the last give.
-pub record IsOf (exchange : ExchangeId) (worker : ℕ) (terms : Terms) (history : List Answered) (end : WorkerView) : Type 0 where
+pub record IsOf (exchange : TableId) (worker : ℕ) (terms : Terms) (history : List Answered) (end : WorkerView) : Type 0 where
   pub exchange_is : exchange ≡ end.exchange
   pub worker_is : worker ≡ end.worker
   pub terms_are : terms ≡ end.terms

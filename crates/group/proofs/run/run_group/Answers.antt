@@ -1,7 +1,7 @@
 use Rattle.std.proofs.Common.{◌≡◌, [], refl, sym, ap, subst, ◌∙◌}
 use Rattle.std.specs.Prelude.{IfOk}
 use Rattle.proto.specs.declared.terms.Terms.{Terms}
-use Rattle.exchange.specs.Ends.{ExchangeId}
+use Rattle.exchange.specs.Ends.{TableId}
 use Rattle.group.specs.Headline.{IsRun}
 use Rattle.group.specs.Threads.{ArePortsOf}
 use Rattle.group.proofs.Runs.{made_of}
@@ -16,5 +16,5 @@ run_named-requires-clause-ports g c κs within =
     let made = c.into_ends-ends.ensures.made in
     let of_exchange = ap (λ e. e.exchange) c.of-end.ensures ∙ c.into_ends-ends.ensures.id in
     let by_terms = ap (λ e. e.terms) c.of-end.ensures ∙ ap (λ e. e.terms) made.2 ∙ c.requires.made.1 in
-    subst (λ (z : ExchangeId × Terms). ArePortsOf g.P.Port.told z.0 z.1 c.args.config.dialect c.args.ports.items)
+    subst (λ (z : TableId × Terms). ArePortsOf g.P.Port.told z.0 z.1 c.args.config.dialect c.args.ports.items)
     (λ i. (sym of_exchange i, sym by_terms i)) c.requires.ports

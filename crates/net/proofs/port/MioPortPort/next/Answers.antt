@@ -5,5 +5,6 @@ use Rattle.net.specs.Traces.{trace_of}
 use Rattle.net.proofs.port.MioPortPort.next.Goals as goal
 
 pub next_event-event-requires : goal.next_event-event-requires
-next_event-event-requires g c = subst (λ (t : PortTrace). HasAskedOnly t c.args.sender.now.end) (sym c.look.ensures.0)
+next_event-event-requires g c = let end = c.args.sender.now.end in
+    subst (λ (t : PortTrace). HasAskedOnly t end.exchange end.worker end.sent) (sym c.look.ensures.0)
     (c.requires (trace_of c.args.self.now.served) refl)

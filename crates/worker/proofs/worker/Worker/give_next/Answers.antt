@@ -35,7 +35,7 @@ give-requires g c =
       «open» = open_at g.P.Port.told w c.in-Some.session s.0 h s.1;
       said = λ trace e.
           let whose = h.whose trace e in
-          subst (λ (y : List ℕ × ToldView). MayBeGiven trace y.1 c.in-Some.session y.0)
+          subst (λ (y : List ℕ × ToldView). MayBeGiven trace y.1.exchange y.1.items c.in-Some.session y.0)
           (λ i. (sym s.2 i, sym c.told-history.ensures.told i))
           (record {
             exchange = sym whose.0.exchange_is;

@@ -16,7 +16,11 @@ pub keeping_run : {P C : Type 0} (told : P → Option PortTrace) (leads_to : P �
 keeping_run told leads_to clock_told clock_leads keeps was exact may_refuse found sizes ports clock report run same as_was kept =
     subst (λ (s : Sizes). IsRun told leads_to clock_told clock_leads ⊤ exact may_refuse s ports clock report) same (record {
       history = run.history;
-      made = run.made;
+      legal = run.legal;
+      inside = run.inside;
+      counted = run.counted;
+      moments = run.moments;
+      leads = run.leads;
       one_each = run.one_each;
       each = run.each;
       none_beyond = run.none_beyond;

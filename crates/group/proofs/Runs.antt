@@ -13,6 +13,7 @@ use Rattle.exchange.specs.declared.opening.Gathered.{Gathered}
 use Rattle.exchange.specs.Ends.{TableId, WorkerView, StorageView, AreMade, AreTogether, AreCounted, new_worker_view, new_storage_view}
 use Rattle.exchange.proofs.Lists.{at_below, at_some, starts_trans}
 use Rattle.storage_thread.specs.declared.serving.StorageReport.{StorageReport}
+use Rattle.storage_thread.specs.Serving.{IsTimed}
 use Rattle.storage_thread.specs.Sides.{IsLeftBySide}
 use Rattle.worker_port.specs.Ports.{PortTrace}
 use Rattle.worker.specs.declared.run.WorkerReport.{WorkerReport}
@@ -23,7 +24,7 @@ use Rattle.group.specs.declared.fault.GroupFault.{GroupFault}
 use Rattle.group.specs.declared.fault.GroupFault.TheVariants.{NoMemory, NoThread, NotNew}
 use Rattle.group.specs.Threads.{AreJoined, AreEach, ArePortsOf, IsCalledOff, IsLeftByStorage, KeepsWorker, KeepsStorage}
 use Rattle.group.specs.Threads.{ends_of, worker_of, workers_of}
-use Rattle.group.specs.Headline.{IsHistoryOf, IsWorkerOf, IsRun, NoneBegan}
+use Rattle.group.specs.Headline.{IsWorkerOf, IsRun, NoneBegan}
 use Rattle.group.proofs.Places.{at_map, at_mapped}
 use Rattle.storage_thread.proofs.Callers.{or_at}
 
@@ -148,8 +149,12 @@ module _ {P : Type 0} (told : P → Option PortTrace) (leads_to : P → P → Ty
   run {C} clock_told clock_leads keeps exact may_refuse terms ports clock reports storage report stored joined workers_are clock_is
       executed_is counted beyond = record {
         history = storage.storage_end.history;
-        made = subst (λ (y : C × ℕ). IsHistoryOf clock_told clock_leads terms.geometry (length ports) clock y.0 y.1
-            storage.storage_end.history) (λ i. (sym clock_is i, sym executed_is i)) stored.made;
+        legal = stored.legal;
+        inside = stored.inside;
+        counted = executed_is ∙ stored.counted;
+        moments = subst (λ (y : C). IsTimed (clock_told clock) (clock_told y) storage.storage_end.history) (sym clock_is)
+            stored.moments;
+        leads = subst (λ (y : C). clock_leads clock y) (sym clock_is) stored.leads;
         one_each = ap length workers_are ∙ length-map reports worker_of ∙ joined.one_each;
         each = λ w port worker there at.
             let q = at_mapped worker_of reports w worker (subst (λ l. get_elem? l w ≡ some worker) workers_are at) in
@@ -169,7 +174,11 @@ pub kept_by_side : {C : Type 0} (told : C → Option (List ℕ)) (leads_to : C �
 kept_by_side told leads_to keeps exact may_refuse clock end report l = record {
   same = l.same;
   none_open = l.once_in_order.1;
-  made = record { legal = l.legal; inside = l.inside; counted = l.executed; moments = l.moments; leads = l.leads };
+  legal = l.legal;
+  inside = l.inside;
+  counted = l.executed;
+  moments = l.moments;
+  leads = l.leads;
   refused = l.refused;
   bounded = l.bounded;
   dated = l.dated;

@@ -21,15 +21,6 @@ use Rattle.group.specs.declared.fault.GroupFault.TheVariants.{NoMemory, NoThread
 use Rattle.group.specs.declared.report.GroupWorker.{GroupWorker}
 use Rattle.group.specs.declared.report.GroupReport.{GroupReport}
 
--- this number of workers made this legal history, at the moments of this clock; the count stays at the greatest number
-pub record IsHistoryOf {C : Type 0} (told : C → Option (List ℕ)) (leads_to : C → C → Type 0) (sizes : Sizes)
-    (workers : ℕ) (clock after : C) (executed : ℕ) (history : List Answered) : Type 0 where
-  pub legal : Legal sizes history
-  pub inside : All (λ (e : Answered). e.worker < workers) history
-  pub counted : executed ≡ min (length history) (2 ^ 64 - 1)
-  pub moments : IsTimed (told clock) (told after) history
-  pub leads : leads_to clock after
-
 -- what holds of worker w, whose port this was: the history has what it sent, once and in order, and its sessions were answered.
 -- No answer came that it hadn't asked for. The port still tells if it told before, and keeps its dialect.
 pub record IsWorkerOf {P : Type 0} (told : P → Option PortTrace) (leads_to : P → P → Type 0) (history : List Answered)
@@ -50,14 +41,19 @@ pub record IsWorkerOf {P : Type 0} (told : P → Option PortTrace) (leads_to : P
       → trace.dialect ≡ first.dialect
   pub given_by : (trace : PortTrace) → told worker.port ≡ Some trace → StartsWith history trace.history
 
--- The headline: there is a history that was made. Each port's worker was answered in it, and no other worker was. It refuses memory
--- as the store may. For a store that keeps, each beginning of it may forget nothing, if it stores little and sets no deadline. For
--- one that is exact, each entry may have the very deadline that was asked for.
+-- The headline: there is a legal history of these workers, at the moments of this clock. Its length is the number executed,
+-- which stays at the greatest number. Each port's worker was answered in it, and no other worker was. It refuses memory as
+-- the store may. For a store that keeps, each beginning of it may forget nothing, if it stores little and sets no deadline.
+-- For one that is exact, each entry may have the very deadline that was asked for.
 pub record IsRun {P C : Type 0} (told : P → Option PortTrace) (leads_to : P → P → Type 0)
     (clock_told : C → Option (List ℕ)) (clock_leads : C → C → Type 0) (keeps : Type 0) (exact may_refuse : Bool)
     (sizes : Sizes) (ports : List P) (clock : C) (report : GroupReport P C) : Type 0 where
   pub history : List Answered
-  pub made : IsHistoryOf clock_told clock_leads sizes (length ports) clock report.clock report.executed history
+  pub legal : Legal sizes history
+  pub inside : All (λ (e : Answered). e.worker < length ports) history
+  pub counted : report.executed ≡ min (length history) (2 ^ 64 - 1)
+  pub moments : IsTimed (clock_told clock) (clock_told report.clock) history
+  pub leads : clock_leads clock report.clock
   pub one_each : length report.workers.items ≡ length ports
   pub each : (w : ℕ) (port : P) (worker : GroupWorker P) → get_elem? ports w ≡ some port
       → get_elem? report.workers.items w ≡ some worker → IsWorkerOf told leads_to history report.gathered port w worker

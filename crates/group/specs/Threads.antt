@@ -1,5 +1,6 @@
 -- What the threads of a group leave.
-use Rattle.std.specs.Prelude.{◌≡◌, ℕ, ⊤, Bool, true, false, List, [], length, map, Option, Some, None, is_some, IsSome, IfSome}
+use Rattle.std.specs.Prelude.{◌≡◌, ℕ, ◌^◌, ◌-◌, ◌<◌, ⊤, Bool, true, false, List, [], length, map, min, All}
+use Rattle.std.specs.Prelude.{Option, Some, None, is_some, IsSome, IfSome}
 use mathlib.Core.Option.{some}
 use lib.ListN.{get_elem?}
 use Rattle.proto.specs.declared.dialect.Dialect.{Dialect}
@@ -7,11 +8,12 @@ use Rattle.proto.specs.declared.terms.Terms.{Terms}
 use Rattle.proto.specs.declared.logged_clock.ClockStart.{ClockStart}
 use Rattle.proto.specs.Cache.{Cache, empty_cache}
 use Rattle.proto.specs.Sizes.{Sizes}
-use Rattle.proto.specs.History.{RefusesBy}
+use Rattle.proto.specs.declared.history.Answered.{Answered}
+use Rattle.proto.specs.History.{Legal, RefusesBy}
 use Rattle.exchange.specs.Ends.{TableId, WorkerView, StorageView, new_worker_view, new_storage_view}
 use Rattle.storage_thread.specs.Keeping.{MayAlwaysForgetNothing}
 use Rattle.storage_thread.specs.Deadlines.{MayStoreAsAsked}
-use Rattle.storage_thread.specs.Serving.{IsSameExchange}
+use Rattle.storage_thread.specs.Serving.{IsSameExchange, IsTimed}
 use Rattle.storage_thread.specs.declared.serving.StorageReport.{StorageReport}
 use Rattle.worker_port.specs.Ports.{PortTrace}
 use Rattle.worker_port.specs.Giving.{IsTraceOf}
@@ -21,7 +23,6 @@ use Rattle.group.specs.declared.start.Finished.{Finished}
 use Rattle.group.specs.declared.fault.GroupFault.{GroupFault}
 use Rattle.group.specs.declared.fault.GroupFault.TheVariants.{NoMemory, NoThread, NotNew}
 use Rattle.group.specs.declared.report.GroupWorker.{GroupWorker}
-use Rattle.group.specs.Headline.{IsHistoryOf}
 
 -- what a worker's thread leaves of the port and the end that it was given
 pub record KeepsWorker {P : Type 0} (told : P → Option PortTrace) (leads_to : P → P → Type 0) (port : P)
@@ -43,8 +44,11 @@ pub record KeepsStorage {C : Type 0} (told : C → Option (List ℕ)) (leads_to 
     (exact may_refuse : Bool) (clock : C) (end : StorageView) (report : StorageReport C) : Type 0 where
   pub same : IsSameExchange end report.storage_end
   pub none_open : report.storage_end.open_request ≡ None
-  pub made : IsHistoryOf told leads_to end.terms.geometry end.workers clock report.clock report.executed
-      report.storage_end.history
+  pub legal : Legal end.terms.geometry report.storage_end.history
+  pub inside : All (λ (e : Answered). e.worker < end.workers) report.storage_end.history
+  pub counted : report.executed ≡ min (length report.storage_end.history) (2 ^ 64 - 1)
+  pub moments : IsTimed (told clock) (told report.clock) report.storage_end.history
+  pub leads : leads_to clock report.clock
   pub refused : RefusesBy may_refuse report.storage_end.history
   pub bounded : keeps → MayAlwaysForgetNothing end.terms.geometry report.storage_end.history
   pub dated : exact ≡ true → MayStoreAsAsked end.terms.geometry report.storage_end.history

@@ -222,10 +222,10 @@ replayed sizes d exact clock workers accept fail_give text scripts read exchange
       scripts = scripts;
       read = read;
       history = run.history;
-      legal = run.made.legal;
-      inside = subst (λ n. All (λ (e : Answered). e.worker < n) run.history) (sym ports_are.0) run.made.inside;
-      timed = timed_by clock told report.clock run.history clock_is none run.made.legal.moments run.made.leads
-          run.made.moments;
+      legal = run.legal;
+      inside = subst (λ n. All (λ (e : Answered). e.worker < n) run.history) (sym ports_are.0) run.inside;
+      timed = timed_by clock told report.clock run.history clock_is none run.legal.moments run.leads
+          run.moments;
       outcomes = map outcomes_of report.workers.items;
       one_each = length-map report.workers.items outcomes_of ∙ run.one_each ∙ sym ports_are.0;
       each = λ w events os there at.

@@ -18,15 +18,13 @@ unix_seconds reading = option_map_or (λ (time : SystemTime). system_time_nanos 
 
 -- the whole seconds between two readings of the monotonic clock, 0 where one of them couldn't be read
 abbrev pub seconds_between : Option Instant → Option Instant → ℕ
-seconds_between first now = option_map_or (λ (from : Instant).
-    option_map_or (λ (to : Instant). (instant_nanos to - instant_nanos from) / 1000000000) now 0) first 0
+seconds_between (Some first) (Some now) = (instant_nanos now - instant_nanos first) / 1000000000
+seconds_between _ _ = 0
 
 -- the Unix seconds of the start, and the whole seconds that the monotonic clock has counted since
 abbrev pub seconds_since : ClockStart → Option Instant → ℕ
 seconds_since start now =
-    option_map_or (λ (time : SystemTime). system_time_nanos time / 1000000000) start.unix 0
-    + option_map_or (λ (from : Instant).
-    option_map_or (λ (to : Instant). (instant_nanos to - instant_nanos from) / 1000000000) now 0) start.monotonic 0
+    option_map_or (λ (time : SystemTime). system_time_nanos time / 1000000000) start.unix 0 + seconds_between start.monotonic now
 
 -- the answer is the seconds of one reading of the system's clock, counted from this start
 abbrev pub IsRead : ClockStart → GivenAnswer → Type 0

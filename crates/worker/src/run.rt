@@ -24,6 +24,10 @@ use worker_port::Port;
 /// The most events that are taken in a turn. The worker tells storage of their requests together, so it wakes it once.
 const EVENTS_A_TURN: usize = 32;
 
+/// The bytes of input after which no more events are taken in a turn, so that requests with large values are executed
+/// while these are in the processor's cache.
+const BYTES_A_TURN: usize = 65_536;
+
 /// The events that are taken in a turn though a session can't be asked further, if turns are long, as much output waits: so the
 /// others are heard too. In a short turn it is one event.
 const EVENTS_WHILE_BUSY: usize = 8;
@@ -51,6 +55,28 @@ pub struct WorkerReport<P> {
     pub strangers: u64,
 }
 
+/// Takes an event, if there is one, and gives how many bytes of input it brought. The time for which the port may wait
+/// isn't busy, and before it the worker sets its gauges.
+fn take_event<P: Port, R: Clock>(
+    rt: &R,
+    worker: &mut Worker<P>,
+    pauses: &mut Pauses,
+    storage: &StorageSignals,
+) -> Option<usize>
+    ensures { Continues P.told P.leads_to worker.old worker.new }
+{
+    let may_wait = worker.may_wait(&pauses.retries);
+    if may_wait {
+        worker.state.set_gauges(storage);
+        pauses.waits.begin(rt);
+    }
+    let came = worker.take_event(may_wait);
+    if may_wait {
+        pauses.waits.end(rt);
+    }
+    came
+}
+
 /// Takes a few events, as long as the port may know of one. After each it reads the requests that the event brought, so a
 /// session's requests are read before the event that its client has gone; and it pauses sessions for whose large messages there
 /// is no room, so they bring no further piece. If a session has requests that can't be read now, few events are taken, and storage
@@ -65,22 +91,13 @@ fn take_events<P: Port, G: Gate, E: Executor, R: Clock>(
 ) -> usize
     ensures { Continues P.told P.leads_to worker.old worker.new }
 {
-    let mut count = 0;
+    let (mut count, mut bytes) = (0, 0_usize);
     for taken in 1..=EVENTS_A_TURN {
-        // The time for which the port may wait isn't busy, and before it the worker sets its gauges.
-        let may_wait = worker.may_wait(&pauses.retries);
-        if may_wait {
-            worker.state.set_gauges(storage);
-            pauses.waits.begin(rt);
-        }
-        let came = worker.take_event(may_wait);
-        if may_wait {
-            pauses.waits.end(rt);
-        }
-        if !came {
+        let Some(came) = take_event(rt, worker, pauses, storage) else {
             break;
-        }
+        };
         count = taken;
+        bytes = bytes.saturating_add(came);
         ask_sessions(worker, gate, storage);
         pause_sessions(worker);
         if worker.state.book.ready(Task::Ask) > 0 {
@@ -89,7 +106,7 @@ fn take_events<P: Port, G: Gate, E: Executor, R: Clock>(
                 break;
             }
         }
-        if !worker.state.port.may_know_event() {
+        if (bytes >= BYTES_A_TURN) | !worker.state.port.may_know_event() {
             break;
         }
     }

@@ -239,25 +239,30 @@ impl<P: Port> Worker<P> {
         self.state.book.ready(Task::RetryWrite) == 0 || retries.are_done(self.state.port.rooms())
     }
 
-    /// Takes one event of the port, for which it may wait or not, unless it has ended. True if there was one.
-    pub(crate) fn take_event(&mut self, may_wait: bool) -> bool
+    /// Takes one event of the port, for which it may wait or not, unless it has ended. None if there was none, and else
+    /// how many bytes of input it brought.
+    pub(crate) fn take_event(&mut self, may_wait: bool) -> Option<usize>
         ensures { Continues P.told P.leads_to self.old self.new }
     {
         if self.state.ended {
-            return false;
+            return None;
         }
+        let mut count = 0;
         match self.state.port.next(may_wait, &self.state.batch) {
             PortEvent::Opened(session) => self.state.admit(session),
-            PortEvent::Data(session, bytes) => self.state.receive(session, bytes),
+            PortEvent::Data(session, bytes) => {
+                count = bytes.len();
+                self.state.receive(session, bytes);
+            }
             PortEvent::EndOfInput(session) => {
                 let finished = self.state.book.end_input(session);
                 self.finish(session, finished);
             }
             PortEvent::Gone(session) => self.state.lose(session),
-            PortEvent::Idle => return false,
+            PortEvent::Idle => return None,
             PortEvent::Ended => self.state.ended = true,
         }
-        true
+        Some(count)
     }
 
     /// Feeds the next held piece that may fit by now, if it does. True if something was done.

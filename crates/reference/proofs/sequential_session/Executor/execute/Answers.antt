@@ -1,6 +1,6 @@
 use Rattle.std.proofs.Common.{rules, subst}
 use Rattle.proto.specs.Steps.{Step, IsCarriedOut}
-use Rattle.reference.specs.Execution.{Execution, Executes}
+use Rattle.reference.specs.Execution.{Execution}
 use Rattle.reference.proofs.sequential_session.Executor.execute.Goals as goal
 
 pub returns-clause-executes : goal.returns-clause-executes

@@ -466,8 +466,9 @@ fn check_large(
     for (request, length) in answers {
         output = output.saturating_add(*length);
         player.feed(1, request.as_bytes())?;
-        check_step(rt, player, &AskNext(1), (*request, 0))?;
-        check_step(rt, player, &SettleHit(*length), (*request, 0))?;
+        for step in [See(NextToAsk(Some(1))), AskNext(1), SettleHit(*length)] {
+            check_step(rt, player, &step, (*request, 0))?;
+        }
         check_same(rt, player.book.out(1).len(), output, "the answers");
     }
     check_parts(rt, player, next, &UNDER_WAY)?;

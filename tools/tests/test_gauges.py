@@ -8,8 +8,8 @@ import time
 import pytest
 import tries
 from asking import (
-    END, ERROR, MISS, NOT_FOUND, NOT_STORED, STORED, TOO_LARGE, ask, asks_for, flood, hit, opened,
-    put, write_large)
+    END, ERROR, LARGE, MISS, NOT_FOUND, NOT_STORED, STORED, TOO_LARGE, ask, asks_for, flood, get,
+    hit, opened, put, write_large)
 from served import comes_true, read
 from stats_of import numbers, told, wait_for
 
@@ -214,13 +214,15 @@ def test_what_is_not_stored_as_too_large_is_counted_and_nothing_else(serve):
 
 @pytest.mark.parametrize("words, budget", [([], 64 * MIB), (["--output-memory", str(16 * MIB)], 16 * MIB)], ids=["default", "told"])
 def test_a_worker_keeps_as_much_output_as_it_is_told(serve, words, budget):
-    """Each of forty clients asks for 7.9 MB and takes none, so its socket takes some four MB. A
-    reply may turn out larger than was likely."""
+    """Each of forty clients asks for 7.9 MB and takes none, so its socket takes some four MB. What
+    a key takes is known from a client before them."""
     server = serve("--lenient", "--workers", "1", "--segment-size", "1048576", *words)
     write_large(server)
+    stream = server.connect()
+    ask(stream, get(b"large", 60), hit(b"large", LARGE, times=60))
     for _ in range(40):
         asks_for(server, 60)
-    stream, most, until = server.connect(), 0, time.monotonic() + 5
+    most, until = 0, time.monotonic() + 5
     while time.monotonic() < until:
         most = max(most, numbers(stream)["output_bytes"])
         time.sleep(0.05)

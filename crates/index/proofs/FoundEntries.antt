@@ -1,14 +1,13 @@
 -- What a search for a key found.
-use Rattle.std.proofs.Common.{◌≡◌, ℕ, ◌<◌, ◌≤◌, List, length, refl, sym, ap, subst, ◌∙◌, arith, Option, Some, None}
+use Rattle.std.proofs.Common.{◌≡◌, ℕ, ◌≤◌, List, length, refl, sym, ap, subst, ◌∙◌, arith, Some, None}
 use Rattle.std.specs.Prelude.{IsSome}
 use Rattle.std.specs.FinMap as map
 use Rattle.segments.specs.declared.place.Place.{Place}
-use Rattle.index.specs.declared.slots.Slot.{Slot}
 use Rattle.index.specs.declared.index.Entry.{Entry}
 use Rattle.index.specs.declared.index.Entry.TheVariants.{At, Gap}
 use Rattle.index.specs.Keys.{KeysOf, hash_of, home_of}
 use Rattle.index.specs.Layouts.{tag_of}
-use Rattle.index.specs.Slots.{is_used, place_of, slot_at}
+use Rattle.index.specs.Slots.{place_of, slot_at}
 use Rattle.index.specs.Table.{Table, Hashing, hashing, IsIndex, IsMap, places, place_at}
 use Rattle.index.specs.Searches.{IsEntryOf, IsOfKey, NoneUpTo}
 use Rattle.index.proofs.SlotsAsMap.{get_none, get_from_stands, none_stands, removed_places, stands_once, Stands}

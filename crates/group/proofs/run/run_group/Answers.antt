@@ -1,8 +1,6 @@
-use Rattle.std.proofs.Common.{◌≡◌, [], refl, sym, ap, subst, ◌∙◌}
-use Rattle.std.specs.Prelude.{IfOk}
+use Rattle.std.proofs.Common.{sym, ap, subst, ◌∙◌}
 use Rattle.proto.specs.declared.terms.Terms.{Terms}
 use Rattle.exchange.specs.Ends.{TableId}
-use Rattle.group.specs.Headline.{IsRun}
 use Rattle.group.specs.Threads.{ArePortsOf}
 use Rattle.group.proofs.Runs.{made_of}
 use Rattle.group.proofs.run.run_group.Goals as goal

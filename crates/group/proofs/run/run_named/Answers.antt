@@ -1,4 +1,4 @@
-use Rattle.std.proofs.Common.{◌≡◌, [], refl, sym, ap, subst, ◌∙◌}
+use Rattle.std.proofs.Common.{[], refl, sym, ap, ◌∙◌}
 use Rattle.exchange.specs.Ends.{StorageView}
 use Rattle.group.proofs.Runs.{kept_by_side, rejoined, stored, together}
 use denote.Exit.{no}

@@ -1,4 +1,4 @@
-use Rattle.std.proofs.Common.{Some, refl, ◌∙◌}
+use Rattle.std.proofs.Common.{Some, refl}
 use Rattle.std.specs.Prelude.{map}
 use Rattle.segcache.proofs.NewMaps.{exact_of}
 use denote.Exit.{no}

@@ -1,4 +1,4 @@
-use Rattle.std.proofs.Common.{◌≡◌, refl, sym, ap, subst, ◌∙◌, Option, Some, None, Result, Ok, Err}
+use Rattle.std.proofs.Common.{◌≡◌, refl, sym, ap, subst, ◌∙◌, Option, Some, None, Result, Ok}
 use Rattle.session_book.specs.Book.{session_of, NextAsk, given_in}
 use Rattle.worker.proofs.WorkerSteps.{WorkerGoesOn, continues, no_memory_goes_on, open_at}
 use Rattle.worker.proofs.OutputSteps.{some_known}

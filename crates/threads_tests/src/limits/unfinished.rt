@@ -45,6 +45,9 @@ struct StepPort {
     /// How many bytes that was when it looked.
     seen: usize,
     given: usize,
+    /// How many bytes were accepted since it was asked for an event, and how many that were at most.
+    in_turn: usize,
+    most_in_turn: usize,
     /// How many sessions were shut.
     shut: u64,
     has_ended: bool,
@@ -58,6 +61,8 @@ impl StepPort {
             offered: [0; 3],
             seen: 0,
             given: 0,
+            in_turn: 0,
+            most_in_turn: 0,
             shut: 0,
             has_ended: false,
         }
@@ -85,6 +90,7 @@ impl Port for StepPort {
     ghost leads_to = { λ _ _. Unit {0} };
 
     fn next(&mut self, _may_wait: bool, _sender: &WorkerBatch) -> PortEvent {
+        self.in_turn = 0;
         if self.has_ended || self.waits() {
             return PortEvent::Idle;
         }
@@ -118,6 +124,8 @@ impl Port for StepPort {
             }
         }
         self.given = self.given.saturating_add(bytes.len());
+        self.in_turn = self.in_turn.saturating_add(bytes.len());
+        self.most_in_turn = self.most_in_turn.max(self.in_turn);
         Ok(bytes.len())
     }
 
@@ -384,8 +392,13 @@ where
     let port = &served.port;
     let wanted = (unread.waiting, accepted.saturating_add(200), 0);
     check_same(rt, (port.seen, port.given, port.shut), wanted, unread.value);
+    // (what waited for room may come in the same turn as what was offered before)
+    let unasked = unread.all.saturating_sub(unread.waiting);
+    let most = unasked.saturating_add(unread.first);
+    assert!(*rt; port.most_in_turn < most.saturating_add(1_048_576));
 }
 
+/// Once one session's output of more than 1 MiB was given again in a turn, the others' waits for the next one.
 #[test]
 fn above_64_mib_of_output_large_answers_wait(rt: HostRuntime) {
     for unread in &UNREAD {

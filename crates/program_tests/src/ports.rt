@@ -22,6 +22,9 @@ const FEW_CALLS: usize = 10_000;
 /// How often each of some sessions is read that are read in turn.
 const TURNS: usize = 20;
 
+/// How many pieces a read has at most.
+const PIECES_OF_A_READ: usize = 8;
+
 /// In how many events another client is heard, while one sends all that the port takes.
 const EVENTS_UNTIL_HEARD: usize = 64;
 
@@ -223,8 +226,8 @@ where
     check_next(rt, port, CALLS, Came::Data(1, 7), "a request");
 }
 
-/// The sessions from number 1 on are read in turn, and all of a read comes in a row: one piece of the first read, and
-/// two of each later one, as each client has sent another piece whenever one came.
+/// The sessions from number 1 on are read in turn, and all of a read comes in a row, as each client has sent another piece
+/// whenever one came.
 fn check_in_turn<R>(rt: &R, alloc: Global, port: &mut AskedPort<R>, fast: &[TcpStream])
 where
     R: Wait + Clock + Abort + Drop,
@@ -233,37 +236,40 @@ where
         send_piece(rt, alloc, client);
         send_piece(rt, alloc, client);
     }
-    for turn in 0..TURNS {
-        let pieces = if turn == 0 { 1 } else { 2 };
+    let mut came = next(port, CALLS);
+    for _ in 0..TURNS {
         for (session, client) in (1..=fast.len() as u64).zip(fast) {
-            check_turn(rt, alloc, port, session, client, pieces);
+            came = check_turn(rt, alloc, port, session, client, came);
         }
     }
 }
 
-/// So many whole pieces of the session come in a row, while its client sends another one whenever one came.
+/// A whole piece of the session came, and others of the same read follow. What comes then.
 fn check_turn<R>(
     rt: &R,
     alloc: Global,
     port: &mut AskedPort<R>,
     session: u64,
     client: &TcpStream,
-    pieces: usize,
-)
+    first: Came,
+) -> Came
 where
     R: Wait + Clock + Abort + Drop,
 {
-    for _ in 0..pieces {
-        let whole = Came::Data(session, MAX_PIECE);
-        check_next(
-            rt,
-            port,
-            CALLS,
-            whole,
-            "a whole piece of the session whose turn it is",
-        );
+    let whole = Came::Data(session, MAX_PIECE);
+    assert!(*rt;
+        first == whole,
+        "a whole piece of the session whose turn it is"
+    );
+    let mut came = first;
+    for _ in 0..PIECES_OF_A_READ {
+        if came != whole {
+            break;
+        }
         send_piece(rt, alloc, client);
+        came = next(port, CALLS);
     }
+    came
 }
 
 fn check_all_in_turn<R>(rt: &R, alloc: Global, port: &mut AskedPort<R>, clients: &[TcpStream])

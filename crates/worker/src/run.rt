@@ -19,14 +19,14 @@ use session_book::{EndCause, Task};
 use std::alloc::Global;
 use std::sync::Wait;
 use std::time::Clock;
-use worker_port::Port;
+use worker_port::{MAX_PIECE, Port};
 
 /// The most events that are taken in a turn. The worker tells storage of their requests together, so it wakes it once.
 const EVENTS_A_TURN: usize = 32;
 
-/// The bytes of input after which no more events are taken in a turn, so that requests with large values are executed
-/// while these are in the processor's cache.
-const BYTES_A_TURN: usize = 65_536;
+/// The whole pieces of input after which no more events are taken in a turn, so that requests with large values are executed while
+/// these are in the processor's cache.
+const PIECES_A_TURN: usize = 4;
 
 /// The events that are taken in a turn though a session can't be asked further, if turns are long, as much output waits: so the
 /// others are heard too. In a short turn it is one event.
@@ -91,13 +91,13 @@ fn take_events<P: Port, G: Gate, E: Executor, R: Clock>(
 ) -> usize
     ensures { Continues P.told P.leads_to worker.old worker.new }
 {
-    let (mut count, mut bytes) = (0, 0_usize);
+    let (mut count, mut pieces) = (0, 0_usize);
     for taken in 1..=EVENTS_A_TURN {
         let Some(came) = take_event(rt, worker, pauses, storage) else {
             break;
         };
         count = taken;
-        bytes = bytes.saturating_add(came);
+        pieces = pieces.saturating_add(came / MAX_PIECE);
         ask_sessions(worker, gate, storage);
         pause_sessions(worker);
         if worker.state.book.ready(Task::Ask) > 0 {
@@ -106,7 +106,7 @@ fn take_events<P: Port, G: Gate, E: Executor, R: Clock>(
                 break;
             }
         }
-        if (bytes >= BYTES_A_TURN) | !worker.state.port.may_know_event() {
+        if (pieces >= PIECES_A_TURN) | !worker.state.port.may_know_event() {
             break;
         }
     }

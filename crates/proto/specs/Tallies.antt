@@ -17,14 +17,14 @@ no_counts =
     record { gets = none; sets = none; cas = none; badvals = 0; deletes = none; incrs = none; decrs = none; touches = none; flushes = 0; refused = 0 }
 
 -- how many keys the reply says to be there, or to have been stored, changed or taken out, and how many not to be there
-abbrev pub told_in : Reply → Tally
-told_in (Values hits) = record { hits = length hits; misses = 0 }
-told_in Stored = record { hits = 1; misses = 0 }
-told_in Deleted = record { hits = 1; misses = 0 }
-told_in (Number n) = record { hits = 1; misses = 0 }
-told_in Touched = record { hits = 1; misses = 0 }
-told_in NotFound = record { hits = 0; misses = 1 }
-told_in _ = record { hits = 0; misses = 0 }
+abbrev pub tally_in : Reply → Tally
+tally_in (Values hits) = record { hits = length hits; misses = 0 }
+tally_in Stored = record { hits = 1; misses = 0 }
+tally_in Deleted = record { hits = 1; misses = 0 }
+tally_in (Number n) = record { hits = 1; misses = 0 }
+tally_in Touched = record { hits = 1; misses = 0 }
+tally_in NotFound = record { hits = 0; misses = 1 }
+tally_in _ = record { hits = 0; misses = 0 }
 
 abbrev pub conflicts_in : Reply → ℕ
 conflicts_in Exists = 1
@@ -36,22 +36,25 @@ tallied t hits misses = record { hits = more t.hits hits; misses = more t.misses
 -- of a storage command a hit is what was stored
 abbrev pub counted_by : Counts → Request → Reply → Counts
 counted_by c (Get keys with_cas) reply =
-    record c { gets = tallied c.gets (told_in reply).hits (length keys - (told_in reply).hits) }
+    record c { gets = tallied c.gets (tally_in reply).hits (length keys - (tally_in reply).hits) }
 counted_by c (GetAndTouch keys with_cas exptime) reply =
-    record c { touches = tallied c.touches (told_in reply).hits (length keys - (told_in reply).hits) }
+    record c { touches = tallied c.touches (tally_in reply).hits (length keys - (tally_in reply).hits) }
 counted_by c (Cas p unique) reply = record c {
-  sets = tallied c.sets (told_in reply).hits (1 - (told_in reply).hits);
-  cas = tallied c.cas (told_in reply).hits (told_in reply).misses;
+  sets = tallied c.sets (tally_in reply).hits (1 - (tally_in reply).hits);
+  cas = tallied c.cas (tally_in reply).hits (tally_in reply).misses;
   badvals = more c.badvals (conflicts_in reply);
 }
-counted_by c (Delete key) reply = record c { deletes = tallied c.deletes (told_in reply).hits (told_in reply).misses }
-counted_by c (Incr key amount) reply = record c { incrs = tallied c.incrs (told_in reply).hits (told_in reply).misses }
-counted_by c (Decr key amount) reply = record c { decrs = tallied c.decrs (told_in reply).hits (told_in reply).misses }
-counted_by c (Touch asked) reply = record c { touches = tallied c.touches (told_in reply).hits (told_in reply).misses }
+counted_by c (Delete key) reply = record c { deletes = tallied c.deletes (tally_in reply).hits (tally_in reply).misses }
+counted_by c (Incr key amount) reply =
+    record c { incrs = tallied c.incrs (tally_in reply).hits (tally_in reply).misses }
+counted_by c (Decr key amount) reply =
+    record c { decrs = tallied c.decrs (tally_in reply).hits (tally_in reply).misses }
+counted_by c (Touch asked) reply =
+    record c { touches = tallied c.touches (tally_in reply).hits (tally_in reply).misses }
 counted_by c (FlushAll delay) reply = record c { flushes = more c.flushes 1 }
 counted_by c (SetTooLarge key) reply = c
 counted_by c Stats reply = c
-counted_by c _ reply = record c { sets = tallied c.sets (told_in reply).hits (1 - (told_in reply).hits) }
+counted_by c _ reply = record c { sets = tallied c.sets (tally_in reply).hits (1 - (tally_in reply).hits) }
 
 -- the counts after a request and its reply; one that was refused memory counts as that alone
 abbrev pub counted : Counts → Request → Reply → Counts

@@ -3,7 +3,7 @@
 ghost use Rattle.std.specs.Prelude.{◌≡◌, ◌-◌};
 ghost use Rattle.proto.specs.Stored.{is_no_memory};
 ghost use Rattle.proto.specs.StatTexts.{more};
-ghost use Rattle.proto.specs.Tallies.{counted, counted_by, told_in};
+ghost use Rattle.proto.specs.Tallies.{counted, counted_by, tally_in};
 ghost use Rattle.proto.specs.Tallies.{no_counts, tallied};
 
 use crate::message::{Reply, Request};
@@ -38,7 +38,7 @@ pub struct Counts {
 
 /// How many keys the reply says to be there, or to have been stored, changed or taken out.
 fn hits_in(reply: &Reply) -> u64
-    ensures { result ≡ (told_in reply.now).hits }
+    ensures { result ≡ (tally_in reply.now).hits }
 {
     match reply {
         Reply::Values(hits) => hits.len() as u64,
@@ -49,7 +49,7 @@ fn hits_in(reply: &Reply) -> u64
 
 /// Whether the reply says that the key isn't there, as a number.
 fn misses_in(reply: &Reply) -> u64
-    ensures { result ≡ (told_in reply.now).misses }
+    ensures { result ≡ (tally_in reply.now).misses }
 {
     u64::from(matches!(reply, Reply::NotFound))
 }
@@ -70,7 +70,7 @@ impl Tally {
 
     /// Counts a key, by the reply.
     fn count(&mut self, reply: &Reply)
-        ensures { self.new ≡ tallied self.old (told_in reply.now).hits (told_in reply.now).misses }
+        ensures { self.new ≡ tallied self.old (tally_in reply.now).hits (tally_in reply.now).misses }
     {
         self.add(hits_in(reply), misses_in(reply));
     }
@@ -104,7 +104,7 @@ impl Counts {
     /// Counts a storage command.
     fn count_put(&mut self, reply: &Reply)
         ensures { self.new ≡ record self.old {
-          sets = tallied self.old.sets (told_in reply.now).hits (1 - (told_in reply.now).hits);
+          sets = tallied self.old.sets (tally_in reply.now).hits (1 - (tally_in reply.now).hits);
         } }
     {
         let stored = hits_in(reply);

@@ -15,7 +15,8 @@ use Rattle.proto.proofs.DeadlineLemmas.{may_be_shared}
 use Rattle.segments.specs.declared.place.Place.{Place}
 use Rattle.segments.specs.Items.{Item, size_of_item}
 use Rattle.segments.specs.Pools.{PoolState, IsPool, Used, Liveness, item_in, place_deadline, deadline_in}
-use Rattle.segments.specs.Pools.{bucket_deadline, segment_at, tail, is_sealed, opening_moment, lasting}
+use Rattle.segments.specs.Pools.{bucket_deadline, segment_at, tail, is_sealed, lasting}
+use Rattle.segments.specs.Rules.{opening_moment}
 use Rattle.segments.specs.Changes.{IsAddedToTail, IsAddedToFree, open_tail, if_takes, takes, with_item}
 use Rattle.segments.proofs.Places.{appended, set_at, takes_open}
 use Rattle.segments.proofs.OpeningLemmas.{opening_le, opening_open}

@@ -6,7 +6,8 @@ use Rattle.std.proofs.lemmas.Nat.{div-add-mod', le-div, mul-le}
 use Rattle.proto.specs.Buckets.{width_of, lower_end}
 use Rattle.proto.specs.declared.eviction.Eviction.{Eviction}
 use Rattle.proto.specs.declared.eviction.Eviction.TheVariants.{Oldest, LeastRead}
-use Rattle.segments.specs.Pools.{is_sealed, lasting, opening_moment}
+use Rattle.segments.specs.Pools.{is_sealed, lasting}
+use Rattle.segments.specs.Rules.{opening_moment}
 
 -- a segment that was opened less than a life and a width ago isn't closed
 closed_by : (l : Bool) (o life width t : ℕ) → t < o + life → t < o + width

@@ -12,12 +12,15 @@ use Rattle.std.proofs.lemmas.Bool.{cases_lt, cases_Bool, cases_eq, eq-eqb, ne_eq
 use Rattle.std.proofs.lemmas.Bool.{false≢true, and_parts, and_from, le-ltb, or_cases, or_left, or_right, or_parts}
 use Rattle.segments.specs.Items.{Item, size_of_item, size_of_all, IsStorable}
 use Rattle.proto.specs.Counts.{times}
-use Rattle.segments.specs.Pools.{PoolState, IsPool, Used, segment_at, in_bucket, tail, items_of, is_sealed, lasting, opening_moment}
+use Rattle.segments.specs.Pools.{PoolState, IsPool, Used, segment_at, in_bucket, tail, items_of, is_sealed, lasting}
+use Rattle.segments.specs.Rules.{opening_moment}
 use Rattle.proto.specs.declared.eviction.Eviction.{Eviction}
 use Rattle.proto.specs.declared.eviction.Eviction.TheVariants.{Oldest, LeastRead}
 use Rattle.segments.specs.Changes.{takes, if_takes, open_tail, IsPoolFull, HasNoRoom}
-use Rattle.segments.specs.Merges.{opened_at}
-use Rattle.segments.specs.Filling.{bucket_in, OpensNoLater, IsOpenedBy}
+use Rattle.segments.specs.Chains.{opened_at}
+use Rattle.segments.specs.Filling.{IsOpenedBy}
+use Rattle.segments.specs.Chains.{bucket_in}
+use Rattle.segments.specs.Rules.{OpensNoLater}
 use Rattle.segments.specs.Filling.{goes_with, AreFilled, IsFilled, AreInTime, IsInTime, Series, series_for, series_of, same_series}
 use Rattle.segments.specs.Filling.{series_among, held_in, held_among, held_size, series_with, filled_size, HoldsLittle}
 use Rattle.proto.specs.Sizes.{item_limit}

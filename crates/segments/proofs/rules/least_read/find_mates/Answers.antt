@@ -3,12 +3,12 @@ use Rattle.std.specs.Prelude.{vec_len}
 use Rattle.std.proofs.Math.ListN.{set}
 use Rattle.std.proofs.Math.Seq.{drop-length}
 use Rattle.std.proofs.lemmas.List.{get_or_default, get_or-replicate}
-use Rattle.segments.specs.declared.merge.Rest.TheVariants.{Nothing}
+use Rattle.segments.specs.declared.rules.least_read.Rest.TheVariants.{Nothing}
 use Rattle.segments.specs.Inside.{shown_segments}
-use Rattle.segments.specs.Starts.{AreRests, with_front}
+use Rattle.segments.specs.LeastReadRule.{AreRests, with_front}
 use Rattle.segments.proofs.MateLemmas.{IsFirstMate, rests_more, rests_same, found_same, found_here, free_mate, no_mate}
-use Rattle.segments.proofs.merge.find_mates.Goals as goal
-use Rattle.segments.proofs.merge.find_mates.Goals.{else-place-looked-via-then-place-looked+else-has_mate, else-place-looked-via-else-place-looked}
+use Rattle.segments.proofs.rules.least_read.find_mates.Goals as goal
+use Rattle.segments.proofs.rules.least_read.find_mates.Goals.{else-place-looked-via-then-place-looked+else-has_mate, else-place-looked-via-else-place-looked}
 
 pub loop-place-init : goal.loop-place-init
 loop-place-init c =

@@ -1,9 +1,9 @@
 use Rattle.std.proofs.Common.{◌≡◌, drop, vec_len}
 use Rattle.segments.specs.Inside.{shown_segments}
 use Rattle.segments.specs.Pools.{bucket_count}
-use Rattle.segments.specs.Starts.{AreRests}
+use Rattle.segments.specs.LeastReadRule.{AreRests}
 use Rattle.segments.proofs.MateLemmas.{IsFirstMate}
-use Rattle.segments.proofs.merge.find_mates.Given as goal
+use Rattle.segments.proofs.rules.least_read.find_mates.Given as goal
 
 abbrev pub invariant-loop-place : goal.invariant-loop-place
 invariant-loop-place l = record {

@@ -1,6 +1,6 @@
 use Rattle.std.proofs.Common.{◌≡◌, length, vec_capacity}
 use Rattle.segments.proofs.MovedNumbers.{IsSoFar}
-use Rattle.segments.proofs.carry.move_before.Given as goal
+use Rattle.segments.proofs.rules.least_read.move_before.Given as goal
 
 abbrev pub invariant-loop-place : goal.invariant-loop-place
 invariant-loop-place l = record {

@@ -1,8 +1,8 @@
 use Rattle.std.proofs.Common.{◌<◌, [], refl, length, sym, ap, subst, ◌∙◌, arith}
 use Rattle.std.proofs.lemmas.List.{get_or_default}
 use Rattle.segments.proofs.MovedNumbers.{IsSoFar, moved_end, moved_here, moving_low, moves_on, starts_here, starts_later}
-use Rattle.segments.proofs.carry.move_before.Goals as goal
-use Rattle.segments.proofs.carry.move_before.Goals.{then-is_behind+else-index-next, else-is_behind+then-index-number, else-is_behind+else-index-number}
+use Rattle.segments.proofs.rules.least_read.move_before.Goals as goal
+use Rattle.segments.proofs.rules.least_read.move_before.Goals.{then-is_behind+else-index-next, else-is_behind+then-index-number, else-is_behind+else-index-number}
 
 pub loop-place-init : goal.loop-place-init
 loop-place-init c =

@@ -14,8 +14,8 @@ use Rattle.segcache.proofs.OpeningMoments.{past_changed}
 use Rattle.segcache.proofs.segment_map.SegmentMapLiveMap.count_read.Goals as goal
 use Rattle.segments.specs.Pools.{item_in}
 
-pub touch-requires : goal.touch-requires
-touch-requires c =
+pub count_read-requires : goal.count_read-requires
+count_read-requires c =
     let a = c.self.inside in
     let there : finite.get (current a.pool a.index) c.args._key.now ≡ Some c.args.place =
     (let h = c.requires in rw (← c.self.view_is) at h) in

@@ -166,8 +166,8 @@ class Cache:
         return front[: 3 if self.is_least_read else 4], chain[len(front)] if chain else None
 
     def looked_at(self):
-        """The first segments, a quarter of all."""
-        return self.order[: self.segments // 4]
+        """The first segments, a third of all."""
+        return self.order[: self.segments // 3]
 
     def fronts(self):
         """What can be merged, what comes first in front, with the segment behind it and the next bucket."""

@@ -48,7 +48,7 @@ def test_merges_keep_what_was_read(program, words, ttl, writes, reads, again, fo
 
 
 # Nine keys are written, each with a life of its own: eight times its number of seconds. They stand in nine buckets, of which eight have a
-# segment. Of the first quarter, the segments of the first two keys, the first one has fewest hits, unless the first key was read or touched.
+# segment. Of the first third, the segments of the first two keys, the first one has fewest hits, unless the first key was read or touched.
 # The eighth segment that is opened halves all hits.
 #
 # The words; how often the first key is read before and after the eighth write, and how often it is touched after it; the key that is

@@ -67,7 +67,7 @@ const QUIET_HELP: &str =
     "Write no line on standard error for connections that are closed for what they sent, for silence or for memory";
 
 const EVICT_HELP: &str =
-    "Which segments are merged or evicted: the oldest, or of the first quarter those whose items were read least";
+    "Which segments are merged or evicted: the oldest, or of the first third those whose items were read least";
 
 const REPLAY_HELP: &str = "A script has a line for each event, with single spaces between its words:
   open W S      session S begins at worker W

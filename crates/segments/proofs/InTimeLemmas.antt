@@ -24,7 +24,7 @@ use Rattle.segments.proofs.BehindLemmas.{IsBehind, behind_is}
 use Rattle.segments.proofs.SeriesLemmas.{bucket_of_in}
 use Rattle.segments.specs.Hits.{HitCounts, IsFewest}
 use Rattle.segments.specs.Merges.{IsVictim, IsVictimBy, qualifies, merged_segments, merged_into, contains_number, opened_at}
-use Rattle.segments.specs.Merges.{look_count, candidates, quarter, chain_of, behind_front, order_by}
+use Rattle.segments.specs.Merges.{look_count, candidates, third, chain_of, behind_front, order_by}
 use Rattle.segments.specs.Filling.{bucket_in, OpensNoLater, AreInTime, IsInTimeOrder, IsInTime}
 use Rattle.segments.proofs.LinkLemmas.{used_if, below_by}
 use Rattle.segments.proofs.Places.{cleared_segment}
@@ -273,24 +273,24 @@ lt-min : (k a b : ℕ) → k < a → k < b → k < min a b
 lt-min k a b x y = let h : k + 1 ≤ min a b = le-min (omega arith) (omega arith) in omega (arith, h)
 
 -- where no segment is looked at, none is in a chain
-looked_none : (p : PoolState) (order : List ℕ) → p.order ≡ order → 0 < quarter p → candidates p ≡ [] → order ≡ []
+looked_none : (p : PoolState) (order : List ℕ) → p.order ≡ order → 0 < third p → candidates p ≡ [] → order ≡ []
 looked_none p [] is q e = refl
 looked_none p (x ∷ xs) is q e =
     let count : length p.order ≡ length (x ∷ xs) = ap length is in
     let some : 0 < length p.order = omega (arith, count, add-one (length xs)) in
-    let looked = lt-min 0 (quarter p) (length p.order) q some in
+    let looked = lt-min 0 (third p) (length p.order) q some in
     let t = length-take (look_count p) p.order in
     let l = ap length e in
     absurd (omega (arith, t, l, looked, some))
 
--- a quarter of a pool's segments is some
-quarter_some : (p : PoolState) → IsPool p → 0 < quarter p
-quarter_some p k = let few = k.geometry.fewest in omega (arith, few)
+-- a third of a pool's segments is some
+third_some : (p : PoolState) → IsPool p → 0 < third p
+third_some p k = let few = k.geometry.fewest in omega (arith, few)
 
 -- of the segments looked at the one with the fewest hits is evicted, where the rule says so
 pub looked_victim : (p : PoolState) (o : Option ℕ) → IsPool p → p.eviction ≡ LeastRead
     → MatchOption o (candidates p ≡ []) (IsFewest p.hits (candidates p)) → MatchOption o (p.order ≡ []) (IsVictim p)
-looked_victim p None k e none = looked_none p p.order refl (quarter_some p k) none
+looked_victim p None k e none = looked_none p p.order refl (third_some p k) none
 looked_victim p (Some n) k e f = subst (λ x. IsVictimBy x p n) (sym e) f
 
 -- ---- what a write and a read leave

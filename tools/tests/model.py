@@ -126,8 +126,8 @@ class Cache:
 
     def append(self, item, bucket, now):
         tail = next((it for it in reversed(self.order) if it.bucket == bucket), None)
-        is_closed = tail is None or (tail.closes is not None and now >= tail.closes)
-        if is_closed or tail.used() + item.size > self.segment_size:
+        is_closed = tail and item.own is None and tail.closes is not None and now >= tail.closes
+        if tail is None or is_closed or tail.used() + item.size > self.segment_size:
             if self.free == 0:
                 return False
             self.free -= 1

@@ -109,6 +109,18 @@ LARGE = b"v" * 484
 SMALL = "--segment-size", 4096, "--segments", 8
 
 
+@pytest.mark.parametrize("words", [(), LEAST_READ], ids=" ".join)
+def test_items_that_are_written_minutes_apart_share_a_segment(program, words):
+    """One of them is written each ten seconds, so each would be in another segment if one took items for eight seconds only. The other seven
+    segments have eight lasting items each."""
+    timed, lasting = range(101, 151), range(1, 57)
+    rows = [(1000 + 10 * turn, put(key(number), 600, b"x"), STORED) for turn, number in enumerate(timed)]
+    rows += [(1500, put(key(number), 0, LARGE), STORED) for number in lasting]
+    rows += [(1500, *found(number, b"x")) for number in timed]
+    rows += [(1500, *found(number, LARGE)) for number in lasting]
+    must_answer_at(program, rows, *SMALL, EXACT, *words)
+
+
 @pytest.mark.parametrize("moment, is_freed", [(3048, False), (3100, False), (3170, False), (3171, True)])
 def test_a_segment_is_freed_when_the_last_of_its_items_has_ended(program, moment, is_freed):
     """Both small items are of one bucket, and stand in one segment; they end at 3,048 and 3,171. Seven segments have eight lasting items each. One

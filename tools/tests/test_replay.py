@@ -11,7 +11,7 @@ import pytest
 
 SIZE = 16_777_216
 SECONDS = 30
-MEGABYTES = 850
+MEGABYTES = 520
 GET = b"get a\r\n"
 QUIET_SET = b"set b 0 0 1 noreply\r\nx\r\n"
 

@@ -22,8 +22,8 @@ from served import OPTIONS, TUNABLES, Memcached, Server, Trouble, compiled
 # The workers of segcached, and the threads of memcached beside them.
 THREADS = {1: 1, 2: 2, 3: 4}
 # By the bytes of a value: how many segments of 1 MiB there are (room for what is stored), and keys.
-SEGMENTS = {100: 128, 1000: 512, 10_000: 512, 100_000: 512}
-KEYS = {100: 100_000, 1000: 100_000, 10_000: 10_000, 100_000: 1000}
+SEGMENTS = {100: 128, 1000: 512, 10_000: 512, 100_000: 512, 1_000_000: 512}
+KEYS = {100: 100_000, 1000: 100_000, 10_000: 10_000, 100_000: 1000, 1_000_000: 300}
 # The load of the longest pause: both servers have 64 MiB, which half of the keys fill.
 PAUSE_MIB, PAUSE_KEYS = 64, 1_000_000
 PAUSE_SEGMENT_SIZES = (MIB, 64 << 10)
@@ -60,6 +60,7 @@ class Load(NamedTuple):
 ONE = ("--connections", 1)
 PIPELINE = ("--pipeline", 16)
 SPIN = ("--spin", "100")
+LARGE_ITEMS = (*OPTIONS, "--max-item-size", str(MIB - 64))
 # Those that write come last of their group, as what they write makes segcached merge segments.
 LOADS = (
     Load("one connection", ONE, default=True),
@@ -84,6 +85,7 @@ LOADS = (
     Load("get of 16 keys of 10 kB", ("--many", 16), 10_000),
     Load("sets of 10 kB", ("--sets", 100), 10_000),
     Load("sets of 100 kB", ("--sets", 100), 100_000),
+    Load("sets of 1 MB", ("--sets", 100), 1_000_000, options=LARGE_ITEMS),
 )
 
 

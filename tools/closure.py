@@ -88,14 +88,16 @@ class Sources:
         return "\n".join(lines[definition.first - 1 : definition.last])
 
     def find(self, module, name):
-        """What an imported name is: a definition, a type of the code, or None if the kit has it."""
+        """What an imported name is: a definition, a type or constant of the code, or None if the kit
+        has it."""
         parts = module.split(".")
         if parts[0] != "Rattle" or parts[2:3] != ["specs"] or not os.path.isdir(self.path(parts[1])):
             return None
         crate, within = parts[1], parts[3:]
         if within[:1] == ["declared"]:
             type_at = next(at for at, part in enumerate(within) if part[0].isupper())
-            return Definition(crate, "/".join(within[1:type_at]), within[type_at])
+            of_code = name if within[type_at] == "TheConstants" else within[type_at]
+            return Definition(crate, "/".join(within[1:type_at]), of_code)
         defined, _, imports = self.spec(crate, ".".join(within))
         if name in defined:
             return defined[name]
@@ -170,7 +172,7 @@ class Sources:
         models = set(re.findall(r"\bimpl(?:<[^{;]*?>)? Model for (\w+)", "\n".join(map(read, glob.glob(self.path("*", "src", "*.rt"))))))
         for it in types:
             text = read(self.path(it.crate, "src", f"{it.file}.rt"))
-            body = re.search(rf"\b(?:struct|enum) {it.name}\b.*?(?:^\}}|;$)", text, re.MULTILINE | re.DOTALL)
+            body = re.search(rf"\b(?:struct|enum|const) {it.name}\b.*?(?:^\}}|;$)", text, re.MULTILINE | re.DOTALL)
             heads.append(without_comments(body[0]))
         return sorted(models & set(re.findall(r"\w+", "\n".join(heads))))
 
@@ -271,7 +273,7 @@ def filled(page, sources):
         return f"<!-- contract {match[1]} -->\n```text\n{narrow(text)}\n```\n"
 
     page = CONTRACT.sub(contract, ENTRY.sub(entry, page))
-    counts = f"{counts_of(definitions)}, over {len(types)} types of the code."
+    counts = f"{counts_of(definitions)}, over {len(types)} types and constants of the code."
     if len(contracts) > 1:
         counts += f"\nThe first contract rests on {counts_of(sources.closure(contracts[:1])[0])}."
     return COUNTS.sub(f"<!-- counts -->\n{counts}\n", page), wrong

@@ -30,7 +30,7 @@ def read(path):
 def version():
     """The version of the sources."""
     text = read(f"{TOP}/crates/proto/src/version.rt")
-    return re.search(r'VERSION: &str = "([0-9]+\.[0-9]+\.[0-9]+)";', text)[1]
+    return re.search(r'"(\d+\.\d+\.\d+)"', text)[1]
 
 
 def words_of(file, name):

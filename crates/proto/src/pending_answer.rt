@@ -10,7 +10,7 @@ ghost use Rattle.proto.specs.Lines.{line_end};
 use crate::hits::show_lines;
 use crate::message::{FatalKind, LocalKind, Message, Reply};
 use crate::no_memory::NoMemory;
-use crate::version::VERSION;
+use crate::version::TOLD_VERSION;
 use itoa::Buffer;
 use std::marker::Model;
 use std::snapshot::Snapshot;
@@ -137,9 +137,9 @@ impl PendingAnswer {
             | AnswerKind::Fatal(FatalKind::Binary) => Ok(()),
             AnswerKind::Local(LocalKind::Unknown) => show_line(out, b"ERROR"),
             AnswerKind::Local(LocalKind::Version) => {
-                out.reserve(VERSION.len() + 26)?;
-                out.extend_from_slice(b"VERSION 1.6.0-segcached-").unwrap();
-                out.extend_from_slice(VERSION.as_bytes()).unwrap();
+                out.reserve(TOLD_VERSION.len() + 10)?;
+                out.extend_from_slice(b"VERSION ").unwrap();
+                out.extend_from_slice(TOLD_VERSION.as_bytes()).unwrap();
                 out.extend_from_slice(b"\r\n").unwrap();
                 Ok(())
             }

@@ -1,8 +1,16 @@
-//! The version.
+//! The version. It stands here alone: the definition of the answer to `version` (`specs/Answers`)
+//! and the tools read it.
 
-/// The version's number, as `X.Y.Z`. The program, its package and its man page take it from here. The definition of the answer to
-/// `version` (`specs/Answers`) has it too, and a check fails if they differ.
-pub const VERSION: &str = "0.7.0";
+/// The version's number behind these words.
+macro_rules! version {
+    ($($words:literal)?) => {
+        concat!($($words,)? "0.7.0")
+    };
+}
 
-/// What `version` and `stats` tell: a number for clients that ask for memcached's, and then the version.
-pub const TOLD_VERSION: &str = "1.6.0-segcached-0.7.0";
+/// The version's number, as `X.Y.Z`.
+pub const VERSION: &str = version!();
+
+/// What `version` and `stats` tell: a number for clients that ask for memcached's, and then the
+/// version.
+pub const TOLD_VERSION: &str = version!("1.6.0-segcached-");

@@ -392,7 +392,7 @@ const LOCAL_LINES: [Step; 10] = [
     Open(1),
     Feed(
         1,
-        b"version\r\nverbosity 1 noreply\r\nget a\r\nverbosity 1\r\n",
+        b"verbosity 2\r\nverbosity 1 noreply\r\nget a\r\nverbosity 1\r\n",
     ),
     Ask(1, Some(1)),
     Ask(1, None),
@@ -404,7 +404,7 @@ const LOCAL_LINES: [Step; 10] = [
     See(Finished(1, None)),
 ];
 
-const LOCAL_ANSWERS: &str = "VERSION 1.6.0-segcached-0.7.0\r\nVALUE a 0 1\r\nx\r\nEND\r\nOK\r\n";
+const LOCAL_ANSWERS: &str = "OK\r\nVALUE a 0 1\r\nx\r\nEND\r\nOK\r\n";
 
 const TO_CLOSED: [Step; 12] = [
     Open(1),

@@ -245,7 +245,7 @@ pub const LENIENT_REQUESTS: [Row; 28] = [
 
 /// Other faults stay, also leniently. `version` and `verbosity` are answered by their first word, unless they have
 /// `noreply`.
-pub const LENIENT_FAULTS: [Row; 33] = [
+pub const LENIENT_FAULTS: [Row; 31] = [
     (
         b"get \r\n",
         Given::Nothing,
@@ -283,16 +283,6 @@ pub const LENIENT_FAULTS: [Row; 33] = [
         b"set a 0 0 1 \r\nx \r",
         Given::Nothing,
         b"CLIENT_ERROR bad data chunk\r\n",
-    ),
-    (
-        b"version\r\n",
-        Given::Nothing,
-        b"VERSION 1.6.0-segcached-0.7.0\r\n",
-    ),
-    (
-        b"version 1 \r\n",
-        Given::Nothing,
-        b"VERSION 1.6.0-segcached-0.7.0\r\n",
     ),
     (b"verbosity 1\r\n", Given::Nothing, b"OK\r\n"),
     (b"verbosity 1 noreply\r\n", Given::Nothing, b""),

@@ -3,12 +3,14 @@ use Rattle.proto.specs.declared.message.Message.{Message}
 use Rattle.proto.specs.declared.message.Message.TheVariants.{Ask, Local, Quit, Fatal}
 use Rattle.proto.specs.declared.message.LocalKind.TheVariants as local
 use Rattle.proto.specs.declared.pending_answer.AnswerKind.TheVariants as kinds
+use Rattle.proto.specs.declared.version.TheConstants.{TOLD_VERSION}
 use Rattle.proto.specs.AnswerKinds.{kind_of}
 use Rattle.proto.specs.Answers.{answer}
 use Rattle.proto.proofs.pending_answer.PendingAnswer.show_local.Goals as goal
 
 -- the answer to `version`
-version : (m : Message) → kind_of m ≡ kinds.Local local.Version → answer m None ≡ codes "VERSION 1.6.0-segcached-0.7.0\r\n"
+version : (m : Message) → kind_of m ≡ kinds.Local local.Version → answer m None
+    ≡ codes "VERSION " ++ TOLD_VERSION.now ++ codes "\r\n"
 version (Ask q true) e = absurd cc
 version (Ask q false) e = absurd cc
 version (Local local.Version) e = refl
@@ -27,7 +29,7 @@ returns-in_ok-reserve-in-Local-Version-clause-ok c =
     ap kind_of (sym c.self.view_is) ∙ sym c.self.invariant ∙ c.in-Local-Version.is
     ∙ ap kinds.Local (rw c.in-Local-Version.is at c.in-Local-Version.field-0-is) in
     let text : c.extend_from_slice-in-Local-Version-2.new.self.items
-    ≡ c.args.out.now.items ++ codes "VERSION 1.6.0-segcached-0.7.0\r\n" =
+    ≡ c.args.out.now.items ++ (codes "VERSION " ++ TOLD_VERSION.now ++ codes "\r\n") =
     rw (
       c.extend_from_slice-in-Local-Version-2.ensures.items,
       c.unwrap-in-Local-Version-2.ensures,

@@ -291,7 +291,7 @@ def main():
         print(f"crates/{place_of(it)}:{it.first}-{it.last} {it.name}")
     for it in types:
         print(f"crates/{it.crate}/src/{it.file}.rt {it.name}")
-    print(f"{counts_of(definitions)}; {len(types)} types of the code")
+    print(f"{counts_of(definitions)}; {len(types)} types and constants of the code")
     return 0
 
 

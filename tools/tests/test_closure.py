@@ -146,7 +146,7 @@ most = sizes.limit
 ```
 <!-- low.Sizes.unused -->
 <!-- counts -->
-3 definitions in 2 files, 6 lines, over 0 types of the code.
+3 definitions in 2 files, 6 lines, over 0 types and constants of the code.
 
 | Word | Meaning |
 |---|---|
@@ -185,7 +185,7 @@ def test_long_lines_are_broken_where_the_fewest_brackets_are_open():
 
 def test_with_several_contracts_what_the_first_rests_on_is_counted_too(tree):
     page = PAGE.replace("It is small.", "<!-- contract high/src/call.rt:Thing::call -->")
-    counts = "4 definitions in 2 files, 8 lines, over 0 types of the code.\nThe first contract rests on 3 definitions in 2 files, 6 lines.\n"
+    counts = "4 definitions in 2 files, 8 lines, over 0 types and constants of the code.\nThe first contract rests on 3 definitions in 2 files, 6 lines.\n"
     assert f"<!-- counts -->\n{counts}" in closure.filled(page, closure.Sources(tree))[0]
 
 

@@ -1,15 +1,20 @@
 #!/usr/bin/env python3
-"""Writes and checks the record of what the built segcached was proved from: crates/segcached/out/PROVED.
+"""Writes and checks the record of what the built segcached was proved from, PROVED beside it.
 
-    tools/proved.py write --log FILE [--alone]   after the program was built; FILE is what `rt ci` said, or tools/prove.py of the program's crates alone
-    tools/proved.py check [PROGRAM]              ends with a line and status 1 if the program can't be packaged
-    tools/proved.py package                      prints the version of the program's package
+    tools/proved.py write --log FILE [--alone]
+        after the program was built; FILE is what `rt ci` said, or tools/prove.py of the program's
+        crates alone
+    tools/proved.py check [PROGRAM]
+        ends with a line and status 1 if the program can't be packaged
+    tools/proved.py package
+        prints the version of the program's package
 
-The record holds for one program, by its sha256, and for one state of the repository's files, by the sum that git gives
-them. Of a crate it has the prover's line.
+The record holds for one program, by its sha256, and for one state of the repository's files, by the
+sum that git gives them. Of a crate it has the prover's line, or that an earlier run proved it.
 """
 import argparse
 import os
+import re
 import subprocess
 import sys
 import tempfile
@@ -29,15 +34,15 @@ class Trouble(Exception):
 
 
 def output_of(*words, folder=TOP, **variables):
-    variables = {**os.environ, **variables}
-    ran = subprocess.run(words, cwd=folder, env=variables, capture_output=True, text=True, check=False)
+    ran = subprocess.run(words, cwd=folder, env={**os.environ, **variables},
+                         capture_output=True, text=True, check=False)
     if ran.returncode:
         raise Trouble(f"{' '.join(words)} failed: {(ran.stderr or ran.stdout).strip()[-300:]}")
     return ran.stdout.strip()
 
 
 def sum_of_files():
-    """The sum that git gives the repository's files as they stand now, with what isn't committed."""
+    """The sum that git gives the repository's files as they stand, with what isn't committed."""
     with tempfile.TemporaryDirectory() as folder:
         index = {"GIT_INDEX_FILE": f"{folder}/index"}
         output_of("git", "read-tree", "HEAD", **index)
@@ -53,12 +58,15 @@ def read_record(program):
 
 
 def package_version(number, commit, folder=TOP):
-    """The version of a package that is built of this commit: a later commit has a later version. Behind the number stand the commit's date, in
-    UTC, and its short hash; with changes that aren't committed the date is now."""
-    date, name = "%Y%m%d.%H%M%S", commit.removesuffix(CHANGED)
-    at = output_of("git", "show", "-s", "--format=%cd", f"--date=format-local:{date}", name, folder=folder, TZ="UTC")
-    short = output_of("git", "rev-parse", "--short", name, folder=folder)
-    return f"{number}+{at}.g{short}" if name == commit else f"{number}+{time.strftime(date, time.gmtime())}.g{short}.changed"
+    """The version of a package that is built of this commit: a later commit has a later version.
+    Behind the number stand the commit's date, in UTC, and its short hash; with changes that aren't
+    committed the date is now."""
+    form, name = "%Y%m%d.%H%M%S", commit.removesuffix(CHANGED)
+    words = ["git", "show", "-s", "--format=%cd.g%h", f"--date=format-local:{form}", name]
+    date, _, short = output_of(*words, folder=folder, TZ="UTC").rpartition(".")
+    if name != commit:
+        return f"{number}+{time.strftime(form, time.gmtime())}.{short}.changed"
+    return f"{number}+{date}.{short}"
 
 
 def verdicts_of_log(path):
@@ -69,6 +77,8 @@ def verdicts_of_log(path):
             crate = line[3:]
         elif line.startswith("logic=proved ") and crate:
             verdicts.setdefault(crate, line)
+        elif kept := re.match(r"rt: (\w+) is (kept: .*)", line):
+            verdicts[kept[1]] = kept[2]
     return verdicts, lines[-1]
 
 
@@ -96,12 +106,13 @@ def write(log, alone):
 
 def check(program):
     record = read_record(program)
+    built = "built with proofs: run tools/build.sh"
     if not record or not os.path.exists(program):
-        raise Trouble("no program was built with proofs: run tools/build.sh")
+        raise Trouble(f"no program was {built}")
     if record["program"] != prove.sum_of_file(program):
-        raise Trouble("the program isn't the one that was built with proofs: run tools/build.sh")
+        raise Trouble(f"the program isn't the one that was {built}")
     if record["files"] != sum_of_files():
-        raise Trouble("files have changed since the program was built with proofs: run tools/build.sh")
+        raise Trouble(f"files have changed since the program was {built}")
 
 
 def main():

@@ -14,7 +14,7 @@ from typing import NamedTuple
 import tries
 from asking import END, ERROR, STORED, ask, get, hit, is_same, put, seconds_to
 from served import Memcached, Server, Trouble, install, read, read_exactly
-from standstills import Beside
+from tries import Beside
 
 # What 99 of 100 requests, and each one, may wait on a quiet machine, in seconds, unless a load says
 # otherwise.

@@ -10,7 +10,7 @@ import pytest
 import tries
 import waits
 from served import Trouble
-from standstills import Standstills
+from tries import Standstills
 
 
 def machine(stood_still):

@@ -5,5 +5,5 @@ cd "$(dirname "$0")/.."
 for package in memcached gcc libc6-dev python3-matplotlib; do
   dpkg -s "$package" >/dev/null 2>&1 || apt-get install -y --no-install-recommends "$package" >/dev/null
 done
-bash tools/build.sh
+python3 tools/prove.py
 exec /usr/bin/python3 tools/bench.py "$@"

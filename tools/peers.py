@@ -324,7 +324,7 @@ def main():
     parser.add_argument("--show", action="store_true", help="prints what failed")
     words = parser.parse_args()
     if not words.program:
-        subprocess.run(["bash", f"{TOP}/tools/build.sh"], check=True)
+        subprocess.run(["python3", f"{TOP}/tools/prove.py"], check=True)
     names, results = [words.only] if words.only else SUITES, {}
     try:
         os.makedirs(WORK, exist_ok=True)

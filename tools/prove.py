@@ -1,12 +1,21 @@
 #!/usr/bin/env python3
 """Proves segcached and the crates that it stands on, and builds it in crates/segcached/out.
 
-    tools/prove.py          with a line for each crate that is proved
+    tools/prove.py                      with a line for each crate that is proved
+    tools/prove.py record --log FILE    writes the record of what the program was proved from; FILE
+                                        is what `rt ci` said of the whole repository
+    tools/prove.py check [PROGRAM]      ends with a line and status 1 if it can't be packaged
+    tools/prove.py package              prints the version of the program's package
 
 `rt ci` proves them in out/proofs, a copy without the other crates and the wrong bodies. It keeps
 each crate that is proved, for all runs on this machine: after an interrupt the next one goes on
 from there. What it says stands beside the program, as segcached.log.
+
+The record, PROVED, stands there too. It holds for one program, by its sha256, and for one state of
+the repository's files, by the sum that git gives them. Of a crate it has the prover's line, or that
+an earlier run proved it.
 """
+import argparse
 import contextlib
 import fcntl
 import hashlib
@@ -17,6 +26,7 @@ import shutil
 import signal
 import subprocess
 import sys
+import tempfile
 import time
 
 TOP = os.path.dirname(os.path.dirname(os.path.abspath(__file__)))
@@ -44,6 +54,10 @@ GROUPS = (
 )
 # What `rt ci` says of a crate that it has proved, or that an earlier run did.
 IS_PROVED = re.compile(r"rt: (\w+) (?:proved$|is kept: )")
+# What the record says of a run over the program's crates alone.
+ALONE = ", with no tests and no wrong bodies"
+# What the record says behind the commit if files differ from it.
+CHANGED = " and changes that aren't committed"
 
 
 def read(path):
@@ -117,7 +131,7 @@ def stop_where_lacking(lacking):
         sys.exit(f"segcached: {lacking}")
 
 
-# ---- what is proved
+# ---- the crates
 
 def read_lines():
     """The crates of crates.txt, each with all that it uses."""
@@ -140,27 +154,115 @@ def sum_of_file(path):
     return hashlib.sha256(pathlib.Path(path).read_bytes()).hexdigest()
 
 
-def sum_of_sources(top, name):
-    """A sum of all that a crate of this folder is proved from, the logic too."""
-    lines, whole = read_lines(), hashlib.sha256(logic().encode())
-    for crate in sorted(with_those_below(read_crates(), name)):
-        whole.update(f"{crate}: {lines[crate]}\n".encode())
-        for folder, folders, files in os.walk(f"{top}/crates/{crate}"):
-            folders[:] = sorted(it for it in folders if it not in IGNORED)
-            for path in (f"{folder}/{file}" for file in sorted(files)):
-                whole.update(f"{os.path.relpath(path, top)} {sum_of_file(path)}\n".encode())
-    return whole.hexdigest()
+# ---- the record
+
+class Trouble(Exception):
+    """Why there is no record, or none that fits."""
 
 
-def record(top):
-    return f"sources {sum_of_sources(top, NAME)}\nprogram {sum_of_file(PROGRAM)}\n"
+def output_of(*words, folder=None, **variables):
+    how = {"cwd": folder or TOP, "env": {**os.environ, **variables}, "text": True}
+    try:
+        ran = subprocess.run(words, check=True, capture_output=True, **how)
+        return ran.stdout.strip()
+    except subprocess.CalledProcessError as fault:
+        said = (fault.stderr or fault.stdout).strip()[-300:]
+        raise Trouble(f"{' '.join(words)} failed: {said}") from None
+    except OSError as fault:
+        raise Trouble(f"{words[0]} can't be run: {fault.strerror}") from None
+
+
+def sum_of_files():
+    """The sum that git gives the repository's files as they stand, with what isn't committed."""
+    with tempfile.TemporaryDirectory() as folder:
+        index = {"GIT_INDEX_FILE": f"{folder}/index"}
+        output_of("git", "read-tree", "HEAD", **index)
+        output_of("git", "add", "--all", **index)
+        return output_of("git", "write-tree", **index)
+
+
+def sum_or_none():
+    """As above, or None where there is no git or no commit."""
+    with contextlib.suppress(Trouble):
+        return sum_of_files()
+    return None
+
+
+def read_record(program):
+    """The record beside a program; empty if there is none."""
+    path = f"{os.path.dirname(program)}/PROVED"
+    lines = read(path).splitlines() if os.path.exists(path) else []
+    return dict(line.split(": ", 1) for line in lines if ": " in line)
+
+
+def package_version(number, commit, folder=None):
+    """The version of a package that is built of this commit: a later commit has a later version.
+    Behind the number stand the commit's date, in UTC, and its short hash; with changes that aren't
+    committed the date is now."""
+    form, name = "%Y%m%d.%H%M%S", commit.removesuffix(CHANGED)
+    words = ["git", "show", "-s", "--format=%cd.g%h", f"--date=format-local:{form}", name]
+    date, _, short = output_of(*words, folder=folder, TZ="UTC").rpartition(".")
+    if name != commit:
+        return f"{number}+{time.strftime(form, time.gmtime())}.{short}.changed"
+    return f"{number}+{date}.{short}"
+
+
+def verdicts_of_log(path):
+    """By crate, what a run said of its proof, and after them all its last line."""
+    verdicts, crate, lines = {}, None, read(path).splitlines()
+    for line in lines:
+        if line.startswith("== "):
+            crate = line[3:]
+        elif line.startswith("logic=proved ") and crate:
+            verdicts.setdefault(crate, line)
+        elif kept := re.match(r"rt: (\w+) is (kept: .*)", line):
+            verdicts[kept[1]] = kept[2]
+    return verdicts, lines[-1]
+
+
+def write_record(log, alone):
+    """Writes the record of what a run said."""
+    crates = read_crates()
+    names = [name for name in crates if name in with_those_below(crates, NAME)]
+    verdicts, last = verdicts_of_log(log)
+    if unproved := [name for name in names if name not in verdicts]:
+        raise Trouble(f"{unproved[0]} isn't proved")
+    files, at = sum_of_files(), output_of("git", "rev-parse", "HEAD")
+    changed = "" if files == output_of("git", "rev-parse", "HEAD^{tree}") else CHANGED
+    record = [
+        output_of(PROGRAM, "--version").splitlines()[0],
+        f"commit: {at}{changed}",
+        f"files: {files}",
+        f"kit: {output_of('rt', 'version')}",
+        f"program: {sum_of_file(PROGRAM)}",
+        f"run: {last}{ALONE if alone else ''}",
+        f"proved: {len(names)} crates",
+        "",
+        *(f"{name}: {verdicts[name]}" for name in names),
+    ]
+    write(f"{os.path.dirname(PROGRAM)}/PROVED", "".join(f"{line}\n" for line in record))
+
+
+def check(program):
+    record = read_record(program)
+    built = "built with proofs: run tools/prove.py"
+    if not record or not os.path.exists(program):
+        raise Trouble(f"no program was {built}")
+    if record["program"] != sum_of_file(program):
+        raise Trouble(f"the program isn't the one that was {built}")
+    if record["files"] != sum_of_files():
+        raise Trouble(f"files have changed since the program was {built}")
 
 
 def is_kept():
     """Whether the program was built of proved crates, and nothing has changed since."""
-    kept = f"{PROGRAM}.kept"
-    return os.path.exists(kept) and os.path.exists(PROGRAM) and read(kept) == record(TOP)
+    with contextlib.suppress(Trouble):
+        check(PROGRAM)
+        return True
+    return False
 
+
+# ---- the proofs
 
 def copy_crates(names):
     """Copies these crates alone, as a repository of their own."""
@@ -200,6 +302,7 @@ def run_ci(said):
 def prove():
     """Proves what isn't proved yet, with a line for each crate, and gives the status."""
     names, began, lines, proved = with_those_below(read_crates(), NAME), time.monotonic(), [], []
+    files = sum_or_none()
     copy_crates(names)
     print(f"{len(names)} crates to prove, on {processors()} processors", flush=True)
 
@@ -221,7 +324,11 @@ def prove():
     os.makedirs(os.path.dirname(PROGRAM), exist_ok=True)
     shutil.copy(f"{COPY}/crates/{NAME}/out/{NAME}", PROGRAM)
     write(f"{PROGRAM}.log", "".join(lines))
-    write(f"{PROGRAM}.kept", record(COPY))
+    if files and files == sum_or_none():
+        write_record(f"{PROGRAM}.log", True)
+    else:
+        print("Files have changed meanwhile, or there is no git: without a record of the proofs the"
+              " program serves, and can't be packaged.", flush=True)
     return 0
 
 
@@ -236,16 +343,37 @@ def alone_here():
     return held
 
 
-def main():
+def run():
+    """Proves and builds the program, unless that was done and nothing has changed since."""
     if is_kept():
         return 0
     stop_where_lacking(lacks_kit())
     held = alone_here()
     status = prove()
     os.close(held)
-    if not status and not is_kept():
-        sys.exit("segcached: files have changed while they were proved: run this again")
     return status
+
+
+def main():
+    parser = argparse.ArgumentParser(description="Proves and builds segcached.")
+    kinds = parser.add_subparsers(dest="kind")
+    kinds.add_parser("record").add_argument("--log", metavar="FILE", required=True)
+    kinds.add_parser("check").add_argument("program", nargs="?", default=PROGRAM)
+    kinds.add_parser("package")
+    words = parser.parse_args()
+    if not words.kind:
+        return run()
+    try:
+        if words.kind == "record":
+            write_record(words.log, False)
+        elif words.kind == "check":
+            check(words.program)
+        else:
+            number = output_of(PROGRAM, "--version").split()[1]
+            print(package_version(number, read_record(PROGRAM)["commit"]))
+    except Trouble as trouble:
+        sys.exit(f"segcached: {trouble}")
+    return 0
 
 
 if __name__ == "__main__":

@@ -49,18 +49,12 @@ def spelled(bytes_):
 
 @contextlib.contextmanager
 def started(words, **how):
-    """A process in a group of its own. However the block ends, all of the group are asked to end,
-    and are waited for."""
-    process = subprocess.Popen(words, start_new_session=True, stdin=subprocess.DEVNULL, **how)
-    try:
-        yield process
-    finally:
-        with contextlib.suppress(ProcessLookupError):
-            os.killpg(process.pid, signal.SIGTERM)
-            process.wait()
-            while True:
-                os.killpg(process.pid, 0)
-                time.sleep(0.2)
+    """A process that is asked to end and is waited for, however the block ends."""
+    with subprocess.Popen(words, stdin=subprocess.DEVNULL, **how) as process:
+        try:
+            yield process
+        finally:
+            process.terminate()
 
 
 def show_answers(given):
@@ -109,7 +103,7 @@ def try_and_prove():
     """Shows the first answer, and how the proofs go on. (They begin beside it: all crates wait for
     the first one.)"""
     began = time.monotonic()
-    with started(["bash", "tools/build.sh"]) as proving:
+    with started([sys.executable, "tools/prove.py"]) as proving:
         try_script()
         first = time.monotonic() - began
         proving.wait()

@@ -35,6 +35,7 @@ import concurrent.futures
 import functools
 import hashlib
 import os
+import pathlib
 import re
 import subprocess
 import sys
@@ -219,13 +220,26 @@ def sum_of_tools():
     return f"{ran.stdout} {[prove.sum_of_file(it) for it in paths]}"
 
 
+def sum_of_sources(name):
+    """A sum of all that a crate is proved from, the logic too."""
+    lines, whole = prove.read_lines(), hashlib.sha256(prove.logic().encode())
+    for crate in sorted(prove.with_those_below(prove.read_crates(), name)):
+        whole.update(f"{crate}: {lines[crate]}\n".encode())
+        files = (path for part in edited_copies.PARTS
+                 for path in pathlib.Path(f"{prove.TOP}/crates/{crate}/{part}").rglob("*"))
+        for path in sorted(filter(os.path.isfile, files)):
+            name = os.path.relpath(path, prove.TOP)
+            whole.update(f"{name} {prove.sum_of_file(path)}\n".encode())
+    return whole.hexdigest()
+
+
 def sum_of_crate(name):
     """All that the checks of a crate read but its edits, as a sum: the tools, the sources of the
     crate and of those below, and the libraries, whose other files are held to the sums in the file
     `format`."""
     found = libraries_below(name)
     libraries = {it: prove.sum_of_file(f"{path}/format") for it, path in found.items()}
-    whole = f"{sum_of_tools()} {prove.sum_of_sources(prove.TOP, name)} {libraries}"
+    whole = f"{sum_of_tools()} {sum_of_sources(name)} {libraries}"
     return hashlib.sha256(whole.encode()).hexdigest()
 
 

@@ -1,17 +1,19 @@
-"""Tests of what comes before and around the proofs: what is kept, and what `make run` says if
-something is missing. They prove nothing and take a few seconds.
+"""Tests of what comes before and around the proofs: what is kept and recorded, the version of the
+package, and what `make run` says if something is missing. They prove nothing and take a few
+seconds.
 """
 import os
 import re
 import shutil
 import signal
+import subprocess
 import sys
 import threading
 import time
 
 import prove
 import pytest
-from served import TOP, ended, read
+from served import TOP, ended, read, version
 
 
 def test_each_crate_of_the_repository_has_a_line():
@@ -20,15 +22,80 @@ def test_each_crate_of_the_repository_has_a_line():
     assert set(prove.read_crates()) == crates
 
 
+LOG = """\
+== low: its tests
+logic=proved tests=3 functions=9 main=Abort
+rt: low: its tests are proved
+== low
+fn low::echo: proved
+logic=proved functions=7 sum=5f
+rt: low proved
+== high
+fn high::main: not proved
+logic=not-proved functions=2
+rt: high NOT PROVED
+rt: other is kept: an earlier run on this machine proved the same files
+3 passed, 1 failed
+"""
+
+
+def test_a_log_says_what_was_proved_of_each_crate_and_not_of_its_tests(tmp_path):
+    (tmp_path / "log").write_text(LOG)
+    found, last = prove.verdicts_of_log(tmp_path / "log")
+    assert found["low"] == "logic=proved functions=7 sum=5f"
+    assert "high" not in found
+    assert found["other"] == "kept: an earlier run on this machine proved the same files"
+    assert last == "3 passed, 1 failed"
+
+
+def test_the_program_names_its_version_and_the_logic_that_it_is_proved_with(program):
+    lines = prove.output_of(program, "--version").splitlines()
+    assert lines[0] == f"segcached {version()}"
+    assert lines[1] == f"proved with Rattle's {prove.logic()}"
+
+
+@pytest.fixture
+def commit(tmp_path):
+    """Makes a commit of all files at a moment, and says its hash."""
+    def git(*words, **variables):
+        name = ("-c", "user.name=a", "-c", "user.email=a@example")
+        return prove.output_of("git", *name, *words, folder=tmp_path, **variables)
+
+    def make(moment):
+        git("add", "--all")
+        git("commit", "--quiet", "--allow-empty", "--message", moment, GIT_COMMITTER_DATE=moment)
+        return git("rev-parse", "HEAD")
+
+    git("init", "--quiet")
+    return make
+
+
+def test_the_package_of_a_later_commit_is_newer(commit, tmp_path):
+    moments = ["2026-11-27T09:59:59+0000", "2026-11-27T10:00:00+0000", "2026-11-27T19:00:01+0900",
+               "2026-11-27T10:30:00+0000", "2026-11-28T00:00:00+0000"]
+    commits = [commit(moment) for moment in moments]
+    versions = [prove.package_version("0.6.0", it, tmp_path) for it in commits]
+    changed = prove.package_version("0.6.0", f"{commits[-1]}{prove.CHANGED}", tmp_path)
+    assert versions[2] == f"0.6.0+20261127.100001.g{commits[2][:7]}"
+    versions = ["0.1.0", "0.6.0", *versions, "0.6.1+20250101.000000.g0000000"]
+    for earlier, later in zip(versions, versions[1:]):
+        subprocess.run(["dpkg", "--compare-versions", later, "gt", earlier], check=True)
+    date = r"0\.6\.0\+[0-9]{8}\.[0-9]{6}"
+    assert re.fullmatch(rf"{date}\.g{commits[-1][:7]}\.changed", changed)
+
+
 # In place of the kit's: it says of each crate whether it is proved, and makes the program.
 RT = """#!/bin/bash
+[ "$*" = version ] && { echo "a kit"; exit; }
 [ "$*" = ci ] || exit 9
 grep -rq SLOW crates && { echo "rt: low proved"; sleep 60; }
 grep -rq WRONG crates && { echo "rt: low NOT PROVED"; echo "0 passed, 2 failed"; exit 1; }
 for name in low high; do
   printf '%s\\n' "== $name" "logic=proved functions=1" "rt: $name proved"
 done
-mkdir -p crates/high/out && echo "a program" >crates/high/out/high
+mkdir -p crates/high/out
+printf '#!/bin/sh\\necho high 1.2.3\\n' >crates/high/out/high
+chmod 755 crates/high/out/high
 echo "with $(ls crates | tr '\\n' ' ')$(ls crates/low)"
 cat crates.txt HANDLES
 echo "2 passed, 0 failed"
@@ -36,11 +103,12 @@ echo "2 passed, 0 failed"
 
 
 @pytest.fixture
-def unproved(tmp_path, monkeypatch):
+def unproved(tmp_path, monkeypatch, commit):
     """A small repository with nothing proved, and a kit that isn't one."""
     lines = "# what stands here\nlow:\nhigh: low bytes\nlow_tests: low\n"
     (tmp_path / "crates.txt").write_text(lines)
     (tmp_path / "HANDLES").write_text("Handles allowed: none.\n")
+    (tmp_path / ".gitignore").write_text("out/\n")
     for name, root in (("low", "lib.rt"), ("high", "main.rt"), ("low_tests", "lib.rt")):
         prove.write(tmp_path / "crates" / name / "src" / root, f"// {name}\n")
         prove.write(tmp_path / "crates" / name / "wrong" / "one.edit", "file: src/lib.rt\n")
@@ -51,6 +119,7 @@ def unproved(tmp_path, monkeypatch):
     monkeypatch.setattr(prove, "TOP", str(tmp_path))
     monkeypatch.setattr(prove, "COPY", str(tmp_path / "out" / "proofs"))
     monkeypatch.setattr(prove, "PROGRAM", str(tmp_path / "crates" / "high" / "out" / "high"))
+    commit("2026-11-27T10:00:00+0000")
     handlers = {it: signal.getsignal(it) for it in prove.ENDS}
     yield tmp_path
     for number, handler in handlers.items():
@@ -76,11 +145,28 @@ def test_the_crates_of_the_program_alone_are_proved_without_their_wrong_bodies(u
     assert "with high low src" in log and {"low: ", "high: low bytes"} < set(log)
     assert "Handles allowed: none." in log
     assert log[-1] == "2 passed, 0 failed"
-    assert read(prove.PROGRAM) == "a program\n" and prove.is_kept()
+    assert prove.is_kept()
+
+
+def test_the_record_says_what_was_proved_of_which_files_and_by_which_kit(repository):
+    record = prove.read_record(prove.PROGRAM)
+    assert record["files"] == prove.output_of("git", "rev-parse", "HEAD^{tree}", folder=repository)
+    assert record["commit"] == prove.output_of("git", "rev-parse", "HEAD", folder=repository)
+    assert (record["kit"], record["low"]) == ("a kit", "logic=proved functions=1")
+    assert record["run"] == "2 passed, 0 failed, with no tests and no wrong bodies"
+    assert read(f"{repository}/crates/high/out/PROVED").startswith("high 1.2.3\n")
+
+
+def test_there_is_no_record_of_files_that_changed_while_they_were_proved(unproved, monkeypatch):
+    sums = iter(["before", "after"])
+    monkeypatch.setattr(prove, "sum_or_none", lambda: next(sums))
+    assert prove.prove() == 0
+    assert not prove.read_record(prove.PROGRAM) and not prove.is_kept()
 
 
 def test_a_crate_that_an_earlier_run_proved_is_counted(unproved, capsys):
-    prove.write(unproved / "kit" / "rt", RT.replace("$name proved", "$name is kept: an earlier run"))
+    said = RT.replace("$name proved", "$name is kept: an earlier run")
+    prove.write(unproved / "kit" / "rt", said)
     assert prove.prove() == 0
     assert proved_in(capsys) == ["1 of 2  low", "2 of 2  high"]
 
@@ -102,32 +188,18 @@ def test_an_interrupt_ends_what_runs_and_says_what_is_proved(unproved, capsys):
     assert said.startswith("Interrupted: 1 of 2 crates are proved and kept")
 
 
-# Files of crates, and whether the program stands on them.
-CHANGED = {
-    "low/src/lib.rt": True, "high/src/main.rt": True, "high/stdout": True, "high/out/high": True,
-    "low/wrong/one.edit": False, "low_tests/src/lib.rt": False,
-}
-
-
-@pytest.mark.parametrize("path", CHANGED)
-def test_a_change_of_what_the_program_stands_on_is_seen(repository, path):
+@pytest.mark.parametrize("path", [
+    "crates/low/src/lib.rt", "crates/high/src/main.rt", "crates/high/stdout", "README.md",
+    "crates/low/specs/More.antt", "crates/high/out/high"])
+def test_a_change_is_seen(repository, path):
     assert prove.is_kept()
-    (repository / "crates" / path).write_text("changed")
-    assert prove.is_kept() != CHANGED[path]
-
-
-@pytest.mark.parametrize("path", ["high/out/high", "high/out/high.kept"])
-def test_what_is_gone_is_seen(repository, path):
-    (repository / "crates" / path).unlink()
+    prove.write(repository / path, "changed")
     assert not prove.is_kept()
 
 
-def test_a_new_file_and_another_logic_are_seen(repository, monkeypatch):
-    prove.write(more := repository / "crates/low/specs/More.antt", "")
-    assert not prove.is_kept()
-    more.unlink()
-    assert prove.is_kept()
-    monkeypatch.setattr(prove, "logic", lambda: "another")
+@pytest.mark.parametrize("name", ["high", "PROVED"])
+def test_what_is_gone_is_seen(repository, name):
+    (repository / "crates" / "high" / "out" / name).unlink()
     assert not prove.is_kept()
 
 

@@ -1,5 +1,5 @@
-"""Finds the functions of a crate, in the layout that `rt fmt` gives them, reads its wrong bodies, and
-writes these into a copy of its folder, many beside one another: for tools/wrong_bodies.py."""
+"""Finds the functions of a crate, in the layout that `rt fmt` gives them, reads its wrong bodies,
+and writes these into a copy of its folder, many beside one another: for tools/wrong_bodies.py."""
 import collections
 import glob
 import os

@@ -42,8 +42,8 @@ def ask(client, verb, key, words):
 def choose(chance, told):
     """A verb and its words; `told` is the cas number that this client saw last."""
     value = str(chance.randrange(1000))
-    verbs = "gets gets gets gats incr incr incr add add set replace delete decr touch append".split()
-    verb = chance.choice(verbs + ["cas"] * (4 if told else 0))
+    verbs = "gets gets gets gats incr incr incr add add set replace delete decr touch append"
+    verb = chance.choice(verbs.split() + ["cas"] * (4 if told else 0))
     # (an append of nothing changes the cas number alone)
     words = {"gets": [], "gats": [], "delete": [], "touch": ["1000"], "append": [""],
              "cas": [value, told]}

@@ -208,7 +208,7 @@ def refused_session(name):
 
 
 def check_refused(session, got):
-    """Whether the session was served whole, told that memory is out, or cut; all else is trouble."""
+    """Whether the session was served whole, told that memory is out, or cut; else Trouble."""
     was_told = False
     for request, answers in session:
         whole = [it for it in [*answers, OUT_OF_MEMORY] if got.startswith(it)]

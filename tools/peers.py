@@ -66,7 +66,7 @@ def run(words, seconds=MONITOR_SECONDS, cwd=None, **environment):
 
 
 def fetch():
-    """The sources, by apt's own lists with `deb` turned into `deb-src`, in a folder of their own."""
+    """The sources, by apt's lists with `deb` turned into `deb-src`, in a folder of their own."""
     if all(glob.glob(f"{WORK}/{source}_*.orig.tar.*") for source in SOURCES):
         return
     parts = f"{WORK}/sources.list.d"
@@ -346,8 +346,8 @@ def main():
         print(f"failed, and no document says so: {line}")
     for line in in_ranges(passing):
         print(f"passed, or wasn't run, though it is expected to fail: {line}")
-    print(f"{len(results) - len(failed)} passed, {len(failed) - len(untold)} failed as the documents"
-          f" say, {len(untold) + len(passing)} otherwise")
+    print(f"{len(results) - len(failed)} passed, {len(failed) - len(untold)} failed as the"
+          f" documents say, {len(untold) + len(passing)} otherwise")
     return 1 if untold or passing or not results else 0
 
 

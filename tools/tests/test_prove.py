@@ -96,7 +96,7 @@ done
 mkdir -p crates/high/out
 printf '#!/bin/sh\\necho high 1.2.3\\n' >crates/high/out/high
 chmod 755 crates/high/out/high
-echo "with $(ls crates | tr '\\n' ' ')$(ls crates/low)"
+echo "with "$(ls crates) "and "$(ls crates/low)
 cat crates.txt HANDLES
 echo "2 passed, 0 failed"
 """
@@ -142,7 +142,7 @@ def test_the_crates_of_the_program_alone_are_proved_without_their_wrong_bodies(u
     assert prove.prove() == 0
     assert proved_in(capsys) == ["1 of 2  low", "2 of 2  high"]
     log = (unproved / "crates" / "high" / "out" / "high.log").read_text().splitlines()
-    assert "with high low src" in log and {"low: ", "high: low bytes"} < set(log)
+    assert "with high low and src" in log and {"low: ", "high: low bytes"} < set(log)
     assert "Handles allowed: none." in log
     assert log[-1] == "2 passed, 0 failed"
     assert prove.is_kept()

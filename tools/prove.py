@@ -7,9 +7,9 @@
     tools/prove.py check [PROGRAM]      ends with a line and status 1 if it can't be packaged
     tools/prove.py package              prints the version of the program's package
 
-`rt ci` proves them in out/proofs, a copy without the other crates and the wrong bodies. It keeps
-each crate that is proved, for all runs on this machine: after an interrupt the next one goes on
-from there. What it says stands beside the program, as segcached.log.
+`rt ci` proves them in a copy without the other crates and the wrong bodies. It keeps each crate
+that is proved, for all runs on this machine: after an interrupt the next one goes on from there.
+What it says stands beside the program, as segcached.log.
 
 The record, PROVED, stands there too. It holds for one program, by its sha256, and for one state of
 the repository's files, by the sum that git gives them. Of a crate it has the prover's line, or that
@@ -32,7 +32,6 @@ import time
 TOP = os.path.dirname(os.path.dirname(os.path.abspath(__file__)))
 NAME = "segcached"
 PROGRAM = f"{TOP}/crates/{NAME}/out/{NAME}"
-COPY = f"{TOP}/out/proofs"
 # The last words of the line that `rt version` prints. Kits with other numbers may have them.
 LOGIC = f"{TOP}/tools/logic.txt"
 # What of a crate isn't a part of its proof or of its stored run.
@@ -264,27 +263,26 @@ def is_kept():
 
 # ---- the proofs
 
-def copy_crates(names):
+def copy_crates(names, to):
     """Copies these crates alone, as a repository of their own."""
-    shutil.rmtree(COPY, ignore_errors=True)
     for name in names:
         ignored = shutil.ignore_patterns(*IGNORED)
-        shutil.copytree(f"{TOP}/crates/{name}", f"{COPY}/crates/{name}", ignore=ignored)
+        shutil.copytree(f"{TOP}/crates/{name}", f"{to}/crates/{name}", ignore=ignored)
     lines = read_lines()
-    write(f"{COPY}/crates.txt", "".join(f"{it}: {' '.join(lines[it])}\n" for it in names))
-    shutil.copy(f"{TOP}/HANDLES", COPY)
-    os.mkdir(f"{COPY}/.git")
+    write(f"{to}/crates.txt", "".join(f"{it}: {' '.join(lines[it])}\n" for it in names))
+    shutil.copy(f"{TOP}/HANDLES", to)
+    os.mkdir(f"{to}/.git")
 
 
 def minutes_and_seconds(seconds):
     return f"{int(seconds) // 60}:{int(seconds) % 60:02}"
 
 
-def run_ci(said):
-    """Runs `rt ci` over the copy, and gives its status, and whether a signal ended it. Each line of
+def run_ci(copy, said):
+    """Runs `rt ci` over a copy, and gives its status, and whether a signal ended it. Each line of
     what it says is given to `said`."""
     to = {"stdin": subprocess.DEVNULL, "stdout": subprocess.PIPE, "stderr": subprocess.STDOUT}
-    with subprocess.Popen(["rt", "ci"], cwd=COPY, process_group=0, text=True, **to) as ran:
+    with subprocess.Popen(["rt", "ci"], cwd=copy, process_group=0, text=True, **to) as ran:
         signals = []
 
         def end(number, _):
@@ -295,15 +293,14 @@ def run_ci(said):
         for number in ENDS:
             signal.signal(number, end)
         for line in ran.stdout:
-            said(line)
+            said(line.replace(copy, TOP))
     return ran.returncode, bool(signals)
 
 
 def prove():
     """Proves what isn't proved yet, with a line for each crate, and gives the status."""
-    names, began, lines, proved = with_those_below(read_crates(), NAME), time.monotonic(), [], []
-    files = sum_or_none()
-    copy_crates(names)
+    names, files = with_those_below(read_crates(), NAME), sum_or_none()
+    began, lines, proved = time.monotonic(), [], []
     print(f"{len(names)} crates to prove, on {processors()} processors", flush=True)
 
     def note(line):
@@ -313,16 +310,18 @@ def prove():
             took = minutes_and_seconds(time.monotonic() - began)
             print(f"  {len(proved):2} of {len(names)}  {found[1]:18} ({took})", flush=True)
 
-    status, was_ended = run_ci(note)
-    if was_ended:
-        print(f"Interrupted: {len(proved)} of {len(names)} crates are proved and kept; the next run"
-              " goes on from there.", flush=True)
-        return INTERRUPTED
-    if status:
-        print("".join(lines)[-SHOWN:], end="", flush=True)
-        return status
-    os.makedirs(os.path.dirname(PROGRAM), exist_ok=True)
-    shutil.copy(f"{COPY}/crates/{NAME}/out/{NAME}", PROGRAM)
+    with tempfile.TemporaryDirectory(prefix="segcached-") as copy:
+        copy_crates(names, copy)
+        status, was_ended = run_ci(copy, note)
+        if was_ended:
+            print(f"Interrupted: {len(proved)} of {len(names)} crates are proved and kept; the next"
+                  " run goes on from there.", flush=True)
+            return INTERRUPTED
+        if status:
+            print("".join(lines)[-SHOWN:], end="", flush=True)
+            return status
+        os.makedirs(os.path.dirname(PROGRAM), exist_ok=True)
+        shutil.copy(f"{copy}/crates/{NAME}/out/{NAME}", PROGRAM)
     write(f"{PROGRAM}.log", "".join(lines))
     if files and files == sum_or_none():
         write_record(f"{PROGRAM}.log", True)

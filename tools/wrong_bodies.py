@@ -7,8 +7,7 @@ each for its contract. docs/EDITS.md says how one is written, and what the verdi
     tools/wrong_bodies.py --anew [..]       tries what an earlier run on this machine has passed too
 
 It takes the built libraries of the crates below as they stand: `rt check`, `rt lib` and `rt ci`
-leave them in crates/NAME/out, and tools/prove.py in out/proofs. What the prover says stands in
-out/wrong_bodies.
+leave them in crates/NAME/out. What the prover says stands in out/wrong_bodies.
 
 An edit is written into a copy of its function, beside it: `f` gets `f_wrong0`, `f_wrong1` .., with
 its attributes, its contract and its proof files. Each other function of the crate has a hole for
@@ -122,14 +121,13 @@ def kit_folder():
 
 
 def libraries_below(name):
-    """The built library of each crate below this one, all by `rt` or all by tools/prove.py."""
+    """The built library of each crate below this one."""
     below = sorted(prove.with_those_below(prove.read_crates(), name) - {name})
-    for top in (prove.TOP, prove.COPY):
-        found = {it: f"{top}/crates/{it}/out/rlib/{it}.rlib" for it in below}
-        if all(map(os.path.isdir, found.values())):
-            return found
-    raise edited_copies.Misplaced(f"{name} stands on {', '.join(below)}, and not all of these are"
-                                  " built: run rt check, or tools/prove.py")
+    found = {it: f"{prove.TOP}/crates/{it}/out/rlib/{it}.rlib" for it in below}
+    if not all(map(os.path.isdir, found.values())):
+        raise edited_copies.Misplaced(f"{name} stands on {', '.join(below)}, and not all of these"
+                                      " are built: run rt check")
+    return found
 
 
 def words_of(crate, asked):

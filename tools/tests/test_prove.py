@@ -117,7 +117,6 @@ def unproved(tmp_path, monkeypatch, commit):
     monkeypatch.setenv("PATH", f"{tmp_path}/kit:{os.environ['PATH']}")
     monkeypatch.setattr(prove, "NAME", "high")
     monkeypatch.setattr(prove, "TOP", str(tmp_path))
-    monkeypatch.setattr(prove, "COPY", str(tmp_path / "out" / "proofs"))
     monkeypatch.setattr(prove, "PROGRAM", str(tmp_path / "crates" / "high" / "out" / "high"))
     commit("2026-11-27T10:00:00+0000")
     handlers = {it: signal.getsignal(it) for it in prove.ENDS}
@@ -146,6 +145,9 @@ def test_the_crates_of_the_program_alone_are_proved_without_their_wrong_bodies(u
     assert "Handles allowed: none." in log
     assert log[-1] == "2 passed, 0 failed"
     assert prove.is_kept()
+    # (a copy of sources, which `rt ci` of the repository would refuse, isn't left)
+    assert {it.parent.name for it in unproved.rglob("*.rt")} == {"src"}
+    assert not (unproved / "out").exists()
 
 
 def test_the_record_says_what_was_proved_of_which_files_and_by_which_kit(repository):

@@ -108,7 +108,6 @@ BAD = {
 def low(tmp_path, monkeypatch):
     """The folder of the small crate, in a repository of its own."""
     monkeypatch.setattr(prove, "TOP", str(tmp_path))
-    monkeypatch.setattr(prove, "COPY", str(tmp_path / "copy"))
     monkeypatch.setattr(wrong_bodies, "KEPT", str(tmp_path / "kept"))
     monkeypatch.setattr(wrong_bodies, "LOGS", str(tmp_path / "logs"))
     (tmp_path / "crates.txt").write_text("low:\n")

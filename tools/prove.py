@@ -321,6 +321,8 @@ def prove():
             print("".join(lines)[-SHOWN:], end="", flush=True)
             return status
         os.makedirs(os.path.dirname(PROGRAM), exist_ok=True)
+        # (the old one may be running)
+        pathlib.Path(PROGRAM).unlink(missing_ok=True)
         shutil.copy(f"{copy}/crates/{NAME}/out/{NAME}", PROGRAM)
     write(f"{PROGRAM}.log", "".join(lines))
     if files and files == sum_or_none():

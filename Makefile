@@ -25,7 +25,7 @@ peers: ## other people's suites against the proved program: what fails is what t
 	@python3 tools/peers.py
 
 install: ## puts the proved program and what goes with it below PREFIX (/usr/local); DESTDIR goes before
-	@python3 tools/proved.py check
+	@python3 tools/prove.py check
 	@PREFIX="$(PREFIX)" DESTDIR="$(DESTDIR)" packaging/install.sh put
 
 uninstall: ## takes away what install put there

@@ -15,8 +15,15 @@ SET_AND_GET_ANSWER = b"STORED\r\nVALUE %b 0 1\r\nx\r\nEND\r\n"
 MISS = b"get none\r\n"
 
 
+def wire(text):
+    """The bytes of a text in which `|` ends a line; bytes as they are."""
+    return text.replace("|", "\r\n").encode("latin-1") if isinstance(text, str) else text
+
+
 def ask(stream, request, answer):
-    stream.sendall(request)
+    """Sends a request and gets its answer, each in bytes or as a text for `wire`."""
+    answer = wire(answer)
+    stream.sendall(wire(request))
     got = b""
     # (another answer may be a shorter one, which nothing follows)
     while len(got) < len(answer) and answer.startswith(got):

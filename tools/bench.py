@@ -14,11 +14,11 @@ workers. The parts, of which the first two are measured unless others are named,
     site        misses of a site with TTLs up to a day, in two hours
 
 --write puts all figures between the marks in docs/PERFORMANCE.md, pictures into
-docs/performance.svg and docs/misses.svg, and the tables of misses into out/bench.md. --quick runs each load once and
-briefly, with 2 workers. --only takes loads whose names have a WORD, and no pauses. --program names
-another build to measure, --against one of segcached that takes memcached's place, with those of the
-package's options that it has: a change for speed is judged by that, and ratios above 1 say that the
-program does more, or takes longer.
+docs/performance.svg and docs/misses.svg, and the tables of misses into out/bench.md. --quick runs
+each load once and briefly, with 2 workers. --only takes loads whose names have a WORD, and no
+pauses. --program names another build to measure, --against one of segcached that takes memcached's
+place, with those of the package's options that it has: a change for speed is judged by that, and
+ratios above 1 say that the program does more, or takes longer.
 """
 import argparse
 import datetime
@@ -179,7 +179,7 @@ def read_words():
 
 def main():
     words = read_words()
-    missing = [it for it in ("memcached", "gcc", "gnuplot") if not shutil.which(it)]
+    missing = [it for it in ("memcached", "gcc") if not shutil.which(it)]
     if missing:
         sys.exit(f"bench: install {', '.join(missing)} first, as tools/bench.sh does")
     for program in (words.program, words.against):

@@ -1,17 +1,20 @@
 #!/usr/bin/env python3
-"""Finds what a reader has to know of a contract: each definition of the repository's specs on which its clauses rest.
+"""Finds what a reader has to know of a contract: each definition of the repository's specs on which
+its clauses rest.
 
     tools/closure.py [FILE:FUNCTION ..]     lists them; with no contract those of docs/HEADLINE.md
     tools/closure.py fill                   writes the definitions' texts into docs/HEADLINE.md;
                                             says with status 1 what lacks an entry
 
-FILE stands below crates (group/src/run.rt), FUNCTION is a name, or TYPE::NAME in a trait or an impl; behind it may stand #CLAUSE, the
-name of the only clause to show. A clause's names
-lead to definitions by the imports of its file, and so does each definition. What the kit defines isn't followed. A type
-that is declared in the code is listed, and not followed further: its fields stand there.
+FILE stands below crates (group/src/run.rt), FUNCTION is a name, or TYPE::NAME in a trait or an
+impl; behind it may stand #CLAUSE, the name of the only clause to show. A clause's names lead to
+definitions by the imports of its file, and so does each definition. What the kit defines isn't
+followed. A type that is declared in the code is listed, and not followed further: its fields stand
+there.
 
-The first cells of the page's tables have to name each of these types, each type in a field of one, or in the head of a
-contract's function, that contracts see as another value, and each word of the kit that is cited.
+The first cells of the page's tables have to name each of these types, each type in a field of one,
+or in the head of a contract's function, that contracts see as another value, and each word of the
+kit that is cited.
 """
 import functools
 import glob
@@ -28,12 +31,14 @@ from prove import TOP, read
 PAGE = "docs/HEADLINE.md"
 
 # Where a definition begins, and what it is called.
-BEGINNING = re.compile(r"(?:pub |abbrev |unfoldable )*(?:abbrev|unfoldable|record|data)(?: pub)? ([^\s:({]+)")
+BEGINNING = re.compile(
+    r"(?:pub |abbrev |unfoldable )*(?:abbrev|unfoldable|record|data)(?: pub)? ([^\s:({]+)")
 NAME = re.compile(r"«[^»]*»|[^\W\d][\w?'!×]*")
-BINDERS = (re.compile(r"[({]\s*([^\W\d][\w' ]*?)\s*:[^:]"), re.compile(r"λ ([\w' ]+)\."), re.compile(r"\blet (\w+) ="))
+BINDERS = [re.compile(it) for it in (
+    r"[({]\s*([^\W\d][\w' ]*?)\s*:[^:]", r"λ ([\w' ]+)\.", r"\blet (\w+) =")]
 
-# A definition, by the crate and file in which it stands, and its first and last line there. Of a type
-# of the code the lines are left out.
+# A definition, by the crate and file in which it stands, and its first and last line there. Of what
+# stands in the code the lines are left out.
 Definition = namedtuple("Definition", "crate file name first last", defaults=(0, 0))
 
 
@@ -46,11 +51,11 @@ def without_comments(text):
 
 
 def imports_of(text, word):
-    """By the name that a file uses: the module and the name there, or the module alone for an alias of one."""
+    """By the name that a file uses: the module and the name there, or the module alone for an alias
+    of one."""
     found = {}
-    for path, names, alias in re.findall(
-        rf"^\s*(?:pub )?{word}([\w.]+?)(?:\.\{{([^}}]*)\}}| as (\w+))\s*;?\s*$", text, re.MULTILINE
-    ):
+    line = rf"^\s*(?:pub )?{word}([\w.]+?)(?:\.\{{([^}}]*)\}}| as (\w+))\s*;?\s*$"
+    for path, names, alias in re.findall(line, text, re.MULTILINE):
         if alias:
             found[alias] = (path, None)
         for name in filter(None, map(str.strip, names.split(","))):
@@ -88,10 +93,11 @@ class Sources:
         return "\n".join(lines[definition.first - 1 : definition.last])
 
     def find(self, module, name):
-        """What an imported name is: a definition, a type or constant of the code, or None if the kit
-        has it."""
+        """What an imported name is: a definition, a type or constant of the code, or None if it is
+        the kit's."""
         parts = module.split(".")
-        if parts[0] != "Rattle" or parts[2:3] != ["specs"] or not os.path.isdir(self.path(parts[1])):
+        is_ours = parts[0] == "Rattle" and parts[2:3] == ["specs"]
+        if not is_ours or not os.path.isdir(self.path(parts[1])):
             return None
         crate, within = parts[1], parts[3:]
         if within[:1] == ["declared"]:
@@ -104,8 +110,8 @@ class Sources:
         return self.find(*imports[name]) if name in imports else None
 
     def cited(self, text, imports, defined):
-        """What a text names by these imports, or by the definitions of its own file: each name with the definition or type
-        to which it leads, or None if the kit has it."""
+        """What a text names by these imports, or by the definitions of its own file: each name with
+        the definition or type to which it leads, or None if the kit has it."""
         text = without_comments(text)
         bound = {name for form in BINDERS for names in form.findall(text) for name in names.split()}
         text = re.sub(r"\bpub [\w'«»]+ :", " ", text)
@@ -129,16 +135,18 @@ class Sources:
         return [it for it in dict.fromkeys(found) if it[1] != definition]
 
     def head_and_clauses(self, contract):
-        """The head of a contract's function, the texts of its clauses, and the imports of its file."""
+        """The head of a contract's function, its clauses' texts, and the imports of its file."""
         file, _, function = contract.partition(":")
         text = read(self.path(file))
         function, _, only = function.partition("#")
         owner, _, name = function.rpartition("::")
-        start = re.search(rf"^(?:pub )?(?:trait|impl)\b[^{{;]*\b{owner}\b", text, re.MULTILINE) if owner else re.match("", text)
+        of = rf"^(?:pub )?(?:trait|impl)\b[^{{;]*\b{owner}\b" if owner else ""
+        start = re.search(of, text, re.MULTILINE)
         start = start and re.compile(rf"\bfn {name}\b").search(text, start.end())
         if not start:
             raise Trouble(f"{file} has no {function}")
-        at = re.compile(r"\brequires\b|\bensures\b|\{|;$", re.MULTILINE).search(text, start.end()).start()
+        ends = re.compile(r"\brequires\b|\bensures\b|\{|;$", re.MULTILINE)
+        at = ends.search(text, start.end()).start()
         head, clauses = text[start.start() : at], []
         while clause := re.compile(r"(?:\s|//.*)*(?:requires|ensures)\b[^{]*\{").match(text, at):
             depth, at = 1, clause.end()
@@ -152,7 +160,8 @@ class Sources:
         return head, clauses, imports_of(text, "ghost use ")
 
     def closure(self, contracts):
-        """The definitions and types on which contracts rest, in the order in which a reader meets them, and the kit's words."""
+        """The definitions and types on which contracts rest, in the order in which a reader meets
+        them, and the kit's words."""
         found, words, waiting = {}, {}, []
         for contract in contracts:
             _, clauses, imports = self.head_and_clauses(contract)
@@ -167,12 +176,15 @@ class Sources:
         return [it for it in found if it.first], [it for it in found if not it.first], list(words)
 
     def seen_as_others(self, contracts, types):
-        """The types in the fields of these types, and in the heads of contracts, that contracts see as another value."""
+        """The types in the fields of these types, and in the heads of contracts, that contracts see
+        as another value."""
         heads = [self.head_and_clauses(contract)[0] for contract in contracts]
-        models = set(re.findall(r"\bimpl(?:<[^{;]*?>)? Model for (\w+)", "\n".join(map(read, glob.glob(self.path("*", "src", "*.rt"))))))
+        sources = "\n".join(map(read, glob.glob(self.path("*", "src", "*.rt"))))
+        models = set(re.findall(r"\bimpl(?:<[^{;]*?>)? Model for (\w+)", sources))
         for it in types:
             text = read(self.path(it.crate, "src", f"{it.file}.rt"))
-            body = re.search(rf"\b(?:struct|enum|const) {it.name}\b.*?(?:^\}}|;$)", text, re.MULTILINE | re.DOTALL)
+            body = re.search(rf"\b(?:struct|enum|const) {it.name}\b.*?(?:^\}}|;$)", text,
+                             re.MULTILINE | re.DOTALL)
             heads.append(without_comments(body[0]))
         return sorted(models & set(re.findall(r"\w+", "\n".join(heads))))
 
@@ -183,7 +195,8 @@ def place_of(definition):
 
 def counts_of(definitions):
     lines = sum(it.last - it.first + 1 for it in definitions)
-    return f"{len(definitions)} definitions in {len(set(map(place_of, definitions)))} files, {lines} lines"
+    files = len(set(map(place_of, definitions)))
+    return f"{len(definitions)} definitions in {files} files, {lines} lines"
 
 
 def contracts_of(page):
@@ -191,17 +204,22 @@ def contracts_of(page):
     return re.findall(r"^<!-- contract ([\w/.]+:[\w:]+(?:#\w+)?) -->$", page, re.MULTILINE)
 
 
-# An entry of the page: the names that one paragraph explains, in a line of its own, and the texts after it, without the
-# comments of the sources.
-ENTRY = re.compile(r"^<!-- ((?:\w+\.\w+\.\S+\s+)+)-->\n(?:\*In [^*]*\*\n\n```text\n(?:.*\n)*?```\n)?", re.MULTILINE)
-CONTRACT = re.compile(r"^<!-- contract ([\w/.]+:[\w:]+(?:#\w+)?) -->\n(?:```text\n(?:.*\n)*?```\n)?", re.MULTILINE)
+# An entry of the page: the names that one paragraph explains, in a line of its own, and the texts
+# after it, without the comments of the sources.
+TEXT = r"```text\n(?:.*\n)*?```\n"
+ENTRY = re.compile(
+    rf"^<!-- ((?:\w+\.\w+\.\S+\s+)+)-->\n(?:\*In [^*]*\*\n\n{TEXT})?", re.MULTILINE)
+CONTRACT = re.compile(
+    rf"^<!-- contract ([\w/.]+:[\w:]+(?:#\w+)?) -->\n(?:{TEXT})?", re.MULTILINE)
 COUNTS = re.compile(r"^<!-- counts -->\n(?:.+\n)+", re.MULTILINE)
 FIRST_CELL = re.compile(r"^\|([^|]*)\|", re.MULTILINE)
 
 
-# The widest line of the page. A longer one of the sources is broken before one of these words, the ones that bind least first.
+# The widest line of the page. A longer one of the sources is broken before one of these words, the
+# ones that bind least first.
 WIDTH = 100
-BINDING = {"→": 1, "then": 1, "else": 1, "in": 1, "×": 2, "⊎": 2, "≡": 3, "≤": 3, "++": 4, "∷": 4, "&&": 4, "||": 4, "+": 4}
+BINDING = {word: at for at, words in enumerate(
+    ("→ then else in", "× ⊎", "≡ ≤", "++ ∷ && || +"), 1) for word in words.split()}
 
 
 def indent_of(line):
@@ -209,7 +227,8 @@ def indent_of(line):
 
 
 def broken(line, following=""):
-    """A line of a definition as lines of the page, each broken where the fewest brackets are open, as a source could be."""
+    """A line of a definition as lines of the page, each broken where the fewest brackets are open,
+    as a source could be."""
     if len(line) <= WIDTH:
         return [line]
     first, indent = line.split()[0], indent_of(line)
@@ -221,21 +240,25 @@ def broken(line, following=""):
     def cost(at):
         before, behind = line[:at].split()[-1], line[at:].split()[0]
         binding = BINDING.get(behind, 5)
-        if before == "=" and open_at[at] == 0 or before.endswith(";") or line.startswith("pub record") and behind.startswith("("):
+        is_parameter = line.startswith("pub record") and behind.startswith("(")
+        if before == "=" and open_at[at] == 0 or before.endswith(";") or is_parameter:
             binding = 0
         elif before == ":":
             binding = 4 if line.startswith("  pub") else 6
         return at < enough or len(line) < at + 12, open_at[at], binding, -at
 
-    at = min((at for at in range(indent + 1, WIDTH + 1) if line[at] == " " and line[:at].strip()), key=cost)
-    is_chain = line[at:].split()[0] in (first, *(following.split()[:1] if indent_of(following) == indent else ()))
+    places = range(indent + 1, WIDTH + 1)
+    at = min((at for at in places if line[at] == " " and line[:at].strip()), key=cost)
+    heads = [first, *(following.split()[:1] if indent_of(following) == indent else ())]
+    is_chain = line[at:].split()[0] in heads
     indent = indent if is_chain else max(indent + 4, indent_of(following))
     return [line[:at], *broken(" " * indent + line[at + 1 :])]
 
 
 def narrow(text):
     lines = text.splitlines()
-    return "\n".join(part for line, following in zip(lines, [*lines[1:], ""]) for part in broken(line, following))
+    return "\n".join(part for line, following in zip(lines, [*lines[1:], ""])
+                     for part in broken(line, following))
 
 
 def key_of(definition):
@@ -261,8 +284,9 @@ def filled(page, sources):
             return match[0]
         texts = "\n\n".join(map(sources.text_of, here))
         places = ", ".join(f"`{it}`" for it in dict.fromkeys(map(place_of, here)))
-        keys = textwrap.fill(" ".join(match[1].split()), WIDTH - 9, break_on_hyphens=False).replace("\n", "\n     ")
-        return f"<!-- {keys} -->\n{textwrap.fill(f'*In {places}*', WIDTH)}\n\n```text\n{narrow(texts)}\n```\n"
+        keys = "\n     ".join(textwrap.wrap(match[1], WIDTH - 9, break_on_hyphens=False))
+        places = textwrap.fill(f"*In {places}*", WIDTH)
+        return f"<!-- {keys} -->\n{places}\n\n```text\n{narrow(texts)}\n```\n"
 
     def contract(match):
         head, clauses, _ = sources.head_and_clauses(match[1])

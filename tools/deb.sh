@@ -3,13 +3,13 @@
 # program's, with the date and the short hash of the commit behind it.
 set -eu
 cd "$(dirname "$0")/.."
-python3 tools/proved.py check
+python3 tools/prove.py check
 program=crates/segcached/out/segcached
 type dpkg-buildpackage dh help2man >/dev/null 2>&1 || {
   echo "make deb: it needs dpkg-dev, debhelper and help2man"
   exit 1
 }
-version=$(python3 tools/proved.py package)
+version=$(python3 tools/prove.py package)
 
 # In a copy, since Debian's tools write beside what they package, and want the version in a changelog.
 work=$(mktemp -d)

@@ -1,13 +1,13 @@
 #!/usr/bin/env python3
-"""Makes docs/EDITS.md from the wrong bodies of crates/NAME/wrong: which the prover refuses, and by whose contract.
+"""Makes docs/EDITS.md from the wrong bodies of crates/NAME/wrong: which the prover refuses, and by
+whose contract.
 
     tools/edits.py write    writes the page's tables; says with status 1 where an edit is amiss
 
-The first line of an edit is '# CALL: WRONG BODY': the call whose contract it turns, as docs/PROOFS.md names it, and what
-the body does. tools/wrong_bodies.py doesn't read that line.
+The first line of an edit is '# CALL: WRONG BODY': the call whose contract it turns, as
+docs/PROOFS.md names it, and what the body does. tools/wrong_bodies.py doesn't read that line.
 """
-import glob
-import os
+import pathlib
 import re
 import sys
 
@@ -17,11 +17,11 @@ from prove import TOP, read
 
 
 def edits(tree=TOP):
-    """Each edit: its crate and name, with the call and the wrong body that its first line says, or None."""
-    for path in sorted(glob.glob(f"{tree}/crates/*/wrong/*.edit")):
-        crate, name = path.split("/")[-3], os.path.basename(path)[: -len(".edit")]
+    """Each edit: its crate and name, with the call and the wrong body that its first line says, or
+    None."""
+    for path in sorted(pathlib.Path(tree).glob("crates/*/wrong/*.edit")):
         says = re.match(r"# ([\w:]+): (\S.*)\n", read(path))
-        yield crate, name, says and says.groups()
+        yield path.parts[-3], path.stem, says and says.groups()
 
 
 def page_of(found, page):
@@ -36,11 +36,13 @@ def page_of(found, page):
 
 
 def amiss(found, page, proofs):
-    """What is wrong with these edits and this page, beside the page of promises, which may leave a call's type out."""
-    named = {word for text in re.findall(r"`([^`]*)`", proofs) for word in re.findall(r"\w+", text)}
-    wrong = [f"{crate}/{name} doesn't begin with '# CALL: WRONG BODY'" for crate, name, says in found if not says]
-    calls = [(f"{crate}/{name}", says[0]) for crate, name, says in found if says]
-    wrong += [f"{edit}: docs/PROOFS.md has no {call}" for edit, call in calls if call.rpartition(":")[2] not in named]
+    """What is wrong with these edits and this page, beside the page of promises, which may leave a
+    call's type out."""
+    named = set(re.findall(r"\w+", " ".join(re.findall(r"`[^`]*`", proofs))))
+    wrong = [f"{crate}/{name} doesn't begin with '# CALL: WRONG BODY'"
+             for crate, name, says in found if not says]
+    wrong += [f"{crate}/{name}: docs/PROOFS.md has no {says[0]}" for crate, name, says in found
+              if says and says[0].rpartition(":")[2] not in named]
     return wrong + ([] if page == page_of(found, page)
                     else ["docs/EDITS.md isn't what the edits say: tools/edits.py write"])
 

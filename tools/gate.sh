@@ -1,7 +1,7 @@
 #!/usr/bin/env bash
-# The gate. `rt ci` proves every crate from nothing, and runs the tests and the programs. On the processors that it leaves
-# idle each wrong body must be refused by the prover, now or in an earlier run on this machine over the same files. Then each
-# growth is refused in turn, and real sockets and real clients are tried against a served program, with nothing beside.
+# The gate. `rt ci` proves every crate, and runs the tests and the programs. Then each wrong body must be refused by the
+# prover, now or in an earlier run on this machine over the same files, beside the tests that time nothing. Then each growth
+# is refused in turn, and real sockets and real clients are tried against a served program, with nothing beside.
 # Each crate that is proved gets a line with the time so far. What the gate took is left in out/gate_took, too. What failed is
 # named once more at the end. The last line is 'N passed, M failed'.
 set -u
@@ -62,21 +62,17 @@ part() {
 mkdir -p out
 # rt ci would put these libraries back when it ends, and the wrong bodies are tried over those that it builds.
 rm -rf crates/*/out/rlib
-mkfifo "$work/said"
-# In a session of its own, which yields to all others, and which an interrupt ends with its checks.
-idly='{ echo 19 >/proc/self/autogroup; } 2>/dev/null; chrt --idle 0 true 2>/dev/null && exec chrt --idle 0 "$@"; exec nice -n 19 "$@"'
-setsid sh -c "$idly" sh python3 tools/wrong_bodies.py --beside <"$work/said" >"$work/wrong_bodies" 2>&1 &
-tries_pid=$!
-# One process for each proof: copies of it would take a third more of the processors' time, which the wrong bodies need.
-at_once=$(python3 -B -c 'import sys; sys.path.insert(0, "tools"); import machine; print(machine.at_once())')
 # (`time` tells what all of its processes took, in seconds of user and of system)
 TIMEFORMAT='%U %S'
-{ time RT_JOBS=$at_once rt ci 2>&1; } 2>"$work/took" | tee -p "$work/log" "$work/said" | with_progress
+{ time rt ci 2>&1; } 2>"$work/took" | tee "$work/log" | with_progress
 count rt "$work/log" '^rt: FAILED'
+# In a session of its own, which an interrupt ends with its checks.
+setsid nice -n 19 python3 tools/wrong_bodies.py >"$work/wrong_bodies" 2>&1 &
+tries_pid=$!
 
 program=crates/segcached/out/segcached
 # Each file of tests is a part. Those that time nothing run beside the last wrong bodies.
-untimed=(batches closure documents edits evictions model prove proved raw_streams replay rows scripts store_rows waking words
+untimed=(batches closure documents edits evictions model prove rows scripts sources store_rows waking words
   wrong_bodies)
 for name in "${untimed[@]}"; do
   part "tools/tests/test_$name.py" bash tools/tests.sh "tools/tests/test_$name.py"

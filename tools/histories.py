@@ -1,5 +1,5 @@
-"""What eight clients ask of a server on shared keys and are answered, and whether one order of it is
-a cache's: for tools/hostile.py.
+"""What eight clients ask of a server on shared keys and are answered, and whether one order of it
+is a cache's: for tools/hostile.py.
 
 The check knows nothing of the server. For each key it looks for an order of the operations in which
 each stands between its beginning and its end, and is answered as one value with one cas number
@@ -17,8 +17,8 @@ KEYS_AT_A_TIME = 4
 OPERATIONS_OF_KEY = 60
 
 Operation = collections.namedtuple("Operation", "client begin end key verb words answer")
-# A key's value and its cas number: None if there is none, or if nothing has told the number yet. `newest` is the greatest
-# number that was told.
+# A key's value and its cas number: None if there is none, or if nothing has told the number yet.
+# `newest` is the greatest number that was told.
 State = collections.namedtuple("State", "value number newest")
 
 
@@ -42,17 +42,18 @@ def ask(client, verb, key, words):
 def choose(chance, told):
     """A verb and its words; `told` is the cas number that this client saw last."""
     value = str(chance.randrange(1000))
-    verbs = ["gets"] * 3 + ["gats"] + ["incr"] * 3 + ["add"] * 2 + ["set", "replace", "delete", "decr", "touch", "append"] + ["cas"] * (4 if told else 0)
-    verb = chance.choice(verbs)
+    verbs = "gets gets gets gats incr incr incr add add set replace delete decr touch append"
+    verb = chance.choice(verbs.split() + ["cas"] * (4 if told else 0))
     # (an append of nothing changes the cas number alone)
-    words = {"gets": [], "gats": [], "delete": [], "incr": [value], "decr": [value], "touch": ["1000"], "append": [""], "cas": [value, told]}
+    words = {"gets": [], "gats": [], "delete": [], "touch": ["1000"], "append": [""],
+             "cas": [value, told]}
     return verb, words.get(verb, [value])
 
 
 def run_client(number, server, until):
     chance, client, told, operations = random.Random(number), Client(server, 30), {}, []
     while time.monotonic() < until:
-        # (all clients go on to further keys at about the same time, since each makes about as many operations)
+        # (all clients go on to further keys at about the same time, as each makes about as many)
         group = len(operations) * CLIENTS // (OPERATIONS_OF_KEY * KEYS_AT_A_TIME)
         key = f"history-{group}-{chance.randrange(KEYS_AT_A_TIME)}"
         verb, words = choose(chance, told.get(key))
@@ -129,5 +130,6 @@ def check(operations):
     for operation in operations:
         by_key[operation.key].append(operation)
     wrong = sorted(key for key, of_key in by_key.items() if not has_order(of_key))
-    at_once = sum(any(other.begin < it.end and other.end > it.begin and other is not it for other in by_key[it.key]) for it in operations)
+    at_once = sum(any(other.begin < it.end and other.end > it.begin and other is not it
+                      for other in by_key[it.key]) for it in operations)
     return wrong, len(by_key), len(operations), at_once

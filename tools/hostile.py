@@ -1,11 +1,13 @@
 #!/usr/bin/env python3
-"""Hostile use of a served segcached: bad bytes, bad peers, refused memory, much data, shared counters.
+"""Hostile use of a served segcached: bad bytes, bad peers, refused memory, much data, shared
+counters.
 
     tools/hostile.py [--long] [--only NAME,..] [--program FILE] [--late SECONDS]
 
-Each part serves the program on a free port, does its worst beside a canary (a client whose every answer is checked and timed),
-and says a line. Without --long the parts take about three minutes in all; with it the fuzz alone
-takes half an hour. Ends with status 0 if nothing was wrong, lost or late.
+Each part serves the program on a free port, does its worst beside a canary (a client whose every
+answer is checked and timed), and says a line. Without --long the parts take about three minutes in
+all; with it the fuzz alone takes half an hour. Ends with status 0 if nothing was wrong, lost or
+late.
 """
 import argparse
 import collections
@@ -13,7 +15,6 @@ import contextlib
 import random
 import re
 import resource
-import select
 import socket
 import sys
 import tempfile
@@ -27,7 +28,7 @@ from asking import DELETED, END, ERROR, NOT_FOUND, OUT_OF_MEMORY, STORED, ask, h
 from served import (
     OF_THE_PACKAGE, Client, NotServing, Trouble, comes_true, read_till_closed, read_to_end,
     reset)
-from standstills import Beside, Standstills
+from tries import Beside, Standstills
 
 PROGRAM = served.PROGRAM
 # The most seconds that six answers to the canary may take.
@@ -90,14 +91,16 @@ def canary(server):
     words.append(said)
 
 
-GOOD = (
-    b"get fuzz-1\r\n", b"gets fuzz-1 fuzz-2 fuzz-3\r\n", b"set fuzz-1 0 0 5\r\nhello\r\n", b"add fuzz-2 7 100 3\r\nabc\r\n",
-    b"replace fuzz-1 0 -1 1\r\nx\r\n", b"cas fuzz-1 0 0 2 9\r\nhi\r\n", b"delete fuzz-2\r\n", b"incr fuzz-3 18446744073709551615\r\n",
-    b"decr fuzz-3 1 noreply\r\n", b"set fuzz-3 0 0 1 noreply\r\n5\r\n", b"get " + b"k" * 250 + b"\r\n", b"quit\r\n", b"\r\n",
-    b"set fuzz-9 0 0 131073\r\n", b"set fuzz-9 0 0 4000\r\n" + b"z" * 4000 + b"\r\n", b"a" * 2047 + b"\r\n", b"version\r\n", b"flush_all 00\r\n",
-    b"touch fuzz-1 100\r\n", b"touch fuzz-2 -1 noreply\r\n", b"append fuzz-1 0 0 2\r\n!!\r\n", b"prepend fuzz-3 9 9 1 noreply\r\n1\r\n",
-    b"verbosity 1\r\n", b"cache_memlimit 64 noreply\r\n", b"gat 100 fuzz-1 fuzz-2\r\n", b"gats -1 fuzz-2 noreply\r\n",
-)
+GOOD = [it + b"\r\n" for it in (
+    b"get fuzz-1", b"gets fuzz-1 fuzz-2 fuzz-3", b"set fuzz-1 0 0 5\r\nhello", b"quit", b"",
+    b"add fuzz-2 7 100 3\r\nabc", b"replace fuzz-1 0 -1 1\r\nx", b"cas fuzz-1 0 0 2 9\r\nhi",
+    b"delete fuzz-2", b"incr fuzz-3 18446744073709551615", b"decr fuzz-3 1 noreply",
+    b"set fuzz-3 0 0 1 noreply\r\n5", b"get " + b"k" * 250, b"set fuzz-9 0 0 131073",
+    b"set fuzz-9 0 0 4000\r\n" + b"z" * 4000, b"a" * 2047, b"version", b"flush_all 00",
+    b"touch fuzz-1 100", b"touch fuzz-2 -1 noreply", b"append fuzz-1 0 0 2\r\n!!",
+    b"prepend fuzz-3 9 9 1 noreply\r\n1", b"verbosity 1", b"cache_memlimit 64 noreply",
+    b"gat 100 fuzz-1 fuzz-2", b"gats -1 fuzz-2 noreply",
+)]
 
 
 def bad_bytes(chance):
@@ -114,67 +117,46 @@ def bad_bytes(chance):
     return bytes(text).replace(b"flush_all", b"flush_alt").replace(b"canary", b"canarx")
 
 
-class Crowd:
-    """Many connections of bad peers."""
-
-    def __init__(self, server, most):
-        self.server, self.most, self.peers, self.ready = server, most, {}, select.epoll()
-        self.opened = self.sent = 0
-
-    def fill(self):
-        while len(self.peers) < self.most:
-            peer = self.server.connect()
-            self.opened += 1
-            peer.setblocking(False)
-            self.peers[peer.fileno()] = peer
-            self.ready.register(peer, select.EPOLLIN)
-
-    def drop(self, peer):
-        del self.peers[peer.fileno()]
-        peer.close()
-
-    def send(self, chance):
-        """Bad bytes from forty of them."""
-        for peer in chance.sample(list(self.peers.values()), 40):
-            try:
-                self.sent += peer.send(bad_bytes(chance))
-            except BlockingIOError:
-                pass
-            except OSError:
-                self.drop(peer)
-
-    def read(self, chance):
-        """Reads what came to some; one in twenty of them goes."""
-        for number, _ in self.ready.poll(0):
-            peer = self.peers[number]
-            try:
-                is_open = bool(peer.recv(65536))
-            except OSError:
-                is_open = False
-            if not is_open or chance.random() < 0.05:
-                self.drop(peer)
+def pester(peer, chance):
+    """Sends bad bytes, and reads some of what came. Gives the bytes sent, and whether the peer
+    stays: the server may have closed it, and one in twenty goes by itself."""
+    sent = 0
+    try:
+        with contextlib.suppress(BlockingIOError):
+            sent = peer.send(bad_bytes(chance))
+        with contextlib.suppress(BlockingIOError):
+            return sent, bool(peer.recv(1 << 20)) and chance.random() >= 0.05
+    except OSError:
+        return sent, False
+    return sent, True
 
 
 def fuzz(is_long):
     """Bad bytes on up to 1,000 connections, beside the canary."""
-    seconds, chance = 1800 if is_long else 60, random.Random(20260101)
+    seconds, most, chance = *((1800, 1000) if is_long else (60, 300)), random.Random(20260101)
+    sent = opened = 0
+    peers, settled, until = [], None, time.monotonic() + seconds
     with serve("--workers", "2") as server, canary(server) as sung:
-        crowd = Crowd(server, 1000 if is_long else 300)
-        until, settled = time.monotonic() + seconds, None
         while time.monotonic() < until:
-            crowd.fill()
-            crowd.send(chance)
-            crowd.read(chance)
+            while len(peers) < most:
+                peers.append(server.connect())
+                peers[-1].setblocking(False)
+                opened += 1
+            for peer in chance.sample(peers, 40):
+                count, stays = pester(peer, chance)
+                sent += count
+                if not stays:
+                    peers.remove(peer)
+                    peer.close()
             if settled is None and time.monotonic() > until - seconds * 0.75:
-                settled = server.kilobytes("VmRSS"), crowd.opened
+                settled = server.kilobytes("VmRSS"), opened
             server.must_run()
-        grown, opened = server.kilobytes("VmRSS") - settled[0], crowd.opened - settled[1]
-        for peer in list(crowd.peers.values()):
-            crowd.drop(peer)
+        grown = server.kilobytes("VmRSS") - settled[0]
     # (a session that has gone leaves nothing)
-    grew = f"memory grew by {grown} kB with {opened} sessions in three quarters of it; {sung[0]}"
+    grew = (f"memory grew by {grown} kB with {opened - settled[1]} sessions in three quarters of"
+            f" it; {sung[0]}")
     must(grown <= 16 * 1024, grew)
-    return f"{crowd.sent // 1024} kB of bad bytes, {grew}"
+    return f"{sent // 1024} kB of bad bytes, {grew}"
 
 
 def bad_peers(is_long):
@@ -226,7 +208,7 @@ def refused_session(name):
 
 
 def check_refused(session, got):
-    """Whether the session was served whole, told that memory is out, or cut; anything else is trouble."""
+    """Whether the session was served whole, told that memory is out, or cut; else Trouble."""
     was_told = False
     for request, answers in session:
         whole = [it for it in [*answers, OUT_OF_MEMORY] if got.startswith(it)]
@@ -249,7 +231,8 @@ def refused_memory(_):
                 ways[one_refusal(environment)] += 1
             except Trouble as trouble:
                 raise Trouble(f"request {refusal} for memory refused: {trouble}") from None
-    return f"{refusal - 1} requests for memory refused in turn: " + ", ".join(f"{count} with {way}" for way, count in sorted(ways.items()))
+    said = ", ".join(f"{count} with {way}" for way, count in sorted(ways.items()))
+    return f"{refusal - 1} requests for memory refused in turn: {said}"
 
 
 def answers_to(server, session):
@@ -276,11 +259,13 @@ def one_refusal(environment):
     if status == 1 and re.fullmatch(r"fault: (out of memory|cannot start a thread)\n", fault):
         return "a fault at the start"
     # (a listener that still runs tells of a session that was cut)
-    told, _, rest = fault.rpartition(": out of memory\n")
-    is_told = re.fullmatch(r"(closed (127\.0\.0\.1:\d+|an unknown peer))?", told) and (not told or "a session cut" in found)
-    if status != 0 or not is_told or rest not in ("", "serving has ended\n") or found[1:] == found[:1] != ["sessions whole"]:
+    told = r"(closed (127\.0\.0\.1:\d+|an unknown peer): out of memory\n)?(serving has ended\n)?"
+    is_told = re.fullmatch(told, fault)
+    is_told = is_told and (not is_told[1] or "a session cut" in found)
+    others = [it for it in found if it != "sessions whole"]
+    if status != 0 or not is_told or len(others) > 1 and len(set(others)) == 1:
         raise Trouble(f"status {status}, standard error {fault!r}, {' and '.join(found)}")
-    return next((it for it in found if it != "sessions whole"), "sessions whole")
+    return [*others, "sessions whole"][0]
 
 
 def eight_at_once(server, task):
@@ -293,7 +278,8 @@ def value_of(key, size):
 
 
 def large_use(is_long):
-    """The segments filled and overwritten three times by eight clients: what is found is what was written."""
+    """The segments filled and overwritten three times by eight clients: what is found is what was
+    written."""
     segments, size = (1024, 20000) if is_long else (64, 4000)
     writes = 3 * segments * 1048576 // size // 8
 
@@ -313,7 +299,8 @@ def large_use(is_long):
     with serve(*words) as server:
         found = sum(eight_at_once(server, fill))
         resident = server.kilobytes("VmRSS")
-        # (a 256th of the segments for the marks, at most three slots of 4 bytes an item for the index, and 32 MiB for merges, workers and program)
+        # (a 256th of the segments for the marks, at most three slots of 4 bytes an item for the
+        # index, and 32 MiB for merges, workers and program)
         most = segments * 1024 * (1 + 1 / 256 + 12 / size) + 32768
         must(resident <= most, f"{resident} kB of memory, and at most {most:.0f} were said")
         return (f"{8 * writes} values of {size} bytes into {segments} MiB, {found} old ones found "
@@ -321,8 +308,9 @@ def large_use(is_long):
 
 
 def shared_counters(is_long):
-    """Eight clients count, compare and swap, and add on shared keys: what was acknowledged is what is there."""
-    # (the rounds are at most as many, with at most 200 bytes each, as evict nothing from the segments)
+    """Eight clients count, compare and swap, and add on shared keys: what was acknowledged is what
+    is there."""
+    # (so few rounds, with at most 200 bytes each, that nothing is evicted from the segments)
     seconds, most = (60, 60_000) if is_long else (10, 30_000)
 
     def count(part, client):
@@ -355,7 +343,7 @@ def shared_counters(is_long):
 
 
 def press(server, chance):
-    """A session that makes the server keep what it sent, or what it is to be answered, until it goes."""
+    """A session that makes the server keep what it sent, or its answers, until it goes."""
     peer = server.connect(2)
     half = b"set half 0 0 131072\r\n" + b"h" * 131000
     # (the server may have closed it since memory is out, or reads no more of it)
@@ -383,7 +371,8 @@ def pressed_session(server, number):
 
 
 def little_memory(is_long):
-    """A limit on the process's memory (`ulimit -v`) that many sessions run into: no wrong answer, and all are served once they have gone."""
+    """A limit on the process's memory (`ulimit -v`) that many sessions run into: no wrong answer,
+    and all are served once they have gone."""
     chance, spare, rounds = random.Random(3), 8 << 20, 10 if is_long else 2
     with serve("--workers", "2") as server:
         must_store(Client(server), b"pressed", b"p" * 8000)
@@ -407,18 +396,19 @@ def little_memory(is_long):
 
 
 def history(is_long):
-    """What eight clients were answered on shared keys falls, for each key, into one order that a cache would have; tools/histories.py."""
+    """What eight clients were answered on shared keys falls, for each key, into one order that a
+    cache would have; tools/histories.py."""
     with serve("--workers", "3", *OF_THE_PACKAGE, "--segments", "64") as server:
         operations = histories.record(server, 60 if is_long else 5)
     wrong, keys, count, at_once = histories.check(operations)
     must(not wrong, f"no order of a cache has what was answered on {', '.join(wrong[:5])}")
     # (the check itself: one answer made wrong, and no order is found)
-    place = next(at for at, it in enumerate(operations) if it.verb == "incr" and it.answer[0].isdigit())
-    operations[place] = operations[place]._replace(answer=[str(int(operations[place].answer[0]) + 1000000)])
-    of_key = [it for it in operations if it.key == operations[place].key]
-    are_wrong = histories.check(of_key)[0]
-    must(are_wrong == [operations[place].key], "the check lets a wrong answer pass")
-    return f"{count} operations of 8 clients on {keys} keys, {at_once} of them beside another on their key: one order for each"
+    it = next(it for it in operations if it.verb == "incr" and it.answer[0].isdigit())
+    changed = it._replace(answer=[str(int(it.answer[0]) + 1000000)])
+    of_key = [changed if other is it else other for other in operations if other.key == it.key]
+    must(histories.check(of_key)[0] == [it.key], "the check lets a wrong answer pass")
+    return (f"{count} operations of 8 clients on {keys} keys, {at_once} of them beside another on"
+            " their key: one order for each")
 
 
 PARTS = {
@@ -448,7 +438,8 @@ def main():
             said = PARTS[name](words.long)
         except Exception as trouble:  # (whatever ended this part, the others are run)
             lines = [str(it.lineno) for it in traceback.extract_tb(trouble.__traceback__)]
-            said, failed = f"FAILED: {type(trouble).__name__} {trouble}, at lines {', '.join(lines)}", failed + 1
+            failed += 1
+            said = f"FAILED: {type(trouble).__name__} {trouble}, at lines {', '.join(lines)}"
         print(f"hostile {name}: {said} ({time.monotonic() - began:.0f} s)", flush=True)
     return 1 if failed else 0
 

@@ -439,7 +439,7 @@ static void read_words(int count, char **words) {
         else if (!strcmp(word, "--reads")) options.reads = number(word, next, 1, 2000000000), i++;
         else if (!strcmp(word, "--keys")) options.keys = number(word, next, 1, 9999999), i++;
         else if (!strcmp(word, "--first")) options.first = number(word, next, 0, 9999999), i++;
-        else if (!strcmp(word, "--value")) options.value = number(word, next, 0, 131072), i++;
+        else if (!strcmp(word, "--value")) options.value = number(word, next, 0, 1048576), i++;
         else if (!strcmp(word, "--sets")) options.sets = number(word, next, 0, 100), i++;
         else if (!strcmp(word, "--deletes")) options.deletes = number(word, next, 0, 100), i++;
         else if (!strcmp(word, "--many")) options.many = number(word, next, 1, 100), i++;

@@ -13,10 +13,10 @@ import collections
 import concurrent.futures
 import math
 import os
-import subprocess
-import tempfile
 import time
 from typing import NamedTuple
+
+from matplotlib import pyplot
 
 from asking import put
 from served import OPTIONS, Client, Memcached, Server, Trouble, together
@@ -228,10 +228,6 @@ def ratio(sides):
     return sides[1].missed / max(sides[0].missed, 1e-9)
 
 
-def plot(script):
-    subprocess.run(["gnuplot"], input=script, text=True, check=True)
-
-
 def markdown(heads, rows):
     """The lines of a table."""
     lines = ["| " + " | ".join(it) + " |" for it in [heads, *rows]]
@@ -277,54 +273,35 @@ def ratios(results):
     return markdown(["segcached's misses beside memcached's", *SETTINGS], rows)
 
 
-def panel(zipf, results, folder):
-    """gnuplot's words for one exponent: misses and ratios by memory, for each value size
-    memcached's line and one for each of segcached's options."""
-    missed, ratios_of = [], []
-    for value, colour in zip(VALUES, ("#1b6ca8", "#2e8b57", "#c0504d")):
-        path = f"{folder}/{zipf}_{value}.dat"
-        with open(path, "w", encoding="ascii") as file:
-            for memory in MEMORIES:
-                each = [results[it] for it in by_settings([Point(memory, value, zipf)])]
-                figures = [each[0][0].missed, *(it[1].missed for it in each), *map(ratio, each)]
-                print(memory, *(f"{it:.4f}" for it in figures), file=file)
-        for column, (kind, dashes) in enumerate(zip(("memcached", *SETTINGS), (2, 1, 4)), 2):
-            mark = 6 if kind == "memcached" else 7
-            style = (f"with linespoints lw 2 dt {dashes} pt {mark} lc rgb '{colour}'"
-                     f" title '{value} bytes, {kind}'")
-            missed.append(f"'{path}' using 1:{column} {style}")
-            if column > 2:
-                ratios_of.append(f"'{path}' using 1:{column + 2} {style}")
-    return missed, ratios_of
-
-
-PICTURE = f"""
-set terminal svg size 1100,900 font 'sans,13' background rgb 'white'
-set output '%s'
-set multiplot layout 2,2
-set logscale x 2
-set xtics ({', '.join(map(str, MEMORIES))})
-set xrange [{MEMORIES[0] * 0.9}:{MEMORIES[-1] * 1.1}]
-set yrange [0:*]
-set xlabel "resident memory (MiB)"
-set grid ytics
-set key bottom right
-"""
+COLOURS = "#1b6ca8", "#2e8b57", "#c0504d"
 
 
 def draw(results, picture):
-    """A picture: above, what both missed; below, the ratio; a column for each exponent."""
-    with tempfile.TemporaryDirectory() as folder:
-        panels = [panel(zipf, results, folder) for zipf in EXPONENTS]
-        one = "1 with lines dt 3 notitle"
-        plots = [(zipf, "missed of 100 reads", it[0]) for zipf, it in zip(EXPONENTS, panels)]
-        plots += [(zipf, "segcached''s misses, times memcached''s", [*it[1], one])
-                  for zipf, it in zip(EXPONENTS, panels)]
-        script = PICTURE % picture
-        for zipf, label, words in plots:
-            script += f"set title 'keys by Zipf''s law, {zipf:g}'\nset ylabel '{label}'\n"
-            script += f"plot {', '.join(words)}\n"
-        plot(script)
+    """A picture: above, what both missed; below, the ratio; a column for each exponent. For each
+    size of values memcached has a line, and segcached one for each of its options."""
+    figure, axes = pyplot.subplots(2, len(EXPONENTS), figsize=(11, 9), layout="constrained")
+    for zipf, (above, below) in zip(EXPONENTS, axes.T):
+        for value, colour in zip(VALUES, COLOURS):
+            points = [Point(memory, value, zipf) for memory in MEMORIES]
+            each = {setting: [results[it._replace(setting=setting)] for it in points]
+                    for setting in SETTINGS}
+            missed = {"memcached": [theirs.missed for theirs, _ in each["default"]]}
+            missed |= {name: [ours.missed for _, ours in sides] for name, sides in each.items()}
+            for style, (name, numbers) in zip(("o--", "o-", "o-."), missed.items()):
+                line = {"color": colour, "label": f"{value} bytes, {name}"}
+                above.plot(MEMORIES, numbers, style, **line)
+                if name in each:
+                    below.plot(MEMORIES, [*map(ratio, each[name])], style, **line)
+        below.axhline(1, color="black", linestyle=":")
+        for axes_of, what in ((above, "missed of 100 reads"),
+                              (below, "segcached's misses, times memcached's")):
+            axes_of.set(title=f"keys by Zipf's law, {zipf:g}", ylabel=what, ylim=(0, None),
+                        xlabel="resident memory (MiB)", xscale="log")
+            axes_of.set_xticks(MEMORIES, MEMORIES)
+            axes_of.minorticks_off()
+            axes_of.grid(axis="y")
+            axes_of.legend(fontsize="small")
+    figure.savefig(picture)
 
 
 # ---- keys in use that are lost while new ones are written

@@ -1,57 +1,86 @@
 #!/usr/bin/python3
-"""Other people's suites against the proved program: memcached's own tests, pymemcache's, memccapable, those of Cache::Memcached::Fast;
-a limit of requests a minute by Flask-Limiter, and Postfix's tables; and Debian's monitors of
-memcached.
+"""Other people's suites against the proved program: memcached's own tests, pymemcache's,
+memccapable, those of Cache::Memcached::Fast; a limit of requests a minute by Flask-Limiter, and
+Postfix's tables; and Debian's monitors of memcached.
 
     tools/peers.py [--program PROGRAM] [--only SUITE] [--show]
 
-The program serves them with the package's options. Their sources come by apt-get into out/peers. What fails has to be what
-tools/peers/expected lists, each below the sentence of docs/CLIENTS.md or docs/OPERATIONS.md that tells it; --show prints what failed in that
-file's form. The last line is 'N passed, M failed as the documents say, K otherwise'.
+The program serves them with the package's options. Their sources come by apt-get into out/peers.
+What fails has to be what tools/peers/expected lists, each below the sentence of docs/CLIENTS.md or
+docs/OPERATIONS.md that tells it; --show prints what failed in that file's form. The last line is
+'N passed, M failed as the documents say, K otherwise'.
 """
 import argparse
+import contextlib
 import glob
 import itertools
 import os
 import pathlib
 import re
 import shutil
+import signal
 import subprocess
 import sys
+import tempfile
+import time
 
-import monitors
-from monitors import run
-from served import OF_THE_PACKAGE, PROGRAM, TOP, Server, Trouble, install, read
+from served import (
+    OF_THE_PACKAGE, PROGRAM, TOP, Client, Process, Server, Trouble, install, read)
 
 HERE = f"{TOP}/tools/peers"
 WORK = f"{TOP}/out/peers"
 SOURCES = ["memcached", "libcache-memcached-fast-perl"]
 PACKAGES = """libmemcached-tools python3-pymemcache python3-pytest python3-flask-limiter postfix
-    libcache-memcached-fast-perl libtest2-suite-perl perl""".split()
+    libcache-memcached-fast-perl libtest2-suite-perl perl memcached munin-plugins-extra
+    libcache-memcached-perl collectd-core netdata-plugins-python netdata-core
+    monitoring-plugins-contrib""".split()
 # Those of memcached's tests that speak of the commands that there are.
-OF_MEMCACHED = """bogus-commands cas evictions expirations flags flush-all getandtouch getset incrdecr issue_104 issue_108 issue_14 issue_152
-    issue_163 issue_183 issue_192 issue_22 issue_29 issue_42 issue_68 issue_70 lru malicious-commands multiversioning noreply quit touch""".split()
+OF_MEMCACHED = """bogus-commands cas evictions expirations flags flush-all getandtouch getset
+    incrdecr issue_104 issue_108 issue_14 issue_152 issue_163 issue_183 issue_192 issue_22 issue_29
+    issue_42 issue_68 issue_70 lru malicious-commands multiversioning noreply quit touch""".split()
 OF_PYMEMCACHE = "/usr/lib/python3/dist-packages/pymemcache/test/test_integration.py"
-OF_FAST = """big-value commands flush-all magic malformed namespace noreply nowait serialize utf8""".split()
-# The most seconds that one file of tests may take, and the test of a limit of a minute.
-SECONDS, LIMIT_SECONDS = 120, 150
+OF_FAST = """big-value commands flush-all magic malformed namespace noreply nowait serialize
+    utf8""".split()
+# The most seconds that one file of tests may take, the test of a limit of a minute, and a monitor.
+SECONDS, LIMIT_SECONDS, MONITOR_SECONDS = 120, 150, 20
+
+
+def run(words, seconds=MONITOR_SECONDS, cwd=None, **environment):
+    """The status of a command, None if it was ended after so many seconds, and what it said. What
+    it didn't end itself is ended with it."""
+    process = subprocess.Popen(
+        words, stdout=subprocess.PIPE, stderr=subprocess.DEVNULL, text=True, errors="replace",
+        start_new_session=True, cwd=cwd, env={**os.environ, **environment})
+    try:
+        said, _ = process.communicate(timeout=seconds)
+        return process.returncode, said
+    except subprocess.TimeoutExpired:
+        os.killpg(process.pid, signal.SIGTERM)
+        with contextlib.suppress(subprocess.TimeoutExpired):
+            return None, process.communicate(timeout=10)[0]
+        os.killpg(process.pid, signal.SIGKILL)
+        return None, process.communicate()[0]
+    finally:
+        with contextlib.suppress(ProcessLookupError):
+            os.killpg(process.pid, signal.SIGKILL)
 
 
 def fetch():
-    """The sources, by apt's own lists with `deb` turned into `deb-src`, in a folder of their own."""
+    """The sources, by apt's lists with `deb` turned into `deb-src`, in a folder of their own."""
     if all(glob.glob(f"{WORK}/{source}_*.orig.tar.*") for source in SOURCES):
         return
-    for folder in ("lists/partial", "sources.list.d"):
-        os.makedirs(f"{WORK}/{folder}", exist_ok=True)
-    for path in ["/etc/apt/sources.list", *glob.glob("/etc/apt/sources.list.d/*.list"), *glob.glob("/etc/apt/sources.list.d/*.sources")]:
-        if os.path.exists(path):
-            text = re.sub(r"^(Types: *)?deb(?= |$)", r"\1deb-src", read(path), flags=re.MULTILINE)
-            made = pathlib.Path(f"{WORK}/sources.list.d/{os.path.basename(path)}")
-            made.write_text(text, encoding="utf-8")
-    apt = ["apt-get", "-o", "Dir::Etc::SourceList=/dev/null", "-o", f"Dir::Etc::SourceParts={WORK}/sources.list.d"]
-    apt += ["-o", f"Dir::State::Lists={WORK}/lists", "-o", "Dir::Cache::pkgcache=", "-o", "Dir::Cache::srcpkgcache="]
+    parts = f"{WORK}/sources.list.d"
+    for folder in (f"{WORK}/lists/partial", parts):
+        os.makedirs(folder, exist_ok=True)
+    for path in glob.glob("/etc/apt/sources.list") + glob.glob("/etc/apt/sources.list.d/*.[ls]*"):
+        text = re.sub(r"^(Types: *)?deb(?= |$)", r"\1deb-src", read(path), flags=re.MULTILINE)
+        pathlib.Path(f"{parts}/{os.path.basename(path)}").write_text(text, encoding="utf-8")
+    options = ("Dir::Etc::SourceList=/dev/null", f"Dir::Etc::SourceParts={parts}",
+               f"Dir::State::Lists={WORK}/lists", "Dir::Cache::pkgcache=",
+               "Dir::Cache::srcpkgcache=")
+    apt = ["apt-get", *(word for it in options for word in ("-o", it))]
     for words in (["update"], ["source", "--tar-only", "--download-only", *SOURCES]):
-        ran = subprocess.run([*apt, *words], cwd=WORK, capture_output=True, text=True)
+        ran = subprocess.run([*apt, *words], cwd=WORK, capture_output=True, text=True, check=False)
         if ran.returncode:
             raise Trouble(f"apt-get {words[0]} failed: {ran.stderr.strip()[-300:]}")
 
@@ -66,22 +95,24 @@ def unpack(source):
     return f"{folder}/t"
 
 
-def of_tap(name, words, **how):
-    """What a file of tests in perl said: for each number of it, and for its end, whether it passed."""
-    status, said = run(words, SECONDS, **how)
-    passed = {int(number): not bad for bad, number in re.findall(r"^(not )?ok (\d+)", said, re.MULTILINE)}
+def of_perl(source, name, tests, **environment):
+    """What a file of tests in perl said: for each number of it, and for its end, whether it
+    passed."""
+    words = ["perl", f"t/{name}.t"]
+    status, said = run(words, SECONDS, cwd=os.path.dirname(tests), **environment)
     plan = re.search(r"^1\.\.(\d+)", said, re.MULTILINE)
-    passed.update({number: False for number in range(1, int(plan[1]) + 1 if plan else 1) if number not in passed})
+    passed = dict.fromkeys(range(1, int(plan[1]) + 1 if plan else 1), False)
+    for bad, number in re.findall(r"^(not )?ok (\d+)", said, re.MULTILINE):
+        passed[int(number)] = not bad
     passed["end"] = plan is not None and status is not None
-    return {f"{name} {number}": holds for number, holds in passed.items()}
+    return {f"{source}/{name}.t {number}": holds for number, holds in passed.items()}
 
 
 def memcached(program):
     tests, results = unpack("memcached"), {}
     shutil.copy(f"{HERE}/MemcachedTest.pm", f"{tests}/lib")
     for name in OF_MEMCACHED:
-        how = {"cwd": os.path.dirname(tests), "SEGCACHED": program}
-        results.update(of_tap(f"memcached/{name}.t", ["perl", f"t/{name}.t"], **how))
+        results.update(of_perl("memcached", name, tests, SEGCACHED=program))
     return results
 
 
@@ -90,26 +121,28 @@ def fast(program):
     shutil.copy(f"{HERE}/Memd.pm", tests)
     for name in OF_FAST:
         with Server(program, *OF_THE_PACKAGE) as server:
-            how = {"cwd": os.path.dirname(tests), "PORT": str(server.port)}
-            results.update(of_tap(f"fast/{name}.t", ["perl", f"t/{name}.t"], **how))
+            results.update(of_perl("fast", name, tests, PORT=str(server.port)))
     return results
 
 
 def pymemcache(program):
-    """Its integration tests, as the package has them; one with several clients passes if it does with each."""
+    """Its integration tests, as the package has them; one with several clients passes if it does
+    with each."""
     results = {}
     with Server(program, *OF_THE_PACKAGE) as server:
-        words = ["/usr/bin/python3", "-B", "-m", "pytest", "-p", "no:cacheprovider", "--tb=no", "-rA"]
+        words = ["/usr/bin/python3", "-B", "-m", "pytest", "-p", "no:cacheprovider", "--tb=no"]
         # (the package lacks the certificates of the one over TLS)
-        words += [OF_PYMEMCACHE, "-k", "not tls", "--server", "127.0.0.1", "--port", str(server.port)]
+        words += ["-rA", OF_PYMEMCACHE, "-k", "not tls", "--server", "127.0.0.1"]
+        words += ["--port", str(server.port)]
         _, said = run(words, SECONDS, cwd=WORK)
     for verdict, name in re.findall(r"^(PASSED|FAILED|ERROR) \S+::(\w+)", said, re.MULTILINE):
-        results[f"pymemcache/{name}"] = results.get(f"pymemcache/{name}", True) and verdict == "PASSED"
+        name = f"pymemcache/{name}"
+        results[name] = results.get(name, True) and verdict == "PASSED"
     return results
 
 
 def memccapable(program):
-    """Its text part: each line begins with a test, and what went wrong may stand before the verdict."""
+    """Its text part: each line begins with a test; what went wrong may precede the verdict."""
     results, name = {}, None
     with Server(program, *OF_THE_PACKAGE) as server:
         words = ["sh", "-c", 'memccapable -h 127.0.0.1 -p "$0" -a -t 5 2>&1', str(server.port)]
@@ -130,8 +163,127 @@ def limits(program):
     return {f"limits/{it}": bool(works.get(it, "").strip()) for it in ("Flask-Limiter", "Postfix")}
 
 
-SUITES = {"memcached": memcached, "fast": fast, "pymemcache": pymemcache, "memccapable": memccapable, "limits": limits,
-          "monitors": monitors.watch}
+# ---- Debian's monitors of memcached
+
+# Each has to show what it shows of memcached, but for what docs/OPERATIONS.md names.
+# Of each plugin of munin, how many values it shows.
+OF_MUNIN = {"bytes": 2, "counters": 3, "rates": 6}
+# How many series collectd shows of memcached, and those that have no field here.
+SERIES, MISSING = 24, {"memcached_command-meta"}
+# How many charts netdata shows, beside the one of its own time.
+CHARTS = 14
+TOOL = "/usr/share/memcached/scripts/memcached-tool"
+COLLECTD = """
+Hostname "here"
+BaseDir "{folder}"
+PIDFile "{folder}/pid"
+Interval 1
+LoadPlugin csv
+LoadPlugin memcached
+<Plugin csv>
+  DataDir "{folder}"
+</Plugin>
+<Plugin memcached>
+  <Instance "cache">
+    Address "127.0.0.1"
+    Port "{port}"
+  </Instance>
+</Plugin>
+"""
+NETDATA = """
+here:
+  host: '127.0.0.1'
+  port: {port}
+"""
+
+
+def use(server):
+    """A hit and a miss."""
+    client = Client(server)
+    client.set(b"a", b"x")
+    for key in (b"a", b"b"):
+        client.get(key)
+
+
+def munin(server, folder):
+    """A symbolic link says which of its three graphs the plugin shows; one value that it doesn't
+    know is U."""
+    for graph, count in OF_MUNIN.items():
+        plugin = f"{folder}/memcached_{graph}"
+        os.symlink("/usr/share/munin/plugins/memcached_", plugin)
+        status, said = run(["perl", plugin], host="127.0.0.1", port=str(server.port))
+        values = re.findall(r"^\w+\.value (\d+)$", said, re.MULTILINE)
+        is_whole = len(values) == said.count(".value ") == count
+        yield f"munin's {graph}", status == 0 and is_whole, said
+
+
+def collectd(server, folder):
+    """It reads each second, and writes a file for each series."""
+    path = pathlib.Path(f"{folder}/collectd.conf")
+    path.write_text(COLLECTD.format(folder=folder, port=server.port), encoding="ascii")
+    with Process(["/usr/sbin/collectd", "-f", "-C", path], stderr=subprocess.DEVNULL) as it:
+        for _ in range(5):
+            use(server)
+            time.sleep(1)
+        it.process.terminate()
+        it.process.wait(MONITOR_SECONDS)
+    files = map(os.path.basename, glob.glob(f"{folder}/here/memcached-cache/*"))
+    found = {re.sub(r"-\d{4}-\d\d-\d\d$", "", it) for it in files}
+    holds = len(found | MISSING) == SERIES and not found & MISSING
+    yield f"collectd: {len(found)} of {SERIES} series", holds, " ".join(sorted(found))
+
+
+def netdata(server, folder):
+    path = pathlib.Path(f"{folder}/python.d/memcached.conf")
+    path.parent.mkdir()
+    path.write_text(NETDATA.format(port=server.port), encoding="ascii")
+    folders = {f"NETDATA_{it}_DIR": folder for it in ("USER_CONFIG", "LOCK", "LIB")}
+    _, said = run(["/usr/lib/netdata/plugins.d/python.d.plugin", "1", "memcached"], 8, **folders)
+    charts = set(re.findall(r"^CHART memcached_here\.(\w+)", said, re.MULTILINE))
+    values = re.findall(r"^SET '?(\w+)'? = '?(\d+)", said, re.MULTILINE)
+    holds = len(charts) == CHARTS and len(values) >= CHARTS
+    yield f"netdata: {len(charts)} of {CHARTS} charts", holds, said
+
+
+def nagios(server, _):
+    """It keeps what it was told in the cache itself, and compares it with what it is told half a
+    minute later at least."""
+    words = ["/usr/lib/nagios/plugins/check_memcached", "-H", "127.0.0.1", "-p", str(server.port)]
+    status, said = run(words)
+    yield "check_memcached", status == 0 and said.startswith("OK"), said
+    kept = Client(server).get(b"check_memcached")
+    yield "check_memcached keeps its history", kept is not None, "there is none"
+
+
+def tools(server, _):
+    """memcached-tool reads until `END`; `dump` shows keys, of which it is told none."""
+    where = f"127.0.0.1:{server.port}"
+    status, said = run(["memcstat", f"--servers={where}"])
+    yield "memcstat", status == 0 and "get_hits" in said and "bytes_written" in said, said
+    for mode, wanted in {"stats": "get_hits", "display": "#", "settings": "", "sizes": "",
+                         "dump": ""}.items():
+        status, said = run(["perl", TOOL, where, mode])
+        yield f"memcached-tool {mode}", status == 0 and wanted in said, said
+
+
+def monitors(program):
+    """Of each thing that a monitor has to show whether it does; what it said where it doesn't is
+    printed."""
+    results = {}
+    with Server(program, *OF_THE_PACKAGE) as server:
+        use(server)
+        for monitor in (munin, collectd, netdata, nagios, tools):
+            with tempfile.TemporaryDirectory() as folder:
+                for name, holds, said in monitor(server, folder):
+                    results[f"monitors/{name.replace(' ', '_')}"] = holds
+                    if not holds:
+                        print(f"{name}:\n{said}", file=sys.stderr)
+    return results
+
+
+# ---- all of them
+
+SUITES = {it.__name__: it for it in (memcached, fast, pymemcache, memccapable, limits, monitors)}
 
 
 def read_expected():
@@ -172,27 +324,30 @@ def main():
     parser.add_argument("--show", action="store_true", help="prints what failed")
     words = parser.parse_args()
     if not words.program:
-        subprocess.run(["bash", f"{TOP}/tools/build.sh"], check=True)
+        subprocess.run(["python3", f"{TOP}/tools/prove.py"], check=True)
+    names, results = [words.only] if words.only else SUITES, {}
     try:
         os.makedirs(WORK, exist_ok=True)
         install(*PACKAGES)
         fetch()
-        results = {}
-        for name in [words.only] if words.only else SUITES:
-            results.update(SUITES[name](os.path.abspath(words.program or PROGRAM)))
-            print(f"{name}: {sum(1 for it in results if it.startswith(name))} tests", flush=True)
-        failed = [name for name, holds in results.items() if not holds]
-        if words.show:
-            print("\n".join(in_ranges(failed)))
-        expected = {name: it for name, it in read_expected().items() if not words.only or name.startswith(f"{words.only}/")}
+        for name in names:
+            found = SUITES[name](os.path.abspath(words.program or PROGRAM))
+            print(f"{name}: {len(found)} tests", flush=True)
+            results |= found
+        told = {it for it in read_expected() if it.partition("/")[0] in names}
     except Trouble as trouble:
         sys.exit(f"peers: {trouble}")
-    untold, passing = [it for it in failed if it not in expected], [it for it in expected if results.get(it, True)]
+    failed = {name: None for name, holds in results.items() if not holds}
+    if words.show:
+        print("\n".join(in_ranges(failed)))
+    untold = [it for it in failed if it not in told]
+    passing = [it for it in told if results.get(it, True)]
     for line in in_ranges(untold):
         print(f"failed, and no document says so: {line}")
     for line in in_ranges(passing):
         print(f"passed, or wasn't run, though it is expected to fail: {line}")
-    print(f"{len(results) - len(failed)} passed, {len(failed) - len(untold)} failed as the documents say, {len(untold) + len(passing)} otherwise")
+    print(f"{len(results) - len(failed)} passed, {len(failed) - len(untold)} failed as the"
+          f" documents say, {len(untold) + len(passing)} otherwise")
     return 1 if untold or passing or not results else 0
 
 

@@ -1,42 +1,62 @@
 #!/usr/bin/env python3
-"""Proves segcached and the crates that it stands on, and builds it as crates/segcached/out/segcached.
+"""Proves segcached and the crates that it stands on, and builds it in crates/segcached/out.
 
-    tools/prove.py          with a line for each crate that is proved
-    tools/prove.py --kept   proves nothing: status 0 if the program was built so, and nothing that
-                            it is built of has changed since
+    tools/prove.py                      with a line for each crate that is proved
+    tools/prove.py record --log FILE    writes the record of what the program was proved from; FILE
+                                        is what `rt ci` said of the whole repository
+    tools/prove.py check [PROGRAM]      ends with a line and status 1 if it can't be packaged
+    tools/prove.py package              prints the version of the program's package
 
-It calls the prover for each crate once those below it are proved, as many side by side as there are
-processors and memory for; those from which the way to the program is longest, by their lines, come
-first. The prover makes a copy of itself for each processor for the crate with the longest way of
-all, and none for the others. What is proved stands in out/proofs: after an interrupt the next run
-goes on from there. What the prover says of each crate stands beside the program, as segcached.log.
+`rt ci` proves them in a copy without the other crates and the wrong bodies. It keeps each crate
+that is proved, for all runs on this machine: after an interrupt the next one goes on from there.
+What it says stands beside the program, as segcached.log.
+
+The record, PROVED, stands there too. It holds for one program, by its sha256, and for one state of
+the repository's files, by the sum that git gives them. Of a crate it has the prover's line, or that
+an earlier run proved it.
 """
+import argparse
+import contextlib
 import fcntl
-import functools
 import hashlib
 import os
 import pathlib
+import re
+import shutil
 import signal
 import subprocess
 import sys
+import tempfile
 import time
-
-import machine
 
 TOP = os.path.dirname(os.path.dirname(os.path.abspath(__file__)))
 NAME = "segcached"
 PROGRAM = f"{TOP}/crates/{NAME}/out/{NAME}"
-# Of each crate what the prover said, and the sum of what it was proved from; and the proved libraries.
-PROOFS = f"{TOP}/out/proofs"
-LIBRARIES = f"{PROOFS}/libraries"
+# The last words of the line that `rt version` prints. Kits with other numbers may have them.
+LOGIC = f"{TOP}/tools/logic.txt"
 # What of a crate isn't a part of its proof or of its stored run.
 IGNORED = ("out", "wrong")
-# How many of the last characters of what the prover says of a crate that isn't proved are shown.
+# How many of the last characters of what `rt ci` says are shown if it fails.
 SHOWN = 3000
-# The seconds between two looks at what runs.
-EVERY = 0.2
-# The status after an interrupt.
+# The signals by which a run is ended, and its status then.
+ENDS = (signal.SIGINT, signal.SIGTERM, signal.SIGHUP)
 INTERRUPTED = 130
+# What the proof of a crate may take, in gigabytes, if nothing is kept.
+GIGABYTES_A_PROOF = 4.5
+# Where the free memory of the machine stands, and the limit of a control group beside the line of
+# what it uses, by both versions of such groups.
+MEMORY = "/proc/meminfo"
+GROUPS = (
+    ("/sys/fs/cgroup/memory.max", "/sys/fs/cgroup/memory.stat", "anon"),
+    ("/sys/fs/cgroup/memory/memory.limit_in_bytes", "/sys/fs/cgroup/memory/memory.stat",
+     "total_rss"),
+)
+# What `rt ci` says of a crate that it has proved, or that an earlier run did.
+IS_PROVED = re.compile(r"rt: (\w+) (?:proved$|is kept: )")
+# What the record says of a run over the program's crates alone.
+ALONE = ", with no tests and no wrong bodies"
+# What the record says behind the commit if files differ from it.
+CHANGED = " and changes that aren't committed"
 
 
 def read(path):
@@ -47,6 +67,70 @@ def write(path, text):
     os.makedirs(os.path.dirname(path), exist_ok=True)
     pathlib.Path(path).write_text(text, encoding="utf-8")
 
+
+# ---- what the machine has
+
+def logic():
+    """The logic that the repository is proved with."""
+    return read(LOGIC).strip()
+
+
+def processors():
+    return len(os.sched_getaffinity(0))
+
+
+def number_in(path, word=""):
+    """The number after a word at a line's start, or None if there is none, or no such file."""
+    text = pathlib.Path(path).read_text(encoding="ascii") if os.path.exists(path) else ""
+    found = re.search(rf"^{word}\W*(\d+)", text, re.MULTILINE)
+    return int(found[1]) if found else None
+
+
+def free_gigabytes(memory=MEMORY, groups=GROUPS):
+    """The memory that a program could take now."""
+    free = 1024 * number_in(memory, "MemAvailable")
+    for limit, used, word in groups:
+        limit, used = number_in(limit), number_in(used, word)
+        if limit is not None and used is not None:
+            free = min(free, limit - used)
+    return free / 1024**3
+
+
+def lacks_kit():
+    """What is wrong with the kit here, in one line, or None."""
+    wanted = logic()
+    if not shutil.which("rt"):
+        return f"there is no rt on the path: segcached is proved with a Rattle kit of '{wanted}'"
+    ran = subprocess.run(["rt", "version"], stdin=subprocess.DEVNULL, capture_output=True,
+                         text=True, errors="replace", check=False)
+    found = ran.stdout.strip().partition("\n")[0]
+    if not f" {found}".endswith(f" {wanted}"):
+        return (f"the rt on the path has another logic, '{found}': segcached is proved with"
+                f" '{wanted}'")
+    return None
+
+
+def lacks_memory(free=None):
+    """What is wrong with the memory here, in one line, or None."""
+    free = free_gigabytes() if free is None else free
+    wanted = 2 * GIGABYTES_A_PROOF
+    if free < wanted:
+        return f"{free:.1f} GB of memory are free, and proving needs {wanted:.0f} GB"
+    return None
+
+
+def at_once():
+    """How many crates may be proved side by side."""
+    return max(1, min(processors(), int(free_gigabytes() / GIGABYTES_A_PROOF)))
+
+
+def stop_where_lacking(lacking):
+    """Ends the program with status 1 and one line if something is lacking."""
+    if lacking:
+        sys.exit(f"segcached: {lacking}")
+
+
+# ---- the crates
 
 def read_lines():
     """The crates of crates.txt, each with all that it uses."""
@@ -62,201 +146,195 @@ def read_crates():
 
 
 def with_those_below(crates, name):
-    found = {name}
-    for below in crates[name]:
-        found |= with_those_below(crates, below)
-    return found
-
-
-def files_of(name):
-    """The files of a crate that are proved, built or run."""
-    for top, folders, files in os.walk(f"{TOP}/crates/{name}"):
-        folders[:] = sorted(it for it in folders if it not in IGNORED)
-        yield from (f"{top}/{file}" for file in sorted(files))
+    return {name}.union(*(with_those_below(crates, below) for below in crates[name]))
 
 
 def sum_of_file(path):
     return hashlib.sha256(pathlib.Path(path).read_bytes()).hexdigest()
 
 
-def sum_of_sources(name):
-    """A sum of all that a crate is proved from, the logic too."""
-    lines = read_lines()
-    whole = hashlib.sha256(machine.logic().encode())
-    for crate in sorted(with_those_below(read_crates(), name)):
-        whole.update(f"{crate}: {lines[crate]}\n".encode())
-        for path in files_of(crate):
-            whole.update(f"{os.path.relpath(path, TOP)} {sum_of_file(path)}\n".encode())
-    return whole.hexdigest()
+# ---- the record
+
+class Trouble(Exception):
+    """Why there is no record, or none that fits."""
 
 
-def record():
-    """A sum of all that the program is built of, and one of the program; None if there is none."""
-    if not os.path.exists(PROGRAM):
-        return None
-    return f"sources {sum_of_sources(NAME)}\nprogram {sum_of_file(PROGRAM)}\n"
+def output_of(*words, folder=None, **variables):
+    how = {"cwd": folder or TOP, "env": {**os.environ, **variables}, "text": True}
+    try:
+        ran = subprocess.run(words, check=True, capture_output=True, **how)
+        return ran.stdout.strip()
+    except subprocess.CalledProcessError as fault:
+        said = (fault.stderr or fault.stdout).strip()[-300:]
+        raise Trouble(f"{' '.join(words)} failed: {said}") from None
+    except OSError as fault:
+        raise Trouble(f"{words[0]} can't be run: {fault.strerror}") from None
 
 
-def is_written(path, text):
-    return os.path.exists(path) and read(path) == text
+def sum_of_files():
+    """The sum that git gives the repository's files as they stand, with what isn't committed."""
+    with tempfile.TemporaryDirectory() as folder:
+        index = {"GIT_INDEX_FILE": f"{folder}/index"}
+        output_of("git", "read-tree", "HEAD", **index)
+        output_of("git", "add", "--all", **index)
+        return output_of("git", "write-tree", **index)
+
+
+def sum_or_none():
+    """As above, or None where there is no git or no commit."""
+    with contextlib.suppress(Trouble):
+        return sum_of_files()
+    return None
+
+
+def read_record(program):
+    """The record beside a program; empty if there is none."""
+    path = f"{os.path.dirname(program)}/PROVED"
+    lines = read(path).splitlines() if os.path.exists(path) else []
+    return dict(line.split(": ", 1) for line in lines if ": " in line)
+
+
+def package_version(number, commit, folder=None):
+    """The version of a package that is built of this commit: a later commit has a later version.
+    Behind the number stand the commit's date, in UTC, and its short hash; with changes that aren't
+    committed the date is now."""
+    form, name = "%Y%m%d.%H%M%S", commit.removesuffix(CHANGED)
+    words = ["git", "show", "-s", "--format=%cd.g%h", f"--date=format-local:{form}", name]
+    date, _, short = output_of(*words, folder=folder, TZ="UTC").rpartition(".")
+    if name != commit:
+        return f"{number}+{time.strftime(form, time.gmtime())}.{short}.changed"
+    return f"{number}+{date}.{short}"
+
+
+def verdicts_of_log(path):
+    """By crate, what a run said of its proof, and after them all its last line."""
+    verdicts, crate, lines = {}, None, read(path).splitlines()
+    for line in lines:
+        if line.startswith("== "):
+            crate = line[3:]
+        elif line.startswith("logic=proved ") and crate:
+            verdicts.setdefault(crate, line)
+        elif kept := re.match(r"rt: (\w+) is (kept: .*)", line):
+            verdicts[kept[1]] = kept[2]
+    return verdicts, lines[-1]
+
+
+def write_record(log, alone):
+    """Writes the record of what a run said."""
+    crates = read_crates()
+    names = [name for name in crates if name in with_those_below(crates, NAME)]
+    verdicts, last = verdicts_of_log(log)
+    if unproved := [name for name in names if name not in verdicts]:
+        raise Trouble(f"{unproved[0]} isn't proved")
+    files, at = sum_of_files(), output_of("git", "rev-parse", "HEAD")
+    changed = "" if files == output_of("git", "rev-parse", "HEAD^{tree}") else CHANGED
+    record = [
+        output_of(PROGRAM, "--version").splitlines()[0],
+        f"commit: {at}{changed}",
+        f"files: {files}",
+        f"kit: {output_of('rt', 'version')}",
+        f"program: {sum_of_file(PROGRAM)}",
+        f"run: {last}{ALONE if alone else ''}",
+        f"proved: {len(names)} crates",
+        "",
+        *(f"{name}: {verdicts[name]}" for name in names),
+    ]
+    write(f"{os.path.dirname(PROGRAM)}/PROVED", "".join(f"{line}\n" for line in record))
+
+
+def check(program):
+    record = read_record(program)
+    built = "built with proofs: run tools/prove.py"
+    if not record or not os.path.exists(program):
+        raise Trouble(f"no program was {built}")
+    if record["program"] != sum_of_file(program):
+        raise Trouble(f"the program isn't the one that was {built}")
+    if record["files"] != sum_of_files():
+        raise Trouble(f"files have changed since the program was {built}")
 
 
 def is_kept():
     """Whether the program was built of proved crates, and nothing has changed since."""
-    return is_written(f"{PROGRAM}.kept", record())
+    with contextlib.suppress(Trouble):
+        check(PROGRAM)
+        return True
+    return False
 
 
-def keep():
-    write(f"{PROGRAM}.kept", record())
+# ---- the proofs
 
-
-def lines_of(name):
-    """How many lines a crate has: its proof takes longer the more there are."""
-    return sum(pathlib.Path(it).read_bytes().count(b"\n") for it in files_of(name))
-
-
-def ways_to_the_top(crates, lines):
-    """Of each of these crates the lines of the longest way to one on which none of them stands."""
-    @functools.cache
-    def measure(name):
-        return lines[name] + max((measure(it) for it in lines if name in crates[it]), default=0)
-
-    return {name: measure(name) for name in lines}
+def copy_crates(names, to):
+    """Copies these crates alone, as a repository of their own."""
+    for name in names:
+        ignored = shutil.ignore_patterns(*IGNORED)
+        shutil.copytree(f"{TOP}/crates/{name}", f"{to}/crates/{name}", ignore=ignored)
+    lines = read_lines()
+    write(f"{to}/crates.txt", "".join(f"{it}: {' '.join(lines[it])}\n" for it in names))
+    shutil.copy(f"{TOP}/HANDLES", to)
+    os.mkdir(f"{to}/.git")
 
 
 def minutes_and_seconds(seconds):
     return f"{int(seconds) // 60}:{int(seconds) % 60:02}"
 
 
-def kit_folder():
-    return os.path.dirname(subprocess.run(["rt", "doc"], stdout=subprocess.PIPE, text=True, check=True).stdout.strip())
+def run_ci(copy, said):
+    """Runs `rt ci` over a copy, and gives its status, and whether a signal ended it. Each line of
+    what it says is given to `said`."""
+    to = {"stdin": subprocess.DEVNULL, "stdout": subprocess.PIPE, "stderr": subprocess.STDOUT}
+    with subprocess.Popen(["rt", "ci"], cwd=copy, process_group=0, text=True, **to) as ran:
+        signals = []
+
+        def end(number, _):
+            signals.append(number)
+            with contextlib.suppress(ProcessLookupError):
+                os.killpg(ran.pid, signal.SIGTERM)
+
+        for number in ENDS:
+            signal.signal(number, end)
+        for line in ran.stdout:
+            said(line.replace(copy, TOP))
+    return ran.returncode, bool(signals)
 
 
-def logic_words(kit):
-    logic = f"{kit}/rattle/logic/antt-project.json"
-    return ["--antt-project", logic, "--logic-built", f"{kit}/logic_built"]
+def prove():
+    """Proves what isn't proved yet, with a line for each crate, and gives the status."""
+    names, files = with_those_below(read_crates(), NAME), sum_or_none()
+    began, lines, proved = time.monotonic(), [], []
+    print(f"{len(names)} crates to prove, on {processors()} processors", flush=True)
 
+    def note(line):
+        lines.append(line)
+        if found := IS_PROVED.match(line):
+            proved.append(found[1])
+            took = minutes_and_seconds(time.monotonic() - began)
+            print(f"  {len(proved):2} of {len(names)}  {found[1]:18} ({took})", flush=True)
 
-class Prover:
-    """How the prover of a kit is called for a crate."""
-
-    def __init__(self, kit):
-        self.kit, self.lines = kit, read_lines()
-
-    def libraries(self, name):
-        for it in ["std", *self.lines[name]]:
-            folder = LIBRARIES if it in self.lines else f"{self.kit}/rlibs"
-            yield from ("--extern", f"{it}={folder}/{it}.rlib")
-        for folder in (LIBRARIES, f"{self.kit}/rlibs"):
-            yield from ("-L", f"dependency={folder}")
-
-    def words(self, name, copies):
-        words = ["rattle", "build", "--crate-name", name, "--jobs", str(copies), *self.libraries(name)]
-        words += logic_words(self.kit)
-        if name == NAME:
-            return [*words, "--toolchain", f"{self.kit}/toolchain", "-o", f"{PROOFS}/{name}.o", "src/main.rt"]
-        return [*words, "--statements", "-o", f"{LIBRARIES}/{name}.rlib", "src/lib.rt"]
-
-    def link(self):
-        """Makes the program of what was proved and compiled."""
-        words = [f"{self.kit}/bin/rattle-link", "--target", "x86_64-unknown-linux-gnu", "--toolchain", f"{self.kit}/toolchain"]
-        words += ["-o", PROGRAM, f"{PROOFS}/{NAME}.o", f"{self.kit}/c/libos_c.a", f"{self.kit}/c/liblibc_c.a"]
+    with tempfile.TemporaryDirectory(prefix="segcached-") as copy:
+        copy_crates(names, copy)
+        status, was_ended = run_ci(copy, note)
+        if was_ended:
+            print(f"Interrupted: {len(proved)} of {len(names)} crates are proved and kept; the next"
+                  " run goes on from there.", flush=True)
+            return INTERRUPTED
+        if status:
+            print("".join(lines)[-SHOWN:], end="", flush=True)
+            return status
         os.makedirs(os.path.dirname(PROGRAM), exist_ok=True)
-        subprocess.run(words, check=True)
-
-
-def log_of(name):
-    return f"{PROOFS}/{name}.log"
-
-
-def is_proved(name):
-    return is_written(f"{PROOFS}/{name}.proved", sum_of_sources(name))
-
-
-class Proof:
-    """A crate that is being proved."""
-
-    def __init__(self, words, name):
-        self.name, self.sources, self.record = name, sum_of_sources(name), f"{PROOFS}/{name}.proved"
-        pathlib.Path(self.record).unlink(missing_ok=True)
-        with open(log_of(name), "w", encoding="utf-8") as log:
-            to = {"stdin": subprocess.DEVNULL, "stdout": log, "stderr": subprocess.STDOUT, "process_group": 0}
-            self.ran = subprocess.Popen(words, cwd=f"{TOP}/crates/{name}", **to)
-
-    def note(self):
-        """Notes that the crate is proved, if it is, and no file of it has changed meanwhile. Whether the prover proved it."""
-        if self.ran.returncode == 0 and sum_of_sources(self.name) == self.sources:
-            write(self.record, self.sources)
-        return self.ran.returncode == 0
-
-    def stop(self):
-        os.killpg(self.ran.pid, signal.SIGTERM)
-        self.ran.wait()
-
-
-def to_start(crates, ways, proved, running):
-    """The crates to start now, those with the longest way first."""
-    ready = [name for name in ways if name not in proved and name not in running and proved.issuperset(crates[name])]
-    return sorted(ready, key=ways.get, reverse=True)[: machine.at_once() - len(running)]
-
-
-def copies_for(name, ways, proved):
-    """How many copies of the prover prove a crate."""
-    longest = max(way for it, way in ways.items() if it not in proved)
-    return machine.processors() if ways[name] == longest else 1
-
-
-def prove_side_by_side(crates, names, proved, interrupts):
-    """Proves those of these crates that are left, with a line for each, and gives the name of one
-    that isn't proved, if there is one. It ends early if a signal was added to interrupts."""
-    began, lines, running = time.monotonic(), {it: lines_of(it) for it in names - proved}, {}
-    prover, ways = Prover(kit_folder()), ways_to_the_top(crates, lines)
-    try:
-        while names != proved and not interrupts:
-            for name in to_start(crates, ways, proved, running):
-                running[name] = Proof(prover.words(name, copies_for(name, ways, proved)), name)
-            time.sleep(EVERY)
-            for name in [it for it, proof in running.items() if proof.ran.poll() is not None]:
-                if not running.pop(name).note():
-                    return name
-                if name == NAME:
-                    prover.link()
-                proved.add(name)
-                took = minutes_and_seconds(time.monotonic() - began)
-                print(f"  {len(proved):2} of {len(names)}  {name:18} ({took})", flush=True)
-    finally:
-        for proof in running.values():
-            proof.stop()
-    return None
-
-
-def prove(interrupts):
-    """Proves what isn't proved yet, and gives the status."""
-    crates = read_crates()
-    names = with_those_below(crates, NAME)
-    # The program is linked after its proof, so it is proved anew if it isn't kept.
-    proved = {name for name in names - {NAME} if is_proved(name)}
-    if proved:
-        print(f"{len(proved)} of {len(names)} crates are proved, and nothing has changed since.")
-    left = len(names - proved)
-    print(f"{left} crates to prove, on {machine.processors()} processors", flush=True)
-    refused = prove_side_by_side(crates, names, proved, interrupts)
-    if interrupts:
-        print(f"Interrupted: {len(proved)} of {len(names)} crates are proved and kept; the next run"
-              " goes on from there.", flush=True)
-        return INTERRUPTED
-    if refused:
-        print(read(log_of(refused))[-SHOWN:])
-        print(f"{refused} isn't proved. What the prover said stands in {os.path.relpath(log_of(refused))}.", flush=True)
-        return 1
-    logs = "".join(f"== {name}\n{read(log_of(name))}" for name in sorted(names))
-    write(f"{PROGRAM}.log", f"{logs}{len(names)} crates proved\n")
-    keep()
+        # (the old one may be running)
+        pathlib.Path(PROGRAM).unlink(missing_ok=True)
+        shutil.copy(f"{copy}/crates/{NAME}/out/{NAME}", PROGRAM)
+    write(f"{PROGRAM}.log", "".join(lines))
+    if files and files == sum_or_none():
+        write_record(f"{PROGRAM}.log", True)
+    else:
+        print("Files have changed meanwhile, or there is no git: without a record of the proofs the"
+              " program serves, and can't be packaged.", flush=True)
     return 0
 
 
 def alone_here():
-    """Waits until no other run proves in this repository, and keeps others out until it is closed."""
+    """Waits until no other run proves in this repository, and keeps others out until it closes."""
     held = os.open(TOP, os.O_RDONLY)
     try:
         fcntl.flock(held, fcntl.LOCK_EX | fcntl.LOCK_NB)
@@ -266,21 +344,37 @@ def alone_here():
     return held
 
 
-def main():
-    if sys.argv[1:] not in ([], ["--kept"]):
-        sys.exit(__doc__)
+def run():
+    """Proves and builds the program, unless that was done and nothing has changed since."""
     if is_kept():
         return 0
-    if sys.argv[1:]:
-        return 1
-    machine.stop_where_lacking(machine.lacks_kit())
-    held, interrupts = alone_here(), []
-    for number in (signal.SIGINT, signal.SIGTERM, signal.SIGHUP):
-        signal.signal(number, lambda number, _: interrupts.append(number))
-    os.makedirs(LIBRARIES, exist_ok=True)
-    status = prove(interrupts)
+    stop_where_lacking(lacks_kit())
+    held = alone_here()
+    status = prove()
     os.close(held)
     return status
+
+
+def main():
+    parser = argparse.ArgumentParser(description="Proves and builds segcached.")
+    kinds = parser.add_subparsers(dest="kind")
+    kinds.add_parser("record").add_argument("--log", metavar="FILE", required=True)
+    kinds.add_parser("check").add_argument("program", nargs="?", default=PROGRAM)
+    kinds.add_parser("package")
+    words = parser.parse_args()
+    if not words.kind:
+        return run()
+    try:
+        if words.kind == "record":
+            write_record(words.log, False)
+        elif words.kind == "check":
+            check(words.program)
+        else:
+            number = output_of(PROGRAM, "--version").split()[1]
+            print(package_version(number, read_record(PROGRAM)["commit"]))
+    except Trouble as trouble:
+        sys.exit(f"segcached: {trouble}")
+    return 0
 
 
 if __name__ == "__main__":

@@ -3,6 +3,6 @@
 # the program's replay. The gate alone (`make test`) is the verdict.
 set -eu
 cd "$(dirname "$0")/.."
-rt all check --jobs "$(python3 -c 'import sys; sys.path.insert(0, "tools"); import machine; print(machine.at_once())')"
+rt all check --jobs "$(python3 -c 'import sys; sys.path.insert(0, "tools"); import prove; print(prove.at_once())')"
 (cd crates/segcached && rt run -- --version)
 bash tools/tests.sh tools/tests/test_rows.py tools/tests/test_evictions.py

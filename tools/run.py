@@ -1,11 +1,13 @@
 #!/usr/bin/env python3
-"""What `make run` does: shows a script of two requests and what segcached answers, and then talks to a served socket.
+"""What `make run` does: shows a script of two requests and what segcached answers, and then talks
+to a served socket.
 
     tools/run.py
 
-If nothing is proved yet, the script first runs on a build that is checked as it runs (`rt try`), which takes a minute. Meanwhile the proofs
-begin, of which there is a line for each crate. At the end the proved program replays the script and serves. What was proved is kept: an interrupt
-loses none of it, and if all is kept the proved program runs at once.
+If nothing is proved yet, the script first runs on a build that is checked as it runs (`rt try`),
+which takes a minute. Meanwhile the proofs begin, of which there is a line for each crate. At the
+end the proved program replays the script and serves. What was proved is kept: an interrupt loses
+none of it, and if all is kept the proved program runs at once.
 
 A run from nothing leaves the line that docs/GATE.md has of it in out/run_times.
 """
@@ -13,28 +15,21 @@ import contextlib
 import os
 import resource
 import signal
-import socket
 import subprocess
 import sys
 import time
 
-import machine
 import prove
-from prove import TOP
+from served import Server, read_to_end
 
 SCRIPT = "scripts/first.script"
 REQUESTS = b"set a 0 0 1\r\nx\r\nget a\r\n"
 QUIT = b"quit\r\n"
 ANSWERS = b"STORED\r\nVALUE a 0 1\r\nx\r\nEND\r\n"
 CRATE = "crates/segcached"
-PROGRAM = f"{CRATE}/out/segcached"
 TRY = ["rt", "try", "--data", f"first.script=../../{SCRIPT}", "--", "replay", "first.script"]
 # By these signals the run is ended.
 ENDS = (signal.SIGINT, signal.SIGTERM, signal.SIGHUP)
-# The seconds between two looks at what the proofs said.
-EVERY = 0.2
-# The most seconds that a socket may be silent.
-SECONDS = 10
 # What a run from nothing took.
 TIMES = "out/run_times"
 
@@ -54,17 +49,12 @@ def spelled(bytes_):
 
 @contextlib.contextmanager
 def started(words, **how):
-    """A process in a group of its own; however the block ends, it waits until all of the group have ended, whom it asks to."""
-    process = subprocess.Popen(words, start_new_session=True, stdin=subprocess.DEVNULL, **how)
-    try:
-        yield process
-    finally:
-        with contextlib.suppress(ProcessLookupError):
-            os.killpg(process.pid, signal.SIGTERM)
-            process.wait()
-            while True:
-                os.killpg(process.pid, 0)
-                time.sleep(EVERY)
+    """A process that is asked to end and is waited for, however the block ends."""
+    with subprocess.Popen(words, stdin=subprocess.DEVNULL, **how) as process:
+        try:
+            yield process
+        finally:
+            process.terminate()
 
 
 def show_answers(given):
@@ -85,9 +75,11 @@ def show_replay(printed):
 
 def try_script():
     """Runs the script on a build that is checked as it runs, and shows the answer."""
-    say("The first answer comes from a build that isn't proved yet and is checked as it runs; it takes a minute to start.")
+    say("The first answer comes from a build that isn't proved yet and is checked as it runs; it"
+        " takes a minute to start.")
     say(f"$ cd {CRATE} && {' '.join(TRY)}")
-    with started(TRY, cwd=CRATE, stdout=subprocess.PIPE, stderr=subprocess.PIPE, text=True) as tried:
+    to = {"stdout": subprocess.PIPE, "stderr": subprocess.PIPE, "text": True}
+    with started(TRY, cwd=CRATE, **to) as tried:
         printed, said = tried.communicate()
     if tried.returncode:
         sys.exit(f"{said}segcached: the script did not run")
@@ -97,38 +89,38 @@ def try_script():
 
 
 def note_times(first, whole):
-    """Notes after how many seconds there was a first answer and the proved program, and the processor time of all that ran below this process."""
+    """Notes after how many seconds there was a first answer and the proved program, and the
+    processor time of all that ran below this process."""
     used = resource.getrusage(resource.RUSAGE_CHILDREN)
-    minutes, in_words = (used.ru_utime + used.ru_stime) / 60, prove.minutes_and_seconds
-    line = f"make run: the first reply after {in_words(first)}, the proved program after {in_words(whole)}, {minutes:.0f} processor minutes"
+    minutes, spelled_out = (used.ru_utime + used.ru_stime) / 60, prove.minutes_and_seconds
+    line = (f"make run: the first reply after {spelled_out(first)}, the proved program after"
+            f" {spelled_out(whole)}, {minutes:.0f} processor minutes")
     prove.write(TIMES, f"{time.strftime('%Y-%m-%d %H:%M UTC', time.gmtime())}, {line}\n")
     say(f"{line}.")
 
 
 def try_and_prove():
-    """Shows the first answer, and how the proofs go on. (They begin beside it: all crates wait for the first one, which one process proves.)"""
-    is_from_nothing, began = not os.path.exists(prove.PROOFS), time.monotonic()
-    with started(["bash", "tools/build.sh"]) as proving:
+    """Shows the first answer, and how the proofs go on. (They begin beside it: all crates wait for
+    the first one.)"""
+    began = time.monotonic()
+    with started([sys.executable, "tools/prove.py"]) as proving:
         try_script()
         first = time.monotonic() - began
         proving.wait()
     if proving.returncode:
         sys.exit("segcached: not all of it is proved")
-    if is_from_nothing:
+    if " is kept: " not in prove.read(f"{prove.PROGRAM}.log"):
         note_times(first, time.monotonic() - began)
 
 
 def serve():
     """Serves on a free port, and talks to it."""
     say("$ segcached serve --listen 127.0.0.1:0")
-    with started([PROGRAM, "serve", "--listen", "127.0.0.1:0"], stdout=subprocess.PIPE, text=True) as server:
-        first = server.stdout.readline()
-        print(first, end="", flush=True)
-        host, _, port = first.split()[-1].rpartition(":")
-        say(f"A client sends {spelled(REQUESTS + QUIT)} to {host}:{port}, and reads:")
-        with socket.create_connection((host, int(port)), timeout=SECONDS) as client, client.makefile("rb") as answers:
-            client.sendall(REQUESTS + QUIT)
-            show_answers(answers.read())
+    with Server(prove.PROGRAM, stderr=None) as server, server.connect() as client:
+        say(server.first_line.rstrip())
+        say(f"A client sends {spelled(REQUESTS + QUIT)} to {server.host}:{server.port}, and reads:")
+        client.sendall(REQUESTS + QUIT)
+        show_answers(read_to_end(client))
 
 
 def end(number, _):
@@ -140,11 +132,11 @@ def end(number, _):
 def main():
     for it in ENDS:
         signal.signal(it, end)
-    os.chdir(TOP)
-    machine.stop_where_lacking(machine.lacks_kit())
+    os.chdir(prove.TOP)
+    prove.stop_where_lacking(prove.lacks_kit())
     is_kept = prove.is_kept()
     if not is_kept:
-        machine.stop_where_lacking(machine.lacks_memory())
+        prove.stop_where_lacking(prove.lacks_memory())
     say(f"The script {SCRIPT}:")
     show(prove.read(SCRIPT))
     say(f"It opens session 1 and sends: {spelled(REQUESTS)}")
@@ -153,7 +145,7 @@ def main():
         try_and_prove()
         say()
     say(f"$ segcached replay {SCRIPT}")
-    show_replay(subprocess.check_output([PROGRAM, "replay", SCRIPT], text=True))
+    show_replay(subprocess.check_output([prove.PROGRAM, "replay", SCRIPT], text=True))
     serve()
 
 

@@ -3,7 +3,8 @@
 segcached would refuse.
 
     tools/script_of.py text [--workers N] [--bytes] FILE ..
-    tools/script_of.py record --to ADDR [--listen ADDR] [--workers N] [--sessions N] [--answers FILE]
+    tools/script_of.py record --to ADDR [--listen ADDR] [--workers N] [--sessions N]
+                              [--answers FILE]
     tools/script_of.py show [FILE]
     tools/script_of.py refused --to ADDR [--listen ADDR] [--sessions N] [OPTION ..]
     tools/script_of.py refused [OPTION ..] FILE ..
@@ -20,12 +21,13 @@ which `segcached replay` prints it, to be compared with it.
 `show` reads what `segcached replay` printed, and prints each session's answers as text.
 
 `refused` is the same proxy, in front of memcached: it keeps no script, but has a segcached
-(--program, or the one to which this tool belongs) answer each line, and at its end prints those that
-were refused, by command and reply, with their count and the first of each. Of a FILE, which has the bytes that a client sent, it
-says the same. Its OPTIONs are those of the server to be: --lenient; and on which depends whether an
-item is too large, --segment-size B, 1048576 unless it is given, and --max-item-size I.
+(--program, or the one to which this tool belongs) answer each line, and at its end prints those
+that were refused, by command and reply, with their count and the first of each. Of a FILE, which
+has the bytes that a client sent, it says the same. Its OPTIONs are those of the server to be:
+--lenient; and on which depends whether an item is too large, --segment-size B, 1048576 unless it is
+given, and --max-item-size I.
 
-Sessions are numbered from 1, and go to the workers in turn (one worker, unless --workers says more).
+Sessions are numbered from 1, and go to the workers in turn (one, unless --workers says more).
 """
 import argparse
 import asyncio
@@ -328,12 +330,13 @@ def run_show(words):
 
 
 def read_words():
-    parser = argparse.ArgumentParser(description="Makes scripts for `segcached replay`, and shows what it printed.")
+    parser = argparse.ArgumentParser(
+        description="Makes scripts for `segcached replay`, and shows what it printed.")
     kinds = parser.add_subparsers(dest="kind", required=True)
     text = kinds.add_parser("text", help="a script of files of requests, one a session")
     text.add_argument("files", nargs="+", metavar="FILE")
     text.add_argument("--bytes", action="store_true", help="send the bytes as they are")
-    record = kinds.add_parser("record", help="a proxy that prints the script of what went through it")
+    record = kinds.add_parser("record", help="a proxy that prints a script of what went through")
     record.add_argument("--answers", metavar="FILE")
     refused = kinds.add_parser("refused", help="a proxy that counts what segcached would refuse")
     refused.add_argument("files", nargs="*", metavar="FILE", help="what a client sent")
@@ -358,7 +361,7 @@ def read_words():
 def main():
     words = read_words()
     try:
-        {"text": run_text, "record": run_record, "show": run_show, "refused": run_refused}[words.kind](words)
+        globals()[f"run_{words.kind}"](words)
     except (Trouble, OSError) as trouble:
         sys.exit(f"script_of: {trouble}")
 

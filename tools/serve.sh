@@ -3,7 +3,7 @@
 # 127.0.0.1:11211, until it is interrupted. Usage: serve.sh [ADDR [OPTION ..]].
 set -eu
 cd "$(dirname "$0")/.."
-bash tools/build.sh
+python3 tools/prove.py
 # A worker has up to 1,024 sessions, each with a descriptor.
 ulimit -n "$(ulimit -Hn)"
 # As the package's unit sets them, which says why.

@@ -1,9 +1,11 @@
-"""Starts and stops a served program, and tells what it takes: for the tests, hostile use and the benchmark.
+"""Starts and stops a served program, and tells what it takes: for the tests, hostile use and the
+benchmark.
 
     with Server(PROGRAM, "--workers", "1") as server, server.connect() as stream:
         stream.sendall(b"get a\r\n")
 
-A server listens on a free port of 127.0.0.1 unless it is told another address, and is ended with the block.
+A server listens on a free port of 127.0.0.1 unless it is told another address, and is ended with
+the block.
 """
 import concurrent.futures
 import contextlib
@@ -38,7 +40,8 @@ def words_of(file, name):
     return re.search(rf"^{name}=(.*)$", read(f"{TOP}/{file}"), re.MULTILINE)[1].split()
 
 
-# What the package sets: its options, those with the sizes of segments and items, and the C library's settings.
+# What the package sets: its options, those with the sizes of segments and items, and the C
+# library's settings.
 OPTIONS = words_of("packaging/segcached.default", "OPTIONS")
 LOCAL = words_of("packaging/segcached.local", "LOCAL")
 SIZES = ("--segment-size", "--max-item-size")
@@ -55,7 +58,7 @@ class Gone(Trouble, EOFError):
 
 
 class NotServing(Trouble):
-    """The program ended in place of serving: with this status, and these words on standard error."""
+    """The program ended in place of serving: with this status and these words on standard error."""
 
     def __init__(self, status, fault):
         super().__init__(f"the program ended with status {status}, and wrote {fault!r}")
@@ -135,7 +138,7 @@ class Process:
         return int(re.search(r"\nvoluntary_ctxt_switches:\s+(\d+)", text)[1])
 
     def processor_seconds(self):
-        """What all its threads have run (the kernel counts nanoseconds there, and ticks elsewhere)."""
+        """What all its threads have run (the kernel counts nanoseconds there, ticks elsewhere)."""
         folder = f"/proc/{self.process.pid}/task"
         return sum(int(read(f"{folder}/{it}/schedstat").split()[0])
                    for it in os.listdir(folder)) / 1e9
@@ -164,7 +167,8 @@ class Server(Process):
 
     def must_run(self):
         if self.process.poll() is not None:
-            raise Trouble(f"the server ended with status {self.process.returncode}: {self.errors()}")
+            status = self.process.returncode
+            raise Trouble(f"the server ended with status {status}: {self.errors()}")
 
     def __exit__(self, *_):
         try:
@@ -196,7 +200,7 @@ class Client:
         return self.ask(b"%s %s 0 %d %d%s\r\n%s" % (verb, key, exptime, len(value), tail, value))
 
     def get(self, key, verb=b"get"):
-        """The value, or the value and the cas number for `gets` and `gats`; None if there is none."""
+        """The value, for `gets` and `gats` with the cas number; None if there is none."""
         head = self.ask(b"%s %s" % (verb, key)).split(b" ")
         if head == [b"END"]:
             return None

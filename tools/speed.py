@@ -12,18 +12,19 @@ import os
 import random
 import statistics
 import subprocess
-import tempfile
 import time
 from typing import NamedTuple
 
-from misses import MIB, markdown, plot
+from matplotlib import pyplot
+
+from misses import MIB, markdown
 from served import OPTIONS, TUNABLES, Memcached, Server, Trouble, compiled
 
 # The workers of segcached, and the threads of memcached beside them.
 THREADS = {1: 1, 2: 2, 3: 4}
 # By the bytes of a value: how many segments of 1 MiB there are (room for what is stored), and keys.
-SEGMENTS = {100: 128, 1000: 512, 10_000: 512, 100_000: 512}
-KEYS = {100: 100_000, 1000: 100_000, 10_000: 10_000, 100_000: 1000}
+SEGMENTS = {100: 128, 1000: 512, 10_000: 512, 100_000: 512, 1_000_000: 512}
+KEYS = {100: 100_000, 1000: 100_000, 10_000: 10_000, 100_000: 1000, 1_000_000: 300}
 # The load of the longest pause: both servers have 64 MiB, which half of the keys fill.
 PAUSE_MIB, PAUSE_KEYS = 64, 1_000_000
 PAUSE_SEGMENT_SIZES = (MIB, 64 << 10)
@@ -60,6 +61,7 @@ class Load(NamedTuple):
 ONE = ("--connections", 1)
 PIPELINE = ("--pipeline", 16)
 SPIN = ("--spin", "100")
+LARGE_ITEMS = (*OPTIONS, "--max-item-size", str(MIB - 64))
 # Those that write come last of their group, as what they write makes segcached merge segments.
 LOADS = (
     Load("one connection", ONE, default=True),
@@ -84,6 +86,7 @@ LOADS = (
     Load("get of 16 keys of 10 kB", ("--many", 16), 10_000),
     Load("sets of 10 kB", ("--sets", 100), 10_000),
     Load("sets of 100 kB", ("--sets", 100), 100_000),
+    Load("sets of 1 MB", ("--sets", 100), 1_000_000, options=LARGE_ITEMS),
 )
 
 
@@ -327,40 +330,22 @@ def other_table(longest, shares, name_of):
         ["idle with 50 connections, hundredths of a processor", *idle]])
 
 
-PICTURE = """
-set terminal svg size 1100,560 font 'sans,13' background rgb 'white'
-set output '{picture}'
-set style data histograms
-set style histogram errorbars gap 1 lw 1
-set style fill solid 0.8 border -1
-set title "{second} beside {first}: requests a second, as a ratio (above 1, {second} is ahead)"
-set ylabel 'times {first}'
-set yrange [0:*]
-set grid ytics
-set xtics rotate by -30
-set bmargin 9
-set rmargin 14
-set arrow from graph 0, first 1 to graph 1, first 1 nohead lw 2 dt 2 lc rgb 'black' front
-plot {bars}
-"""
-
-
 def draw(runs, results, names, picture):
-    """A picture of the rates' ratios, by gnuplot: medians as bars, quartiles as lines."""
-    sizes, bars = list(next(iter(results.values()))), []
-    with tempfile.NamedTemporaryFile("w", suffix=".dat") as data:
-        for load in (it for it in LOADS if it.name in results and not it.has_rate()):
-            cells = []
-            for size in sizes:
-                pairs = map(runs.pair, results[load.name][size])
-                low, middle, high = quartiles(ratio(it, "rate") for it in pairs)
-                cells += [f"{middle:.3f}", f"{low:.3f}", f"{high:.3f}"]
-            data.write(f'"{load.name}" {" ".join(cells)}\n')
-        data.flush()
-        for at, size in enumerate(sizes):
-            title = f"{names[0]} -t {THREADS[size]}, {size} worker{'s' * (size > 1)}"
-            columns = ":".join(str(3 * at + it) for it in (2, 3, 4))
-            bars.append(f"'{data.name}' using {columns}:xtic(1) title '{title}'")
-        script = PICTURE.format(picture=picture, first=names[0], second=names[1],
-                                bars=", ".join(bars))
-        plot(script)
+    """A picture of the rates' ratios: medians as bars, quartiles as lines."""
+    sizes = list(next(iter(results.values())))
+    loads = [it for it in LOADS if it.name in results and not it.has_rate()]
+    figure, axes = pyplot.subplots(figsize=(11, 5.6), layout="constrained")
+    for at, size in enumerate(sizes):
+        found = [quartiles(ratio(runs.pair(it), "rate") for it in results[load.name][size])
+                 for load in loads]
+        ends = [[middle - low for low, middle, _ in found], [high - it for _, it, high in found]]
+        places, width = [number + at / (len(sizes) + 1) for number in range(len(loads))], 0.9
+        axes.bar(places, [it for _, it, _ in found], width / (len(sizes) + 1), yerr=ends, capsize=2,
+                 label=f"{names[0]} -t {THREADS[size]}, {size} worker{'s' * (size > 1)}")
+    axes.axhline(1, color="black", linestyle="--")
+    axes.set_xticks(range(len(loads)), [it.name for it in loads], rotation=30, ha="right")
+    axes.set(ylabel=f"times {names[0]}", title=f"{names[1]} beside {names[0]}: requests a second, "
+             f"as a ratio (above 1, {names[1]} is ahead)")
+    axes.grid(axis="y")
+    axes.legend(loc="upper left", bbox_to_anchor=(1, 1))
+    figure.savefig(picture)

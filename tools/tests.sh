@@ -4,7 +4,7 @@
 set -eu
 cd "$(dirname "$0")/.."
 packages=(python3-pytest python3-hypothesis python3-pymemcache python3-pylibmc python3-memcache python3-cachelib
-  netcat-openbsd libmemcached-tools nutcracker libfaketime spin gcc libc6-dev)
+  netcat-openbsd iproute2 libmemcached-tools nutcracker libfaketime spin gcc libc6-dev)
 install() { apt-get update && apt-get install -y --no-install-recommends "$@"; }
 dpkg -s "${packages[@]}" >/dev/null 2>&1 || install "${packages[@]}" >/dev/null
 [[ $* == *tools/tests* ]] || set -- tools/tests "$@"

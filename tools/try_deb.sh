@@ -37,7 +37,7 @@ part() {
 }
 
 is_refused_with_a_line() {
-  ! python3 tools/proved.py check "$1" 2>"$work/lines" && [ "$(wc -l <"$work/lines")" -eq 1 ]
+  ! python3 tools/prove.py check "$1" 2>"$work/lines" && [ "$(wc -l <"$work/lines")" -eq 1 ]
 }
 
 # A program that no record stands beside, and one with another byte.
@@ -46,7 +46,7 @@ refuses_other_programs() {
   cp $program "$work/other"
   is_refused_with_a_line "$work/other/segcached" || return 1
   cp crates/segcached/out/PROVED "$work/other"
-  python3 tools/proved.py check "$work/other/segcached" || return 1
+  python3 tools/prove.py check "$work/other/segcached" || return 1
   echo >>"$work/other/segcached"
   is_refused_with_a_line "$work/other/segcached"
 }
@@ -252,7 +252,7 @@ completes_words() {
     && [ -z "$(complete_words serve --workers '')" ]
 }
 
-[ $# -eq 0 ] || part python3 tools/proved.py write --log "$1"
+[ $# -eq 0 ] || part python3 tools/prove.py record --log "$1"
 part refuses_other_programs
 part makes_package
 part has_one_version

@@ -13,8 +13,9 @@ from typing import NamedTuple
 
 import tries
 from asking import END, ERROR, STORED, ask, get, hit, is_same, put, seconds_to
-from served import Memcached, Server, Trouble, install, read, read_exactly
-from standstills import Beside
+from served import (
+    OF_THE_PACKAGE, TUNABLES, Memcached, Server, Trouble, install, read, read_exactly)
+from tries import Beside
 
 # What 99 of 100 requests, and each one, may wait on a quiet machine, in seconds, unless a load says
 # otherwise.
@@ -26,6 +27,8 @@ QUIET = 0.05
 # memcached's clients in the same load.
 ROOM = 3
 TIMES_MEMCACHED = 8
+# What a worker may hold more, in MiB.
+MOST_MEMORY = 192
 # How long a load is measured, if its clients ask for the longest answers so many times as long, and
 # how long it runs before.
 SECONDS = 0.7
@@ -33,7 +36,10 @@ TIMES_LONGEST = 3
 BEFORE = 0.15
 # The bytes that a fast client sends, or asks for, at a time.
 AT_A_TIME = 2_000_000
-OPTIONS = ["--segment-size", "1048576", "--segments", "64"]
+SEGMENTS = ["--segments", "64"]
+OPTIONS = ["--segment-size", "1048576", *SEGMENTS]
+# With the package's options both servers have its settings of the C library too.
+INSTALLED = {**os.environ, "GLIBC_TUNABLES": TUNABLES}
 
 
 def waits_beside(is_over, server, newcomers):
@@ -109,6 +115,15 @@ def said(waits):
     return f"{waits[0] * 1000:.0f} ms (99 of 100) and {waits[1] * 1000:.0f} ms (all)"
 
 
+def must_hold_little(server, before, said):
+    """How many MiB a worker held more than before at most; Trouble, behind these words, if it held
+    too much."""
+    more = (server.kilobytes("VmHWM") - before) // 1024
+    if more > MOST_MEMORY:
+        raise Trouble(f"{said} {more} MiB")
+    return more
+
+
 # ---- clients that send or read as fast as they can
 
 class Load(NamedTuple):
@@ -135,7 +150,8 @@ class Load(NamedTuple):
         return SECONDS if self.keys == 1 else SECONDS * TIMES_LONGEST
 
 
-SENDERS = [Load(clients, size * 1000, "send") for size in (8, 30, 100, 130) for clients in (1, 2, 8)]
+SENDERS = [
+    Load(clients, size * 1000, "send") for size in (8, 30, 100, 130) for clients in (1, 2, 8)]
 READERS = [Load(clients, size * 1000, "read") for size in (10, 100) for clients in (1, 2, 8)]
 # Beside several clients that ask for 8.4 MB again and again.
 LARGE_READ = 0.030, 0.060
@@ -153,12 +169,16 @@ HOSTILE = [
 ]
 # (a line has 2,048 bytes strictly, so an answer 134 MB)
 STRICT = [Load(1, 131_000, "read", 1021, most=(0.180, 0.250))]
+# As many connections read values of 1 MB, one at a time, as write them.
+MEGABYTES = [Load(4, 1_000_000, "read and write", streams=5, most=(0.010, 0.060))]
+OF_MEGABYTES = *OF_THE_PACKAGE, "--workers", "1"
 # By the server's words. With two workers the clients are on both of them in turn.
 LOADS = {
     ("--lenient", "--workers", "1"): SENDERS + READERS + LONGEST + HOSTILE,
     ("--lenient", "--workers", "2"): [
         it for it in SENDERS + READERS if it.size == 100_000 and it.clients > 1],
     ("--workers", "1"): STRICT,
+    OF_MEGABYTES: MEGABYTES,
 }
 
 
@@ -221,6 +241,39 @@ def send_malformed(server, key, load):
                 begin()
 
 
+def read_and_write(server, key, load):
+    """So many connections read a value again and again, and as many write one of their own."""
+    value, buffer = b"v" * load.size, bytearray(262_144)
+    write(server, key, value)
+    selector = selectors.DefaultSelector()
+    asked = {}
+
+    def begin(stream, text, answer):
+        stream.setblocking(False)
+        asked[stream] = text, len(answer)
+        selector.register(stream, selectors.EVENT_WRITE, [memoryview(text), len(answer)])
+
+    for number in range(load.streams):
+        begin(server.connect(60), get(key), hit(key, value))
+        begin(server.connect(60), put(b"%s-%d" % (key, number), value), STORED)
+    while True:
+        for ready, _ in selector.select():
+            stream, left = ready.fileobj, ready.data
+            if left[0]:
+                left[0] = left[0][stream.send(left[0]):]
+                if not left[0]:
+                    selector.modify(stream, selectors.EVENT_READ, left)
+                continue
+            got = stream.recv_into(buffer, min(left[1], len(buffer)))
+            if not got:
+                raise Trouble("one that reads or writes was closed")
+            left[1] -= got
+            if not left[1]:
+                text, count = asked[stream]
+                left[:] = memoryview(text), count
+                selector.modify(stream, selectors.EVENT_WRITE, left)
+
+
 def ask_and_hold(server, key, load):
     """Each connection asks once, and reads nothing."""
     write(server, key, b"v" * load.size)
@@ -231,7 +284,7 @@ def ask_and_hold(server, key, load):
 
 
 CLIENT_OF = {"send": send_fast, "read": read_fast, "send malformed lines and then": send_malformed,
-             "ask for and don't read": ask_and_hold}
+             "read and write": read_and_write, "ask for and don't read": ask_and_hold}
 
 
 def waited(server, load):
@@ -271,14 +324,19 @@ def in_two_of_three(measure, most, beside, said):
 
 def fairness_of(program, words):
     """What it says of the loads for a server with these words."""
-    longest, within = (0, 0), 0
-    with Server(program, *words, *OPTIONS) as server, Memcached(int(words[-1])) as memcached:
+    longest, within, is_packaged = (0, 0), 0, words == OF_MEGABYTES
+    sizes, tuned = (SEGMENTS, INSTALLED) if is_packaged else (OPTIONS, None)
+    with (Server(program, *words, *sizes, environment=tuned) as server,
+          Memcached(int(words[-1]), environment=tuned) as memcached):
+        before = server.kilobytes("VmRSS")
         for load in LOADS[words]:
             here, _ = in_two_of_three(lambda: waited(server, load), load.most,
                                       lambda: waited(memcached, load), f"beside {load}:")
             within += is_within(here.longest, load.most)
             longest = tuple(map(max, longest, here.longest))
         server.must_run()
+        if is_packaged:
+            must_hold_little(server, before, f"beside {load}: the server takes")
     return (f"{' '.join(words)}: {len(LOADS[words])} loads of fast clients, {within} as on a quiet "
             f"machine; in the worst others waited {said(longest)}")
 
@@ -291,8 +349,6 @@ def fairness(program):
 
 # ---- clients that ask for the longest answers and read nothing
 
-# What a worker may hold more, in MiB.
-MOST_MEMORY = 192
 # So many clients ask for so many values, of 33 MB.
 CLIENTS, KEYS, VALUE = 40, 255, b"v" * 131_000
 # Each client asks for this much and reads it, beside them: the value's bytes and how often.
@@ -339,9 +395,7 @@ def unread_here(program):
             settle(server)
             for size, times in READ:
                 read_whole(reader, b"read-%d" % size, b"v" * size, times)
-        more = (server.kilobytes("VmHWM") - before) // 1024
-        if more > MOST_MEMORY:
-            raise Trouble(f"clients that read nothing take {more} MiB")
+        more = must_hold_little(server, before, "clients that read nothing take")
     return Waited(waits.noted, others.share, f"take {more} MiB in all, and others waited ")
 
 

@@ -1,43 +1,40 @@
 #!/usr/bin/env python3
-"""Tries the wrong bodies of crates/NAME/wrong, many of a crate in one check: the prover must refuse each for its contract.
+"""Tries the wrong bodies of crates/NAME/wrong, many of a crate in one check: the prover must refuse
+each for its contract. docs/EDITS.md says how one is written, and what the verdicts mean.
 
-    tools/wrong_bodies.py [NAME[/EDIT]..]   tries those of these crates, or these edits, or all; the last line is 'N passed, M failed'
-    tools/wrong_bodies.py --anew [..]       tries those again that an earlier run on this machine has passed, too
-    tools/wrong_bodies.py --beside [..]     runs beside `rt ci`, and reads what that says: it tries those of a crate once all below it are proved
+    tools/wrong_bodies.py [NAME[/EDIT]..]   tries those of these crates, or these edits, or all;
+                                            the last line is 'N passed, M failed'
+    tools/wrong_bodies.py --anew [..]       tries what an earlier run on this machine has passed too
 
-It takes the built libraries of the crates below as they stand: `rt check`, `rt lib` and `rt ci` leave them in crates/NAME/out, and tools/prove.py in
-out/proofs. What the prover says stands in out/wrong_bodies.
+It takes the built libraries of the crates below as they stand: `rt check`, `rt lib` and `rt ci`
+leave them in crates/NAME/out. What the prover says stands in out/wrong_bodies.
 
-An edit is written into a copy of its function, beside it: `f` gets `f_wrong0`, `f_wrong1` .., with its attributes, its contract and its proof files.
-Each other function of the crate has a hole for its proof (`?`), so that a caller takes it by its contract, and only the copies are proved. A check goes
-on after a function that it refuses, and has a line for each:
+An edit is written into a copy of its function, beside it: `f` gets `f_wrong0`, `f_wrong1` .., with
+its attributes, its contract and its proof files. Each other function of the crate has a hole for
+its proof (`?`), so that a caller takes it by its contract, and only the copies are proved. A check
+goes on after a function that it refuses, and has a line for each:
 
     fn NAME::f_right: depends on a hole in ..            (or 'no holes') as it must be
     fn NAME::f_wrong0: not proved                        refused by its own proof
     fn NAME::f_wrong0: no proof: expected answers in ..  refused, since a goal stays open
     fn NAME::f_wrong0: no proof: it calls ..             says nothing
 
-What a function's proof sees of another is that one's contract, and no edit of a body changes that; so a copy is refused exactly if it is refused
-alone. A method of a trait's impl can't be copied, nor a function with a Proof.antt: it is edited in its place, beside functions that don't call it. An
-edit that isn't in the body of one function (of a constant, say) names the function that must fall in a line '# in: PATH', and has a check of its own.
+What a function's proof sees of another is that one's contract, and no edit of a body changes that;
+so a copy is refused exactly if it is refused alone. A method of a trait's impl can't be copied, nor
+a function with a Proof.antt: it is edited in its place, in a check of its own. So is what isn't in
+the body of one function.
 
-Each check has one function's unedited copy as its control, which must be proved: else nothing is known of the edits. One is enough. A fault of the
-copying that the control doesn't meet is a name that some proof file doesn't find, and the edits of that function fail as 'refused by a lost name'.
-A control for each function would take half as long again.
-
-These verdicts fail:
-
-    NOT REFUSED               the edited function is proved, or fell only since it calls another
-    refused by a lost name    only since a proof file names what the edit took away: change a value, and keep the names
-    NOT TRIED                 the control isn't proved, or the check was killed
-    BAD EDIT                  it can't be placed, or the compiler refuses it
-
-A check that the compiler refuses is halved until the bad edit stands alone.
+Each check has one function's unedited copy as its control, which must be proved: else nothing is
+known of the edits. A fault of the copying that the control doesn't meet is a name that some proof
+file doesn't find, and the edits of that function fail as 'refused by a lost name'. A check that the
+compiler refuses is halved until the bad edit stands alone.
 """
 import argparse
 import concurrent.futures
-import glob
+import functools
+import hashlib
 import os
+import pathlib
 import re
 import subprocess
 import sys
@@ -47,22 +44,26 @@ import time
 from typing import NamedTuple
 
 import edited_copies
-import kept_verdicts
-import machine
 import prove
 
 LOGS = f"{prove.TOP}/out/wrong_bodies"
+# What passed is kept here, for so many days after its last use.
+CACHE = os.environ.get("XDG_CACHE_HOME") or os.path.expanduser("~/.cache")
+KEPT, DAYS = f"{CACHE}/segcached/wrong_bodies", 30
+# The programs that try an edit.
+TOOLS = ("wrong_bodies", "edited_copies", "prove")
 # The memory that a check may take.
 GIGABYTES = 3
-# The seconds between two looks at what is proved, where nothing is tried.
-EVERY = 0.2
-REFUSED, LOST, MISSED, UNTRIED, BAD = "refused", "refused by a lost name", "NOT REFUSED", "NOT TRIED", "BAD EDIT"
+# Set once the run is interrupted, so that no further check begins.
+INTERRUPTED = threading.Event()
+REFUSED, LOST, MISSED, UNTRIED, BAD = (
+    "refused", "refused by a lost name", "NOT REFUSED", "NOT TRIED", "BAD EDIT")
 LINE = re.compile(r"^fn (\S+): (.*)$", re.MULTILINE)
-IS_PROVED = re.compile(rb"rt: (\w+) (?:proved$|is kept: )")
 HAS_ENDED = re.compile(r"^only=\d+ holes=\d+$", re.MULTILINE)
 PROVED = re.compile(r"no holes|depends on a hole")
 OPEN = re.compile(r"not proved(; it stands on|$)|no proof: expected answers")
-LOST_NAME = re.compile(r"has no field|is not in scope|has no `|was not admitted|(was|were) not checked")
+LOST_NAME = re.compile(
+    r"has no field|is not in scope|has no `|was not admitted|(was|were) not checked")
 
 
 class Verdict(NamedTuple):
@@ -93,7 +94,8 @@ class Said(NamedTuple):
 
     def errors_in(self, path):
         """The errors in the proof files of a function, each with the lines that go on with it."""
-        at = rf"^(?:note: )?(?:\./)?proofs/{re.escape(path.replace('::', '/'))}/\S+?:\d+:\d+: error: (.*(?:\n  .*)*)"
+        file = rf"proofs/{re.escape(path.replace('::', '/'))}/\S+?"
+        at = rf"^(?:note: )?(?:\./)?{file}:\d+:\d+: error: (.*(?:\n  .*)*)"
         return [" ".join(it.split()) for it in re.findall(at, self.text, re.MULTILINE)]
 
     def first_errors(self):
@@ -112,15 +114,32 @@ class Said(NamedTuple):
         return Verdict(REFUSED, (real or [words])[0])
 
 
+@functools.cache
+def kit_folder():
+    ran = subprocess.run(["rt", "doc"], stdout=subprocess.PIPE, text=True, check=True)
+    return os.path.dirname(ran.stdout.strip())
+
+
+def libraries_below(name):
+    """The built library of each crate below this one."""
+    below = sorted(prove.with_those_below(prove.read_crates(), name) - {name})
+    found = {it: f"{prove.TOP}/crates/{it}/out/rlib/{it}.rlib" for it in below}
+    if not all(map(os.path.isdir, found.values())):
+        raise edited_copies.Misplaced(f"{name} stands on {', '.join(below)}, and not all of these"
+                                      " are built: run rt check")
+    return found
+
+
 def words_of(crate, asked):
     """The prover's words for a check of these functions past holes."""
-    kit, below = prove.kit_folder(), kept_verdicts.libraries_below(crate.name)
-    words = [f"{kit}/bin/rattle", "check", "--crate-name", crate.name, crate.root, "--jobs", "1", "--allow-holes"]
+    kit, below = kit_folder(), libraries_below(crate.name)
+    words = [f"{kit}/bin/rattle", "check", "--crate-name", crate.name, crate.root, "--jobs", "1",
+             "--antt-project", f"{kit}/rattle/logic/antt-project.json",
+             "--logic-built", f"{kit}/logic_built", "--allow-holes"]
     for it in ["std", *prove.read_lines()[crate.name]]:
         words += ["--extern", f"{it}={below.get(it, f'{kit}/rlibs/{it}.rlib')}"]
     for folder in sorted({os.path.dirname(it) for it in below.values()} | {f"{kit}/rlibs"}):
         words += ["-L", f"dependency={folder}"]
-    words += prove.logic_words(kit)
     return [*words, *(word for it in sorted(asked) for word in ("--only", it))]
 
 
@@ -128,7 +147,8 @@ def checked(room):
     """What the check of an edited copy of a crate says."""
     with tempfile.TemporaryFile("w+", errors="replace") as out:
         to = {"stdin": subprocess.DEVNULL, "stdout": out, "stderr": subprocess.STDOUT}
-        with subprocess.Popen(words_of(room.crate, room.asked), cwd=room.folder, **to) as ran:
+        words = words_of(room.crate, room.asked)
+        with subprocess.Popen(words, cwd=room.folder, **to) as ran:
             _, status, used = os.wait4(ran.pid, 0)
             ran.returncode = os.waitstatus_to_exitcode(status)
         out.seek(0)
@@ -136,191 +156,214 @@ def checked(room):
 
 
 class Tries:
-    """The tries of a round of a crate: the verdicts on its edits, by their names, and the seconds of a processor that they took. They end early once an
-    interrupt is noted."""
+    """The tries of a round of a crate: the verdicts on its edits, by their names, and the seconds
+    of a processor that they took."""
 
-    def __init__(self, crate, interrupted):
-        self.crate, self.interrupted, self.verdicts, self.seconds = crate, interrupted, {}, 0.0
+    def __init__(self, crate):
+        self.crate, self.verdicts, self.seconds = crate, {}, 0.0
 
-    def check(self, tried, control, label):
+    def check(self, edits, control, label):
         """One check: what it said, and the folder that it read."""
-        if self.interrupted.is_set():
+        if INTERRUPTED.is_set():
             raise concurrent.futures.CancelledError
         with tempfile.TemporaryDirectory(prefix="wrong-bodies-") as folder:
-            room = edited_copies.Room(self.crate, tried, control, folder)
+            room = edited_copies.Room(self.crate, edits, control, folder)
             said = checked(room)
-        edited_copies.write(f"{LOGS}/{label}.log", said.text)
+        prove.write(f"{LOGS}/{label}.log", said.text)
         self.seconds += said.seconds
         return said, room
 
-    def give(self, tried, word, why):
-        self.verdicts |= {it.name: Verdict(word, why) for it in tried.edits()}
+    def give(self, edits, word, why):
+        self.verdicts |= {it.name: Verdict(word, why) for it in edits}
 
-    def try_round(self, tried, label, is_sound=False):
-        """Tries a round. One whose check doesn't come to an end is halved, if its control alone is proved."""
-        control = edited_copies.control_of(self.crate, tried)
+    def try_round(self, edits, label, is_sound=False):
+        """Tries these edits. If their check doesn't come to an end, but that of the control alone
+        does, it tries their halves."""
+        control = self.crate.control(edits)
         if not control:
-            self.give(tried, UNTRIED, "the crate has no function whose copy can be the control")
+            why = "the crate has no function whose copy can be the control"
+            self.give(edits, UNTRIED, why)
             return
-        said, room = self.check(tried, control, label)
-        if not said.has_ended():
-            self.try_halves(tried, control, label, said, is_sound)
-        elif not said.is_proved(self.crate, room.control):
-            self.give(tried, UNTRIED, f"the control {room.control} isn't proved: {said.of(self.crate, room.control)}")
+        said, room = self.check(edits, control, label)
+        if said.has_ended() and not said.is_proved(self.crate, room.control):
+            why = said.of(self.crate, room.control)
+            self.give(edits, UNTRIED, f"the control {room.control} isn't proved: {why}")
+        elif said.has_ended():
+            for name, path in room.falls.items():
+                self.verdicts[name] = said.verdict(self.crate, path)
+        elif not is_sound and (why := self.amiss_alone(control, label)):
+            self.give(edits, UNTRIED, f"the control alone isn't proved: {why}")
+        elif len(edits) == 1:
+            why = f"its check ended with status {said.status}: {said.first_errors()}"
+            self.give(edits, BAD if said.status == 1 else UNTRIED, why)
         else:
-            for name, paths in room.falls.items():
-                verdicts = [said.verdict(self.crate, it) for it in paths]
-                self.verdicts[name] = next((it for it in verdicts if it.word != REFUSED), verdicts[0])
+            half = len(edits) // 2
+            self.try_round(edits[:half], f"{label}a", True)
+            self.try_round(edits[half:], f"{label}b", True)
 
-    def try_halves(self, tried, control, label, said, is_sound):
-        """Tries the halves of a round whose check ended so, or says why it can't."""
-        if not is_sound:
-            alone, room = self.check(edited_copies.Round([], []), control, f"{label}-control")
-            if not alone.is_proved(self.crate, room.control):
-                self.give(tried, UNTRIED, f"the control alone isn't proved: {alone.of(self.crate, room.control)} {alone.first_errors()}")
-                return
-        if len(tried.edits()) == 1:
-            self.give(tried, BAD if said.status == 1 else UNTRIED, f"its check ended with status {said.status}: {said.first_errors()}")
-            return
-        for name, half in zip("ab", tried.halves()):
-            self.try_round(half, label + name, True)
+    def amiss_alone(self, control, label):
+        """Why the control isn't proved if no edit stands beside it; None if it is."""
+        said, room = self.check([], control, f"{label}-control")
+        if said.is_proved(self.crate, room.control):
+            return None
+        return f"{said.of(self.crate, room.control)} {said.first_errors()}"
 
 
-class Asked:
-    """What is asked for of a crate: its edits, those that can't be placed with the reason, whether
-    they were named, and what earlier runs passed."""
+@functools.cache
+def sum_of_tools():
+    """A sum of what tries an edit: these programs and the kit."""
+    kit, here = kit_folder(), os.path.dirname(os.path.abspath(__file__))
+    ran = subprocess.run(["rt", "version"], stdout=subprocess.PIPE, check=True)
+    paths = [*(f"{here}/{it}.py" for it in TOOLS), f"{kit}/bin/rattle"]
+    return f"{ran.stdout} {[prove.sum_of_file(it) for it in paths]}"
 
-    def __init__(self, name, chosen):
-        # (Before the crate is read, so that a change in between is seen.)
-        self.kept = kept_verdicts.Kept(name)
-        self.crate = edited_copies.Crate(name)
-        known = {it.name for it in self.crate.edits} | set(self.crate.bad)
-        if chosen - known or not known:
-            sys.exit(f"crates/{name}/wrong has no {', '.join(sorted(chosen - known)) or 'edit'}")
-        self.is_named, chosen = bool(chosen), chosen or known
-        self.edits = [it for it in self.crate.edits if it.name in chosen]
-        self.bad = {it: why for it, why in self.crate.bad.items() if it in chosen}
+
+def sum_of_sources(name):
+    """A sum of all that a crate is proved from, the logic too."""
+    lines, whole = prove.read_lines(), hashlib.sha256(prove.logic().encode())
+    for crate in sorted(prove.with_those_below(prove.read_crates(), name)):
+        whole.update(f"{crate}: {lines[crate]}\n".encode())
+        files = (path for part in edited_copies.PARTS
+                 for path in pathlib.Path(f"{prove.TOP}/crates/{crate}/{part}").rglob("*"))
+        for path in sorted(filter(os.path.isfile, files)):
+            name = os.path.relpath(path, prove.TOP)
+            whole.update(f"{name} {prove.sum_of_file(path)}\n".encode())
+    return whole.hexdigest()
+
+
+def sum_of_crate(name):
+    """All that the checks of a crate read but its edits, as a sum: the tools, the sources of the
+    crate and of those below, and the libraries, whose other files are held to the sums in the file
+    `format`."""
+    found = libraries_below(name)
+    libraries = {it: prove.sum_of_file(f"{path}/format") for it, path in found.items()}
+    whole = f"{sum_of_tools()} {sum_of_sources(name)} {libraries}"
+    return hashlib.sha256(whole.encode()).hexdigest()
+
+
+class Kept:
+    """The edits of a crate that earlier runs on this machine have passed, as empty files. A file's
+    name is a sum of all that the check read, so it never goes stale."""
+
+    def __init__(self, name):
+        self.name, self.read = name, sum_of_crate(name)
+
+    def place(self, edit):
+        whole = f"{self.read} {edit.name} {edit.text}"
+        return f"{KEPT}/{self.name}-{hashlib.sha256(whole.encode()).hexdigest()}"
+
+    def has(self, edit):
+        try:
+            os.utime(self.place(edit))
+        except FileNotFoundError:
+            return False
+        return True
+
+    def keep(self, edits):
+        """Keeps that these passed, if what their check read hasn't changed meanwhile."""
+        if sum_of_crate(self.name) == self.read:
+            for it in edits:
+                prove.write(self.place(it), "")
+
+
+def forget():
+    """Removes what was kept and isn't used any more."""
+    os.makedirs(KEPT, exist_ok=True)
+    subprocess.run(["find", KEPT, "-type", "f", "-mtime", f"+{DAYS}", "-delete"], check=True)
 
 
 def names_in(words):
-    """The crates that these words of the command name, or all that have edits, and of each the edits that are named."""
+    """The crates that these words of the command name, or all that have edits, and of each the
+    edits that are named."""
     names = {}
-    for word in words or sorted({path.split("/")[-3] for path in glob.glob(f"{prove.TOP}/crates/*/wrong/*.edit")}):
+    for word in words or filter(edited_copies.names_of, prove.read_crates()):
         crate, _, edit = word.partition("/")
         names.setdefault(crate, set()).update({edit.removesuffix(".edit")} - {""})
     return names
 
 
-class Proofs(threading.Thread):
-    """Reads which crates `rt ci` has proved so far, by what it says, until it has ended."""
-
-    def __init__(self, lines):
-        super().__init__(daemon=True)
-        self.names, self.lines = set(), lines
-        self.start()
-
-    def run(self):
-        found = (IS_PROVED.match(it.rstrip()) for it in self.lines)
-        self.names.update(it[1].decode() for it in found if it)
-
-
-def at_once(running, is_beside):
-    """How many checks may run side by side, of which some run already. Beside proofs one processor is left to them, and memory for one more."""
-    most, free = min(machine.processors(), int(os.environ.get("JOBS", "99"))), machine.free_gigabytes()
-    if not is_beside:
-        return max(1, min(most, running + int(free / GIGABYTES)))
-    return max(1, most - 1) if free > GIGABYTES + machine.GIGABYTES_A_PROOF else 0
+def workers():
+    """How many checks run side by side."""
+    fitting = int(prove.free_gigabytes() / GIGABYTES)
+    return max(1, min(prove.processors(), fitting, int(os.environ.get("JOBS", "99"))))
 
 
 class Run:
-    """A run over what is asked for, beside the proofs if there are any. It counts the verdicts, and says those that fail and those that were asked for by
+    """A run. It counts the verdicts, and says those that fail and those that were asked for by
     name."""
 
-    def __init__(self, names, proofs, anew):
-        self.names, self.proofs, self.anew = names, proofs, anew
-        self.passed, self.failed, self.seconds, self.tasks, self.most, self.interrupted = 0, 0, 0.0, [], None, threading.Event()
+    def __init__(self, anew):
+        self.anew, self.lock = anew, threading.Lock()
+        self.passed, self.failed, self.seconds = 0, 0, 0.0
 
     def note(self, crate, verdicts, how, is_named=False):
         fine = sum(it.word == REFUSED for it in verdicts.values())
-        if verdicts:
-            print(f"{crate}: {fine} of {len(verdicts)} wrong bodies refused, {how}", flush=True)
-        for name, verdict in verdicts.items():
-            if verdict.word != REFUSED or is_named:
-                print(f"  {crate}/{name}: {verdict}", flush=True)
-        self.passed, self.failed = self.passed + fine, self.failed + len(verdicts) - fine
+        with self.lock:
+            if verdicts:
+                print(f"{crate}: {fine} of {len(verdicts)} wrong bodies refused, {how}", flush=True)
+            for name, verdict in verdicts.items():
+                if verdict.word != REFUSED or is_named:
+                    print(f"  {crate}/{name}: {verdict}", flush=True)
+            self.passed, self.failed = self.passed + fine, self.failed + len(verdicts) - fine
 
-    def plan(self, asked):
-        """Counts what an earlier run has passed and what can't be placed, and leaves the rest to be tried, the longest first."""
-        name, is_named = asked.crate.name, asked.is_named
-        known = [] if self.anew else [it for it in asked.edits if asked.kept.has(it)]
-        self.note(name, {it.name: Verdict(REFUSED) for it in known}, "by an earlier run on this machine, which read the same", is_named)
-        self.note(name, {it: Verdict(BAD, why) for it, why in asked.bad.items()}, "as they can't be placed", is_named)
-        rounds = edited_copies.rounds_of(asked.crate, [it for it in asked.edits if it not in known])
-        self.tasks += [(asked, tried, f"{name}{at}") for at, tried in enumerate(rounds)]
-        self.tasks.sort(key=lambda it: -len(it[1].edits()))
+    def plan(self, name, chosen):
+        """Counts what an earlier run has passed and what can't be placed, and gives the calls that
+        try the rest, with how many edits each has."""
+        names, is_named = set(edited_copies.names_of(name)), bool(chosen)
+        if chosen - names or not names:
+            sys.exit(f"crates/{name}/wrong has no {', '.join(sorted(chosen - names)) or 'edit'}")
+        chosen = chosen or names
+        try:
+            # (before the crate is read, so that a change in between is seen)
+            kept = Kept(name)
+        except edited_copies.Misplaced as why:
+            untried = {it: Verdict(UNTRIED, str(why)) for it in chosen}
+            self.note(name, untried, "as a crate below isn't built")
+            return []
+        crate = edited_copies.Crate(name)
+        edits = [it for it in crate.edits if it.name in chosen]
+        known = [] if self.anew else [it for it in edits if kept.has(it)]
+        bad = {it: Verdict(BAD, why) for it, why in crate.bad.items() if it in chosen}
+        self.note(name, {it.name: Verdict(REFUSED) for it in known},
+                  "by an earlier run on this machine, which read the same", is_named)
+        self.note(name, bad, "as they can't be placed", is_named)
+        rounds = edited_copies.rounds_of([it for it in edits if it not in known])
+        return [(functools.partial(self.try_one, kept, crate, some, f"{name}{at}", is_named),
+                 len(some)) for at, some in enumerate(rounds)]
 
-    def plan_what_is_ready(self):
-        """Plans the crates that can be tried now. If the proofs have ended, the others never can."""
-        has_ended = not self.proofs or not self.proofs.is_alive()
-        for name in list(self.names):
-            below = prove.with_those_below(prove.read_crates(), name) - {name}
-            if not self.proofs or below <= self.proofs.names:
-                self.plan(Asked(name, self.names.pop(name)))
-            elif has_ended:
-                edits = self.names.pop(name) or [it.name for it in edited_copies.Crate(name).edits]
-                self.note(name, {it: Verdict(UNTRIED, "a crate below isn't proved") for it in edits}, "as a crate below isn't proved")
+    def try_one(self, kept, crate, edits, label, is_named):
+        began, tries = time.monotonic(), Tries(crate)
+        tries.try_round(edits, label)
+        took = f"in {time.monotonic() - began:.0f} s ({tries.seconds:.0f} s of a processor)"
+        self.note(crate.name, tries.verdicts, took, is_named)
+        self.seconds += tries.seconds
+        kept.keep([it for it in edits if tries.verdicts[it.name].word == REFUSED])
 
-    def room(self, running):
-        """How many checks may run side by side now, of which some run already."""
-        if self.proofs and self.proofs.is_alive():
-            return at_once(running, True)
-        # (once, since a check that has just begun will take more memory than it has)
-        self.most = self.most or at_once(running, False)
-        return self.most
-
-    def try_all(self):
-        """Tries all, several checks at a time, and keeps what passes."""
-        running = set()
-        with concurrent.futures.ThreadPoolExecutor(machine.processors()) as pool:
+    def try_all(self, names):
+        """Tries all, several checks at a time, those with most edits first."""
+        planned = [it for name, chosen in names.items() for it in self.plan(name, chosen)]
+        with concurrent.futures.ThreadPoolExecutor(workers()) as pool:
             try:
-                while self.names or self.tasks or running:
-                    self.plan_what_is_ready()
-                    while self.tasks and len(running) < self.room(len(running)):
-                        running.add(pool.submit(self.try_task, *self.tasks.pop(0)))
-                    if not running:
-                        time.sleep(EVERY)
-                    ended, running = concurrent.futures.wait(running, EVERY, concurrent.futures.FIRST_COMPLETED)
-                    for it in ended:
-                        self.end_task(*it.result())
+                calls = [pool.submit(it) for it, _ in sorted(planned, key=lambda it: -it[1])]
+                for it in calls:
+                    it.result()
             except BaseException:
-                self.interrupted.set()
+                INTERRUPTED.set()
                 pool.shutdown(wait=False, cancel_futures=True)
                 raise
-        if self.proofs:
-            # (Python aborts if it ends while a thread reads standard input.)
-            self.proofs.join()
-
-    def try_task(self, asked, tried, label):
-        began, tries = time.monotonic(), Tries(asked.crate, self.interrupted)
-        tries.try_round(tried, label)
-        return asked, tried, tries, time.monotonic() - began
-
-    def end_task(self, asked, tried, tries, took):
-        self.note(asked.crate.name, tries.verdicts, f"in {took:.0f} s ({tries.seconds:.0f} s of a processor)", asked.is_named)
-        self.seconds += tries.seconds
-        asked.kept.keep([it for it in tried.edits() if tries.verdicts[it.name].word == REFUSED])
 
 
 def main(words):
-    parser = argparse.ArgumentParser(description=__doc__, formatter_class=argparse.RawDescriptionHelpFormatter)
-    parser.add_argument("--anew", action="store_true", help="try what an earlier run has passed, too")
-    parser.add_argument("--beside", action="store_true", help="wait for the proofs of `rt ci`, by what it says on standard input")
+    parser = argparse.ArgumentParser(
+        description=__doc__, formatter_class=argparse.RawDescriptionHelpFormatter)
+    parser.add_argument("--anew", action="store_true", help="try what a run has passed, too")
     parser.add_argument("edits", nargs="*", metavar="NAME[/EDIT]")
     given = parser.parse_args(words)
-    names = names_in(given.edits)
-    run = Run(names, Proofs(sys.stdin.buffer) if given.beside else None, given.anew)
-    run.try_all()
-    print(f"{run.seconds / 60:.1f} processor minutes of the prover\n{run.passed} passed, {run.failed} failed")
+    forget()
+    run = Run(given.anew)
+    run.try_all(names_in(given.edits))
+    print(f"{run.seconds / 60:.1f} processor minutes of the prover\n"
+          f"{run.passed} passed, {run.failed} failed")
     return int(run.failed > 0)
 
 

@@ -1,5 +1,6 @@
 #!/usr/bin/python3
-"""python-binary-memcached, which speaks the binary protocol alone. Usage: binary_memcached_calls.py PORT."""
+"""python-binary-memcached, which speaks the binary protocol alone. Usage: binary_memcached_calls.py
+PORT."""
 import sys
 
 import bmemcached

@@ -53,7 +53,8 @@ def starts(port):
         pathlib.Path(f"{folder}/raddb/mods-enabled/stored").write_text(MODULE.format(port=port))
         pathlib.Path(f"{folder}/raddb/sites-enabled/one").write_text(SITE)
         words = ["timeout", "10", "freeradius", "-d", f"{folder}/raddb", "-X"]
-        with subprocess.Popen(words, stdout=subprocess.PIPE, stderr=subprocess.STDOUT, text=True, errors="replace") as server:
+        to = {"stdout": subprocess.PIPE, "stderr": subprocess.STDOUT}
+        with subprocess.Popen(words, text=True, errors="replace", **to) as server:
             is_ready = any("Ready to process requests" in line for line in server.stdout)
             server.terminate()
     return is_ready

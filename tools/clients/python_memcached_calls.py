@@ -13,8 +13,10 @@ calls.check("add", lambda: bool(make().add("pm-b", "1")), True)
 calls.check("replace", lambda: bool(make().replace("pm-b", "2")), True)
 calls.check("get_multi", lambda: make().get_multi(["pm-a", "pm-b"]), {"pm-a": "1", "pm-b": "2"})
 calls.check("incr", lambda: bool(make().set("pm-n", "5")) and make().incr("pm-n", 2), 7)
-calls.check("delete", lambda: bool(make().set("pm-d", "1")) and (make().delete("pm-d"), make().get("pm-d")), (1, None))
-calls.check("delete_time_0", lambda: bool(make().set("pm-d", "1")) and (make().delete("pm-d", time=0), make().get("pm-d")), (1, None))
-calls.check("flush_all", lambda: (bool(make().set("pm-f", "1")), make().flush_all(), make().get("pm-f"))[::2], (True, None))
+for name, how in (("delete", {}), ("delete_time_0", {"time": 0})):
+    calls.check(name, lambda: bool(make().set("pm-d", "1")) and (
+        make().delete("pm-d", **how), make().get("pm-d")), (1, None))
+calls.check("flush_all", lambda: (
+    bool(make().set("pm-f", "1")), make().flush_all(), make().get("pm-f"))[::2], (True, None))
 calls.check("get_stats", lambda: bool(make().get_stats()), True)
 calls.report()

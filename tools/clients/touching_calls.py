@@ -1,5 +1,6 @@
 #!/usr/bin/python3
-"""Applications that touch what they use, against a server: tooz's locks, Celery's results and limits' windows that grow. Usage: touching_calls.py PORT."""
+"""Applications that touch what they use, against a server: tooz's locks, Celery's results and
+limits' windows that grow. Usage: touching_calls.py PORT."""
 import logging
 import sys
 import time
@@ -13,13 +14,16 @@ from limits.storage import MemcachedStorage
 from limits.strategies import FixedWindowElasticExpiryRateLimiter
 from tooz import coordination
 
-# A lock's seconds, and for how many of them its holder's heart beats: longer than the lock would last by itself.
+# A lock's seconds, and for how many of them its holder's heart beats: longer than the lock would
+# last by itself.
 LOCK, BEATS = 40, 45
 
 
 def holders(place):
-    """Of two that want a lock, who has it at first, and who gets it while the first one's heart beats each second."""
-    one, two = (coordination.get_coordinator(f"memcached://{place}?lock_timeout={LOCK}&timeout=5", name) for name in (b"one", b"two"))
+    """Of two that want a lock, who has it at first, and who gets it while the first one's heart
+    beats each second."""
+    where = f"memcached://{place}?lock_timeout={LOCK}&timeout=5"
+    one, two = (coordination.get_coordinator(where, name) for name in (b"one", b"two"))
     one.start()
     two.start()
     first, second = one.get_lock(b"lock"), two.get_lock(b"lock")
@@ -40,7 +44,8 @@ def of_celery(place):
 
 def let_through(place):
     """Of 300 calls under a limit of 100 a minute, whose window grows with each."""
-    limiter, limit = FixedWindowElasticExpiryRateLimiter(MemcachedStorage(f"memcached://{place}")), parse("100/minute")
+    storage, limit = MemcachedStorage(f"memcached://{place}"), parse("100/minute")
+    limiter = FixedWindowElasticExpiryRateLimiter(storage)
     return sum(limiter.hit(limit, "somebody") for _ in range(300))
 
 

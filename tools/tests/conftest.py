@@ -1,4 +1,4 @@
-"""What the tests share: the program, servers that end with their test, tools in C, and figures that are said last."""
+"""What the tests share: the program, servers that end with their test, and tools in C."""
 import contextlib
 import os
 import resource
@@ -7,29 +7,24 @@ import hypothesis
 import pytest
 import served
 
-FIGURES = []
-
 # The gate tries the same examples each time; `--hypothesis-profile soak` tries many others.
-hypothesis.settings.register_profile("gate", derandomize=True, database=None, deadline=None)
-hypothesis.settings.register_profile("soak", max_examples=20_000, database=None, deadline=None, print_blob=True)
+EXAMPLES = {"gate": {"derandomize": True}, "soak": {"max_examples": 20_000, "print_blob": True}}
+for name, settings in EXAMPLES.items():
+    hypothesis.settings.register_profile(name, database=None, deadline=None, **settings)
 hypothesis.settings.load_profile("gate")
 
 
 def pytest_addoption(parser):
-    parser.addoption("--program", default=served.PROGRAM, help="the built segcached")
-    parser.addoption("--all-clients", action="store_true", help="also the clients that the gate doesn't install")
-    parser.addoption("--against", help="another build, to compare with")
-    parser.addoption("--model-runs", type=int, default=7, help="how many long runs beside the model")
+    add = parser.addoption
+    add("--program", default=served.PROGRAM, help="the built segcached")
+    add("--all-clients", action="store_true", help="also clients that the gate doesn't install")
+    add("--against", help="another build, to compare with")
+    add("--model-runs", type=int, default=7, help="how many long runs beside the model")
 
 
 def pytest_configure():
     _, hard = resource.getrlimit(resource.RLIMIT_NOFILE)
     resource.setrlimit(resource.RLIMIT_NOFILE, (hard, hard))
-
-
-def pytest_terminal_summary(terminalreporter):
-    for figure in FIGURES:
-        terminalreporter.write_line(figure)
 
 
 @pytest.fixture(scope="session")
@@ -39,7 +34,7 @@ def program(request):
 
 @pytest.fixture
 def serve(program):
-    """Starts a server with these words, which is ended with the test and may not have ended badly before."""
+    """Starts a server with these words, which ends with the test and not badly before."""
     with contextlib.ExitStack() as servers:
         yield lambda *words, **named: servers.enter_context(served.Server(program, *words, **named))
 
@@ -59,12 +54,6 @@ def apart():
 def storage(request):
     """The words by which these threads execute requests."""
     return "--storage", request.param
-
-
-@pytest.fixture
-def say(request):
-    """Says a line after all tests."""
-    return lambda text: FIGURES.append(f"{request.node.name}: {text}")
 
 
 @pytest.fixture(scope="session")

@@ -26,7 +26,16 @@ OF_SEGMENTS = """evicted_by_merge evicted_by_clearing reclaimed merges segments_
 OF_CAS = {STORED: "cas_hits", NOT_FOUND: "cas_misses", b"EXISTS\r\n": "cas_badval"}
 JOINS = (b"append", b"prepend")
 SHOWN_AND_TOUCHED = (b"gat", b"gats")
+SHOWS = (b"get", b"gets", *SHOWN_AND_TOUCHED)
 STORES = (b"set", b"add", b"replace", b"cas", *JOINS)
+
+
+def line_of(*words):
+    """A line of words, numbers and lists of words."""
+    def spelled(it):
+        return b"%d" % it if isinstance(it, int) else it if isinstance(it, bytes) else b" ".join(it)
+
+    return b" ".join(map(spelled, words)) + b"\r\n"
 
 
 def refused(request):
@@ -126,8 +135,8 @@ class Cache:
 
     def append(self, item, bucket, now):
         tail = next((it for it in reversed(self.order) if it.bucket == bucket), None)
-        is_closed = tail is None or (tail.closes is not None and now >= tail.closes)
-        if is_closed or tail.used() + item.size > self.segment_size:
+        is_closed = tail and item.own is None and tail.closes is not None and now >= tail.closes
+        if tail is None or is_closed or tail.used() + item.size > self.segment_size:
             if self.free == 0:
                 return False
             self.free -= 1
@@ -166,11 +175,11 @@ class Cache:
         return front[: 3 if self.is_least_read else 4], chain[len(front)] if chain else None
 
     def looked_at(self):
-        """The first segments, a quarter of all."""
-        return self.order[: self.segments // 4]
+        """The first segments, a third of all."""
+        return self.order[: self.segments // 3]
 
     def fronts(self):
-        """What can be merged, what comes first in front, with the segment behind it and the next bucket."""
+        """What can be merged, in turn, with the segment behind it and the next bucket."""
         if self.is_least_read:
             for place, segment in enumerate(self.looked_at()):
                 yield *self.front(segment.bucket, self.order[place:]), segment.bucket + 1
@@ -265,14 +274,11 @@ class Cache:
     # ---- what is counted
 
     def count(self, verb, words, answer):
-        """Counts a request by what it was answered."""
         counts, name = self.counts, verb.decode()
-        if verb in (b"get", b"gets"):
-            hits = answer.count(b"VALUE key")
-            counts.update(cmd_get=len(words[0]), get_hits=hits, get_misses=len(words[0]) - hits)
-        elif verb in SHOWN_AND_TOUCHED:
-            hits, asked = answer.count(b"VALUE key"), len(words[1])
-            counts.update(cmd_touch=asked, touch_hits=hits, touch_misses=asked - hits)
+        if verb in SHOWS:
+            hits, asked = answer.count(b"VALUE key"), len(words[-1])
+            asks, of = ("cmd_touch", "touch") if verb in SHOWN_AND_TOUCHED else ("cmd_get", "get")
+            counts.update({asks: asked, f"{of}_hits": hits, f"{of}_misses": asked - hits})
         elif verb in (b"incr", b"decr", b"delete", b"touch"):
             counts["cmd_touch"] += verb == b"touch"
             if answer == NOT_FOUND:
@@ -300,8 +306,7 @@ class Cache:
 
     def begin(self, now):
         if self.pending is not None and self.pending <= now:
-            self.current.clear()
-            self.pending = None
+            self.flush(0, now)
 
     def get(self, keys, with_cas, now):
         out = b""
@@ -368,29 +373,25 @@ class Cache:
         return b"%d\r\n" % number
 
     def delete(self, key, now):
-        if self.find(key, now) is None:
-            return NOT_FOUND
-        del self.current[key]
-        return DELETED
+        return DELETED if self.find(key, now) and self.current.pop(key) else NOT_FOUND
 
     def flush(self, delay, now):
-        if delay == 0:
+        self.pending = now + delay if delay else None
+        if not delay:
             self.current.clear()
-            self.pending = None
-        else:
-            self.pending = now + delay
         return b"OK\r\n"
 
     def answer(self, request, now):
-        """A request's bytes, and what it is answered, counted: of a `stats` what it is told, by
-        names."""
+        """A request's bytes, and what it is answered, counted, or a `stats` is told, by names."""
         verb, *words = request
+        if verb in LOCAL:
+            return line_of(*request), LOCAL[verb]
+        self.begin(now)
         if verb == b"stats":
-            self.begin(now)
-            return b"stats\r\n", self.told()
+            return line_of(verb), self.told()
         line, answer = self.answer_uncounted(request, now)
         # (leniently no `set` that is too large counts)
-        if verb not in LOCAL and not (self.is_lenient and verb == b"set" and answer == TOO_LARGE):
+        if not (self.is_lenient and verb == b"set" and answer == TOO_LARGE):
             self.count(verb, words, answer)
         return line, answer
 
@@ -398,37 +399,27 @@ class Cache:
         """A request's bytes, and what it is answered. A `cas` number of None is that of what is
         there, or 0. `append`, `prepend`, `touch`, `gat`, `gats`, `version` and `verbosity`, and a
         zero after the key of a `delete`, are for the lenient dialect."""
-        verb, *words = request
-        if verb in LOCAL:
-            return b" ".join(request) + b"\r\n", LOCAL[verb]
-        self.begin(now)
-        if verb in JOINS:
-            key, flags, exptime, value, _ = words
-            return put(key, value, verb, flags, exptime), self.join(verb, key, value, now)
-        if verb == b"touch":
-            key, exptime = words
-            return b"touch %b %d\r\n" % (key, exptime), self.touch(key, exptime, now)
-        if verb in SHOWN_AND_TOUCHED:
-            exptime, keys = words
-            answer = self.get(keys, verb == b"gats", now)
-            for key in keys:
-                self.touch(key, exptime, now)
-            return b"%b %d %b\r\n" % (verb, exptime, b" ".join(keys)), answer
-        if verb in (b"get", b"gets"):
-            (keys,) = words
-            return b"%b %b\r\n" % (verb, b" ".join(keys)), self.get(keys, verb == b"gets", now)
-        if verb == b"delete":
-            key, *zero = words
-            return b"delete %b%b\r\n" % (key, b" 0" * len(zero)), self.delete(key, now)
-        if verb in (b"incr", b"decr"):
-            key, amount = words
-            changed = self.change(key, amount, verb == b"incr", now)
-            return b"%b %b %d\r\n" % (verb, key, amount), changed
-        if verb == b"flush_all":
-            (delay,) = words
-            return b"flush_all %d\r\n" % delay, self.flush(delay, now)
-        key, flags, exptime, value, unique = words
-        if unique is None:
-            unique = getattr(self.find(key, now), "cas", 0)
-        line = put(key, value, verb, flags, exptime, b" %d" % unique if verb == b"cas" else b"")
-        return line, self.put(verb, key, flags, exptime, value, unique, now)
+        match request:
+            case (b"append" | b"prepend") as verb, key, flags, exptime, value, _:
+                return put(key, value, verb, flags, exptime), self.join(verb, key, value, now)
+            case verb, key, flags, exptime, value, unique:
+                if unique is None:
+                    unique = getattr(self.find(key, now), "cas", 0)
+                words = b" %d" % unique if verb == b"cas" else b""
+                line = put(key, value, verb, flags, exptime, words)
+                return line, self.put(verb, key, flags, exptime, value, unique, now)
+            case verb, keys if verb in SHOWS:
+                answer = self.get(keys, verb == b"gets", now)
+            case verb, exptime, keys if verb in SHOWN_AND_TOUCHED:
+                answer = self.get(keys, verb == b"gats", now)
+                for key in keys:
+                    self.touch(key, exptime, now)
+            case b"touch", key, exptime:
+                answer = self.touch(key, exptime, now)
+            case b"delete", key, *_:
+                answer = self.delete(key, now)
+            case verb, key, amount:
+                answer = self.change(key, amount, verb == b"incr", now)
+            case b"flush_all", delay:
+                answer = self.flush(delay, now)
+        return line_of(*request), answer

@@ -2,6 +2,7 @@
 import re
 
 import served
+from asking import wire
 
 
 def ended(program, *words, file="/dev/stdin", script=b"", **how):
@@ -10,16 +11,15 @@ def ended(program, *words, file="/dev/stdin", script=b"", **how):
 
 
 def printed(program, words, script):
-    """What a script prints with these words."""
     status, out, said = ended(program, *words.split(), script=script)
     assert (status, said) == (0, b"")
     return out
 
 
 def given(program, words, *pieces):
-    """What the only session is given, which sends these pieces."""
-    sends = b"".join(b"send 0 1 %b\n" % it.hex().encode() for it in pieces)
+    """What the only session is given, which sends these pieces, in bytes or texts for `wire`."""
+    sends = b"".join(b"send 0 1 %b\n" % wire(it).hex().encode() for it in pieces)
     out = printed(program, words, b"open 0 1\n" + sends)
     found = re.fullmatch(rb"0 1 (-|(?:[0-9a-f]{2})+)\n", out)
     assert found, out[:60]
-    return b"" if found[1] == b"-" else bytes.fromhex(found[1].decode())
+    return bytes.fromhex(found[1].decode().strip("-"))

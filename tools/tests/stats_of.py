@@ -12,7 +12,6 @@ def by_name(answer):
 
 
 def told(stream, line=b"stats\r\n"):
-    """What a `stats` is told, by name."""
     stream.sendall(line)
     got = b""
     while not got.endswith(b"END\r\n"):

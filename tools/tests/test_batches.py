@@ -16,7 +16,8 @@ def replayed(program, words, script):
 
 
 def asked(worker, place):
-    """The request of a worker at this place, with its answer: five after each other are of one of its seven keys, which no other worker uses."""
+    """The request of a worker at this place, with its answer: five after each other are of one of
+    its seven keys, which no other worker uses."""
     key, first = b"%c%d" % (b"abcdefgh"[worker], place // 5 % 7), place // 5 * 5
     number = first % 10
     count = b"%d" % (number + first + 2)
@@ -45,8 +46,9 @@ def test_each_worker_is_given_the_answers_to_its_requests(program, workers):
 @pytest.mark.parametrize("evict", ["oldest", "least-read"])
 def test_each_set_is_stored_while_segments_are_merged(program, evict):
     """The keys have eight bytes that look random, and the values a hundred."""
-    keys = [(number * 0x9E3779B97F4A7C15 % 2**64).to_bytes(8, "little").hex()[:8] for number in range(SETS)]
+    keys = ((number * 0x9E3779B97F4A7C15 % 2**64).to_bytes(8, "little") for number in range(SETS))
     script = Script(1)
-    script.send(script.open(), b"".join(put(key.encode(), b"v" * 100) for key in keys))
+    sets = (put(key.hex()[:8].encode(), b"v" * 100) for key in keys)
+    script.send(script.open(), b"".join(sets))
     words = f"--evict {evict} --segment-size 65536 --segments 64"
     assert is_same(replayed(program, words, script), {0: STORED * SETS})

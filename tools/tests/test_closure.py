@@ -1,5 +1,5 @@
-"""Tests of what `tools/closure.py` finds, over a small tree that is written here, and that docs/HEADLINE.md has what its
-contracts rest on. They take a second.
+"""Tests of what `tools/closure.py` finds, over a small tree that is written here, and that
+docs/HEADLINE.md has what its contracts rest on. They take a second.
 """
 import closure
 import pytest
@@ -81,11 +81,12 @@ def test_a_contract_leads_to_what_its_clauses_name_and_what_that_rests_on(tree):
 
 
 def test_one_clause_of_a_contract_is_shown_by_its_name(tree):
-    sources = closure.Sources(tree)
-    assert sources.head_and_clauses("high/src/call.rt:Thing::call#small")[1] == ["requires small { IsSmall n }"]
-    assert [closure.key_of(it) for it in sources.closure(["high/src/call.rt:Thing::call#size"])[0]] == ["low.Sizes.Size"]
+    sources, call = closure.Sources(tree), "high/src/call.rt:Thing::call"
+    assert sources.head_and_clauses(f"{call}#small")[1] == ["requires small { IsSmall n }"]
+    found = sources.closure([f"{call}#size"])[0]
+    assert [closure.key_of(it) for it in found] == ["low.Sizes.Size"]
     with pytest.raises(closure.Trouble, match="high/src/call.rt has no clause none of Thing::call"):
-        sources.closure(["high/src/call.rt:Thing::call#none"])
+        sources.closure([f"{call}#none"])
 
 
 def test_a_type_of_the_code_is_told_by_its_file(tree):
@@ -101,7 +102,8 @@ def test_a_type_of_the_code_is_told_by_its_file(tree):
 def test_a_type_that_contracts_see_as_another_value_is_found_in_fields_and_heads(tree):
     seen = ("impl Model for Sides", "impl<T: Drop> Model for Text<T>", "impl Model for Unseen")
     write(f"{tree}/crates/low/src/seen.rt", "".join(f"{it} {{\n}}\n" for it in seen))
-    shape = "/// (no Unseen)\npub enum Shape {\n    Round,\n    Square(Sides),\n}\nstruct Other(Unseen);\n"
+    shape = "/// (no Unseen)\npub enum Shape {\n    Round,\n    Square(Sides),\n}\n"
+    shape += "struct Other(Unseen);\n"
     write(f"{tree}/crates/low/src/parts/shape.rt", shape)
     with open(f"{tree}/crates/high/src/call.rt", "a", encoding="utf-8") as file:
         file.write("fn last(text: &Text<u8>)\n    ensures { is_round result }\n{\n}\n")
@@ -163,10 +165,14 @@ def test_the_page_has_the_texts_and_says_what_has_no_entry(tree):
     assert closure.filled(unlisted, closure.Sources(tree)) == (unlisted, [*wrong, "ℕ isn't listed"])
 
 
+# (each definition in one line)
 LONG = """abbrev pub IsLong : List ℕ → Type 0
-IsLong list = (first : ℕ) × (a_name_of_some_length : List ℕ) × (list ≡ first ∷ a_name_of_some_length) × (length list ≤ 131072)
-pub record Wide (a_name_of_some_length : List ℕ) (another_name : List ℕ) (a_third_name : ℕ) (behind : ℕ) : Type 0 where
-  pub met : (a_name_of_some_length ≡ another_name) → (a_third_name : ℕ) → some_statement_of_it a_third_name → behind ≡ 1
+IsLong list = (first : ℕ) × (a_name_of_some_length : List ℕ) \
+× (list ≡ first ∷ a_name_of_some_length) × (length list ≤ 131072)
+pub record Wide (a_name_of_some_length : List ℕ) (another_name : List ℕ) (a_third_name : ℕ) \
+(behind : ℕ) : Type 0 where
+  pub met : (a_name_of_some_length ≡ another_name) → (a_third_name : ℕ) \
+→ some_statement_of_it a_third_name → behind ≡ 1
 """
 NARROW = """abbrev pub IsLong : List ℕ → Type 0
 IsLong list = (first : ℕ) × (a_name_of_some_length : List ℕ)
@@ -185,7 +191,8 @@ def test_long_lines_are_broken_where_the_fewest_brackets_are_open():
 
 def test_with_several_contracts_what_the_first_rests_on_is_counted_too(tree):
     page = PAGE.replace("It is small.", "<!-- contract high/src/call.rt:Thing::call -->")
-    counts = "4 definitions in 2 files, 8 lines, over 0 types and constants of the code.\nThe first contract rests on 3 definitions in 2 files, 6 lines.\n"
+    counts = "4 definitions in 2 files, 8 lines, over 0 types and constants of the code.\n"
+    counts += "The first contract rests on 3 definitions in 2 files, 6 lines.\n"
     assert f"<!-- counts -->\n{counts}" in closure.filled(page, closure.Sources(tree))[0]
 
 

@@ -1,5 +1,6 @@
-"""Tests of the documents: each link leads to a file and a heading there, no line but a table's is wider than 100 columns, and what PROOFS
-and ARCHITECTURE quote stands in the crates. They take a second.
+"""Tests of the documents: each link leads to a file and a heading there, no line but a table's is
+wider than 100 columns, and what PROOFS and ARCHITECTURE quote stands in the crates. They take a
+second.
 """
 import glob
 import os
@@ -7,6 +8,7 @@ import re
 import shutil
 import subprocess
 
+import prove
 import pytest
 import served
 from served import TOP, read
@@ -21,7 +23,8 @@ def prose(page):
 
 def anchors(page):
     """As a browser names the headings of a page."""
-    return {re.sub(r"[^\w -]", "", it.lower()).replace(" ", "-") for it in re.findall(r"^#+ (.*)", prose(page), re.MULTILINE)}
+    headings = re.findall(r"^#+ (.*)", prose(page), re.MULTILINE)
+    return {re.sub(r"[^\w -]", "", it.lower()).replace(" ", "-") for it in headings}
 
 
 @pytest.mark.parametrize("page", PAGES, ids=os.path.basename)
@@ -35,7 +38,8 @@ def test_each_link_leads_to_a_file_and_a_heading(page):
 
 @pytest.mark.parametrize("page", PAGES, ids=os.path.basename)
 def test_no_line_but_a_tables_is_wider_than_100_columns(page):
-    assert [line for line in read(page).splitlines() if len(line) > 100 and not line.lstrip().startswith("|")] == []
+    wide = [line for line in read(page).splitlines() if len(line) > 100]
+    assert [line for line in wide if not line.lstrip().startswith("|")] == []
 
 
 @pytest.mark.parametrize("page", ["PROOFS", "ARCHITECTURE"])
@@ -53,10 +57,10 @@ def test_the_newest_version_of_the_changelog_is_that_of_the_sources():
 
 def test_the_trusted_crates_are_those_that_no_crate_of_the_repository_is():
     """The crates that crates.txt names as stood on, and that PROOFS lists as trusted."""
-    lines = [line.split(":") for line in read(f"{TOP}/crates.txt").splitlines() if re.match(r"\w", line)]
-    own = {name.split()[0] for name, _ in lines}
-    stood_on = {word for _, words in lines for word in words.split()} - own
-    said = re.search(r"and its crates (.*?)\. ", prose(f"{TOP}/docs/PROOFS.md").replace("\n", " "))[1]
+    lines = prove.read_lines()
+    stood_on = set().union(*lines.values()) - set(lines)
+    page = prose(f"{TOP}/docs/PROOFS.md").replace("\n", " ")
+    said = re.search(r"and its crates (.*?)\. ", page)[1]
     listed = re.findall(r"`(\w+)`", said)
     assert sorted(listed) == sorted(stood_on)
 
@@ -67,6 +71,7 @@ def test_as_many_functions_in_c_are_trusted_as_the_kit_declares():
     kit = os.path.dirname(subprocess.check_output(["rt", "doc"], text=True).strip())
     for name in ("os", "libc"):
         sources = "".join(map(read, glob.glob(f"{kit}/rattle/{name}/src/**/*.rt", recursive=True)))
-        declared = re.findall(r'extern "C" {.*?^}', re.sub(r"//.*", "", sources), re.DOTALL | re.MULTILINE)
+        code = re.sub(r"//.*", "", sources)
+        declared = re.findall(r'extern "C" {.*?^}', code, re.DOTALL | re.MULTILINE)
         count = len(re.findall(r"\bfn \w", "".join(declared)))
         assert count > 0 and f"{count} of `{name}`" in said, count

@@ -1,10 +1,13 @@
-"""Tests of the table of wrong bodies, docs/EDITS.md: that it is what the edits say, and that each names a promise."""
+"""Tests of the table of wrong bodies, docs/EDITS.md: that it is what the edits say, and that each
+names a promise."""
 import types
 
 import edits
-from served import TOP
+from prove import write
+from served import TOP, read
 
-FOUND = [("low", "first", ("Part::call", "it does nothing")), ("low", "second", None), ("top", "third", ("run", "it runs twice"))]
+FOUND = [("low", "first", ("Part::call", "it does nothing")), ("low", "second", None),
+         ("top", "third", ("run", "it runs twice"))]
 TABLES = """
 ## `low`
 
@@ -22,9 +25,9 @@ TABLES = """
 
 
 def test_the_page_says_what_the_edits_say():
-    found = list(edits.edits())
+    found, pages = list(edits.edits()), [read(f"{TOP}/docs/{it}.md") for it in ("EDITS", "PROOFS")]
     assert len(found) > 100
-    assert edits.amiss(found, edits.read(f"{TOP}/docs/EDITS.md"), edits.read(f"{TOP}/docs/PROOFS.md")) == []
+    assert edits.amiss(found, *pages) == []
 
 
 def test_a_page_has_a_table_for_each_crate_behind_its_head():
@@ -41,13 +44,14 @@ def test_what_is_amiss_is_said():
 
 
 def test_an_edit_that_cannot_be_placed_is_said():
-    crates = [types.SimpleNamespace(name="low", bad={"first": "it changes nothing"}), types.SimpleNamespace(name="top", bad={})]
+    crates = [types.SimpleNamespace(name="low", bad={"first": "it changes nothing"}),
+              types.SimpleNamespace(name="top", bad={})]
     assert edits.unplaced(crates) == ["low/first: it changes nothing"]
 
 
 def test_an_edits_first_line_is_read(tmp_path):
-    folder = tmp_path / "crates" / "low" / "wrong"
-    folder.mkdir(parents=True)
-    (folder / "first.edit").write_text("# Part::call: it says `no`: twice\nfile: src/a.rt\nold: b\nnew: c\n", encoding="utf-8")
-    (folder / "second.edit").write_text("file: src/a.rt\nold: b\nnew: c\n", encoding="utf-8")
-    assert list(edits.edits(str(tmp_path))) == [("low", "first", ("Part::call", "it says `no`: twice")), ("low", "second", None)]
+    rest = "file: src/a.rt\nold: b\nnew: c\n"
+    for name, head in (("first", "# Part::call: it says `no`: twice\n"), ("second", "")):
+        write(tmp_path / "crates" / "low" / "wrong" / f"{name}.edit", head + rest)
+    says = "Part::call", "it says `no`: twice"
+    assert list(edits.edits(tmp_path)) == [("low", "first", says), ("low", "second", None)]

@@ -1,22 +1,25 @@
 """What is kept and what is forgotten where eight segments of 4,096 bytes are full.
 
-With `oldest` the first merge takes the first four segments, of 32 keys, and the second one what the first one left and three segments behind
-it. With `least-read` the first one takes three segments, of 24 keys, and what it leaves stands behind others, so the second one takes those
-of the keys 25 to 48. With a TTL whose bucket is 128 seconds wide and a tick of a second, segments are opened eight seconds apart, and
-`oldest` merges none; for `least-read` those of 64 seconds are opened at one moment, which end at 1,088. With `least-read` a key that is
-written again goes over its item: one of a segment that was opened at 1,088 and ends at 3,136, until 1,291, when 2,100 seconds end 255
+With `oldest` the first merge takes the first four segments, of 32 keys, and the second one what the
+first one left and three segments behind it. With `least-read` the first one takes three segments,
+of 24 keys, and what it leaves stands behind others, so the second one takes those of the keys 25
+to 48. With a TTL whose bucket is 128 seconds wide and a tick of a second, segments are opened eight
+seconds apart, and `oldest` merges none; for `least-read` those of 64 seconds are opened at one
+moment, which end at 1,088. With `least-read` a key that is written again goes over its item: one of
+a segment that was opened at 1,088 and ends at 3,136, until 1,291, when 2,100 seconds end 255
 seconds later.
 """
 import pytest
-from asking import END, STORED, TOUCHED, hit, hits
+from asking import END, STORED, hits
 from test_store_rows import SMALL, found, key, must_answer, put
 
 # (a segment holds eight items of this size)
 VALUE = b"v" * 476
 LEAST_READ = "--evict least-read"
 
-# The words; the TTL; how many keys are written; how often the first one is read before the 65th write; how often the last one is then
-# written again; and the first and the last key of each part that is forgotten, when all are read.
+# The words; the TTL; how many keys are written; how often the first one is read before the 65th
+# write; how often the last one is then written again; and the first and the last key of each part
+# that is forgotten, when all are read.
 RUNS = [
     ("", 0, 64, 0, 0, []),
     ("", 0, 65, 0, 0, [(1, 24)]),
@@ -47,12 +50,13 @@ def test_merges_keep_what_was_read(program, words, ttl, writes, reads, again, fo
     must_answer(program, rows, *SMALL, *words.split())
 
 
-# Nine keys are written, each with a life of its own: eight times its number of seconds. They stand in nine buckets, of which eight have a
-# segment. Of the first quarter, the segments of the first two keys, the first one has fewest hits, unless the first key was read or touched.
-# The eighth segment that is opened halves all hits.
+# Nine keys are written, each with a life of its own: eight times its number of seconds. They stand
+# in nine buckets, of which eight have a segment. Of the first third, the segments of the first
+# two keys, the first one has fewest hits, unless the first key was read or touched. The eighth
+# segment that is opened halves all hits.
 #
-# The words; how often the first key is read before and after the eighth write, and how often it is touched after it; the key that is
-# forgotten.
+# The words; how often the first key is read before and after the eighth write, and how often it is
+# touched after it; the key that is forgotten.
 LIVES = [
     ("", 0, 0, 0, 1),
     ("--evict oldest", 3, 3, 0, 1),
@@ -70,7 +74,7 @@ LIVES = [
 def test_the_oldest_or_the_least_read_is_cleared(program, words, before, after, touches, forgotten):
     keys = [b"k%d" % number for number in range(1, 10)]
     sets = [(put(it, 8 * number, b"x"), STORED) for number, it in enumerate(keys, 1)]
-    read, touch = (b"get k1\r\n", hit(b"k1", b"x")), (b"touch k1 8\r\n", TOUCHED)
+    read, touch = ("get k1|", "VALUE k1 0 1|x|END|"), ("touch k1 8|", "TOUCHED|")
     rows = [*sets[:7], *[read] * before, sets[7], *[read] * after, *[touch] * touches, sets[8]]
     shown = b"".join(hits(it, b"x") for it in keys if it != keys[forgotten - 1])
     rows.append((b"get %b\r\n" % b" ".join(keys), shown + END))

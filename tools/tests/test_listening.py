@@ -1,12 +1,12 @@
-"""Where `segcached serve` listens: its first lines, its end after a number of sessions, and each
-refusal in its words."""
+"""Where `segcached serve` listens: its first lines, its end after a number of sessions, several
+addresses, sockets at paths, and each refusal in its words."""
 import contextlib
-import ctypes
 import os
 import re
 import resource
 import select
 import socket
+import stat
 import subprocess
 import time
 
@@ -14,22 +14,18 @@ import pytest
 import served
 import tries
 from asking import END, SET_AND_GET, SET_AND_GET_ANSWER, ask, ask_set_and_get, opened
+from pymemcache.client.base import Client
 from served import ended, read_to_end
-from stats_of import wait_for
+from stats_of import told, wait_for
 
 PORT, ASKED = "127.0.0.1:0", b"get a\r\n"
+LIMIT = resource.RLIMIT_NOFILE
 
 
-def must_not_listen(program, address, cause, status=3, **how):
-    """Status 2 is for wrong options, 3 for a taken address. A line feed is shown as `\\n`."""
-    shown = address.replace("\n", "\\n")
-    said = f"fault: cannot listen on {shown}: {cause}\n".encode()
-    assert ended(program, "serve", "--listen", address, **how) == (status, b"", said)
-
-
-def test_it_prints_its_real_port_and_ends_after_its_sessions(serve):
-    server = serve("--sessions", "2")
-    assert re.fullmatch(r"listening on 127\.0\.0\.1:[1-9][0-9]*\n", server.first_line)
+@pytest.mark.parametrize("host", ["127.0.0.1", "[::1]"])
+def test_it_prints_its_real_port_and_ends_after_its_sessions(serve, host):
+    server = serve("--sessions", "2", listen=f"{host}:0")
+    assert re.fullmatch(rf"listening on {re.escape(host)}:[1-9][0-9]*\n", server.first_line)
     with server.connect() as first, server.connect() as second:
         for stream, key in ((first, b"a"), (second, b"b")):
             stream.sendall(SET_AND_GET % (key, key) + b"quit\r\n")
@@ -53,11 +49,10 @@ def test_it_says_on_standard_error_first_which_options_are_in_force(serve, words
 
 
 def test_with_few_descriptors_it_serves_all_of_its_sessions_and_then_ends(serve):
-    """A connection that couldn't be accepted yet doesn't count."""
-    server = serve("--workers", "1", "--sessions", "200", limits={resource.RLIMIT_NOFILE: 40})
+    """Later ones are accepted once the first ones have gone. One that waits doesn't count."""
+    server = serve("--workers", "1", "--sessions", "200", limits={LIMIT: 40})
     for _ in range(4):
-        # (more than there are descriptors for: the later ones are accepted once the first ones have gone)
-        for stream in opened(server, 50, b"get a\r\nquit\r\n"):
+        for stream in opened(server, 50, ASKED + b"quit\r\n"):
             assert read_to_end(stream) == END
             stream.close()
     assert server.process.wait(20) == 0
@@ -75,21 +70,22 @@ def test_those_that_wait_for_a_full_worker_are_served_after_the_last_one_was_acc
     assert server.process.wait(20) == 0
 
 
+# ---- while its workers are full
+
 TOO_MANY = b"ERROR Too many open connections\r\n"
-# How many connections one worker serves, how many wait for it, and how many probes get in beside these.
+# How many connections one worker serves, how many wait for it, and how many probes get in beside.
 SERVED, WAITING, PROBES = 1024, 64, 4
-# For `full`: a lenient server at a port, and one at a path.
-AT_PORT_OR_PATH = pytest.mark.parametrize(
-    "full", [(PORT, "--lenient"), ("unix:{}/cache", "--lenient")], ids=["port", "path"],
-    indirect=True)
 
 
-@pytest.fixture
-def full(serve, request, tmp_path):
+def filled(serve, *words, listen=PORT):
     """A server whose worker serves all that it can, and these connections."""
-    listen, *words = request.param
-    server = serve("--workers", "1", *words, listen=listen.format(tmp_path))
+    server = serve("--workers", "1", *words, listen=listen)
     return server, opened(server, SERVED, ASKED, END)
+
+
+@pytest.fixture(params=[PORT, "unix:{}/cache"], ids=["port", "path"])
+def full(serve, request, tmp_path):
+    return filled(serve, "--lenient", listen=request.param.format(tmp_path))
 
 
 def are_silent(streams):
@@ -100,10 +96,10 @@ def are_silent(streams):
     return not poll.poll(300)
 
 
-@pytest.mark.parametrize("full", [(PORT, "--lenient"), (PORT,)], ids=["lenient", "strict"], indirect=True)
-def test_one_for_which_there_is_no_room_is_told_so(full):
+@pytest.mark.parametrize("words", [["--lenient"], []], ids=["lenient", "strict"])
+def test_one_for_which_there_is_no_room_is_told_so(serve, words):
     """Also one that has sent a request already. Those that wait are served in their turn."""
-    server, streams = full
+    server, streams = filled(serve, *words)
     waiting = opened(server, WAITING)
 
     def time_until_refused():
@@ -123,9 +119,8 @@ def test_one_for_which_there_is_no_room_is_told_so(full):
         ask(stream, b"", END)
 
 
-@AT_PORT_OR_PATH
 @pytest.mark.parametrize("request_line, answer", [
-    (b"get health\r\n", b"END\r\n"), (b"version\r\n", b"VERSION "), (b"stats\r\n", b"STAT "),
+    ("get health|", END), ("version|", b"VERSION "), ("stats|", b"STAT "),
 ], ids=["get health", "version", "stats"])
 def test_probes_get_in_while_it_is_full(full, request_line, answer):
     """Once all places are taken a further one gets in when one of the probes has gone."""
@@ -134,32 +129,12 @@ def test_probes_get_in_while_it_is_full(full, request_line, answer):
     time.sleep(0.2)
     for stream in probes:
         ask(stream, request_line, answer)
-    last.sendall(request_line)
+    ask(last, request_line, b"")
     assert are_silent([last])
     probes[0].close()
     ask(last, b"", answer)
 
 
-def test_3000_connections_of_one_worker_are_served(serve):
-    server = serve("--lenient", "--workers", "1", "--connections", "4096")
-    streams = opened(server, 3000, ASKED, END)
-    for number in (0, 1500, 2999):
-        ask_set_and_get(streams[number], b"key-%d" % number)
-    wait_for(streams[0], curr_connections=3000, max_connections=4096, accepting_conns=1)
-    assert are_silent(streams)
-
-
-@pytest.mark.parametrize("connections, workers", [(3, 1), (3, 2), (1500, 1)])
-def test_a_worker_serves_as_many_connections_as_it_is_told(serve, connections, workers):
-    server = serve("--connections", str(connections), "--workers", str(workers))
-    streams = opened(server, connections * workers, ASKED, END)
-    waiting, = opened(server, 1, ASKED)
-    assert are_silent([waiting])
-    streams[-1].close()
-    ask(waiting, b"", END)
-
-
-@AT_PORT_OR_PATH
 def test_another_request_gets_in_no_sooner(full):
     server, _ = full
     opened(server, WAITING)
@@ -167,7 +142,6 @@ def test_another_request_gets_in_no_sooner(full):
     assert read_to_end(stream) == TOO_MANY
 
 
-@AT_PORT_OR_PATH
 def test_the_probe_passes_a_full_server(full):
     """Also while connections beyond those that wait come without end."""
     server, _ = full
@@ -176,77 +150,165 @@ def test_the_probe_passes_a_full_server(full):
         assert subprocess.run(server.probe(), timeout=20).returncode == 0
 
 
+@pytest.mark.parametrize("connections, workers", [(3, 1), (3, 2), (3000, 1)])
+def test_a_worker_serves_as_many_connections_as_it_is_told(serve, connections, workers):
+    server = serve("--connections", str(connections), "--workers", str(workers))
+    streams = opened(server, connections * workers, ASKED, END)
+    ask_set_and_get(streams[0], b"b")
+    waiting, = opened(server, 1, ASKED)
+    assert are_silent([waiting])
+    streams[-1].close()
+    ask(waiting, b"", END)
+
+
 def test_standard_error_that_nobody_reads_stops_nothing(program):
-    """What it has to say there, of connections that it can't accept too, finds a pipe that is full."""
+    """What it has to say there, of connections that it can't accept too, finds a full pipe."""
     reading, writing = os.pipe()
     os.set_blocking(writing, False)
     with contextlib.suppress(BlockingIOError):
         while True:
             os.write(writing, bytes(4096))
     os.set_blocking(writing, True)
-    with served.Server(program, limits={resource.RLIMIT_NOFILE: 40}, stderr=writing) as server:
+    with served.Server(program, limits={LIMIT: 40}, stderr=writing) as server:
         for _ in range(2):
             streams = opened(server, 60)
             time.sleep(0.2)
             for stream in streams:
                 stream.close()
-        with server.connect() as stream:
-            ask(stream, ASKED, END)
+        ask(server.connect(), ASKED, END)
     for end in (reading, writing):
         os.close(end)
 
 
-def test_it_serves_over_ipv6(serve):
-    server = serve("--sessions", "1", listen="[::1]:0")
-    assert re.fullmatch(r"listening on \[::1\]:[1-9][0-9]*\n", server.first_line)
-    with server.connect() as stream:
-        ask_set_and_get(stream, b"a")
-    assert server.process.wait(20) == 0
+# ---- several addresses, and paths
+
+@pytest.fixture
+def path(tmp_path):
+    return str(tmp_path / "cache.sock")
 
 
-NO_ADDRESSES = (
-    "nothing", "localhost:0", "127.0.0.1", "127.0.0.1:", "127.0.0.1:x", "127.0.0.1:65536",
-    "127.0.0.256:0", "127.0.0.1:0 ", ":0", "[::1:0", "", "127.0.0.1\n:0")
+def test_all_addresses_of_ipv6_are_those_of_ipv4_too(serve):
+    server = serve(listen="[::]:0")
+    server.host = "127.0.0.1"
+    ask(server.connect(), ASKED, END)
 
 
-@pytest.mark.parametrize("address", NO_ADDRESSES)
-def test_what_is_no_address_with_a_port_is_refused(program, address):
-    must_not_listen(program, address, "not an IP address and a port", 2)
+def test_all_addresses_show_one_cache(serve, path):
+    server = serve("--listen", f"unix:{path}", "--listen", "127.0.0.2:0", "--lenient")
+    ask(server.connect(), "set a 0 0 1|x|", "STORED|")
+    server.path = path
+    other = server.connect()
+    ask(other, ASKED, "VALUE a 0 1|x|END|")
+    assert int(wait_for(other, curr_connections=2)["tcpport"]) == server.port
 
 
-# (the first is of a network for examples, which no machine has)
-@pytest.mark.parametrize("address", ["192.0.2.1:0", "[2001:db8::1]:0"])
-def test_an_address_of_another_machine_is_refused(program, address):
-    must_not_listen(program, address, "the address is not of this machine")
+def test_eight_addresses_are_taken_and_no_more(serve, program, tmp_path):
+    paths = [str(tmp_path / f"{number}") for number in range(8)]
+    words = [word for it in paths[1:] for word in ("--listen", f"unix:{it}")]
+    server = serve(*words, listen=f"unix:{paths[0]}")
+    for it in paths:
+        server.path = it
+        ask(server.connect(), ASKED, END)
+    status, _, said = ended(program, "serve", "--listen", PORT, *words, "--listen", "unix:/9")
+    assert status == 2 and b"--listen may be given 8 times at most" in said
 
 
-def test_a_port_that_another_server_or_program_has_is_refused(program, serve):
+def test_a_path_alone_is_told_as_it_is(serve, path):
+    server = serve("--lenient", listen=f"unix:{path}")
+    assert server.first_line == f"listening on unix:{path}\n"
+    stream = server.connect()
+    ask_set_and_get(stream, b"a")
+    assert told(stream)["tcpport"] == "0"
+    client = Client(path, timeout=20)
+    assert client.set("a", b"x") and client.get("a") == b"x" and client.incr("none", 1) is None
+
+
+@pytest.mark.parametrize("words, mode", [
+    ([], 0o700), (["--socket-mode", "0660"], 0o660), (["--socket-mode", "777"], 0o777)])
+def test_the_file_has_the_mode(serve, path, words, mode):
+    serve(*words, listen=f"unix:{path}")
+    found = os.stat(path).st_mode
+    assert stat.S_ISSOCK(found) and stat.S_IMODE(found) == mode
+
+
+@pytest.mark.parametrize("mode", ["1000", "8", "", "-1", "0o7"])
+def test_other_modes_are_refused(program, path, mode):
+    words = "serve", "--listen", f"unix:{path}", f"--socket-mode={mode}"
+    status, out, said = ended(program, *words)
+    assert (status, out) == (2, b"") and b"--socket-mode" in said and not os.path.exists(path)
+
+
+def test_an_old_socket_is_replaced(program, path):
+    for _ in range(2):
+        # (it is killed, so its file stays)
+        with served.Server(program, listen=f"unix:{path}") as server:
+            ask(server.connect(), ASKED, END)
+        assert os.path.exists(path)
+
+
+# ---- where it can't listen
+
+def must_not_listen(program, address, cause, status=3, words=(), under=()):
+    """Status 2 is for wrong options, 3 for a taken address. A line feed is shown as `\\n`."""
+    shown = address.replace("\n", "\\n")
+    said = f"fault: cannot listen on {shown}: {cause}\n".encode()
+    found = ended(*under, program, "serve", *words, "--listen", address)
+    assert found == (status, b"", said)
+
+
+# (those of other machines are of networks for examples, which no machine has)
+REFUSED = {
+    ("not an IP address and a port", 2): (
+        "nothing", "localhost:0", "127.0.0.1", "127.0.0.1:", "127.0.0.1:x", "127.0.0.1:65536",
+        "127.0.0.256:0", "127.0.0.1:0 ", ":0", "[::1:0", "", "127.0.0.1\n:0"),
+    ("the address is not of this machine", 3): ("192.0.2.1:0", "[2001:db8::1]:0"),
+    ("a socket's path has 1 to 107 bytes", 2): ("unix:", "unix:/" + "x" * 107),
+    ("there is no such folder", 3): ("unix:/none/a",),
+}
+
+
+@pytest.mark.parametrize("address, cause, status", [
+    (address, *why) for why, addresses in REFUSED.items() for address in addresses])
+def test_an_address_that_cannot_be_is_refused(program, address, cause, status):
+    must_not_listen(program, address, cause, status)
+
+
+def test_a_port_that_another_server_or_program_has_is_refused(program, serve, path):
+    """It is named where it stands behind another address, too."""
     with socket.create_server(("127.0.0.1", 0)) as other:
         for port in (serve().port, other.getsockname()[1]):
-            must_not_listen(program, f"127.0.0.1:{port}", "the port is taken")
+            for words in ([], ["--listen", f"unix:{path}"]):
+                must_not_listen(program, f"127.0.0.1:{port}", "the port is taken", words=words)
 
 
-PR_CAPBSET_DROP, CAP_NET_BIND_SERVICE = 24, 10
+def test_a_socket_on_which_another_program_listens_stays(serve, program, path):
+    server = serve(listen=f"unix:{path}")
+    must_not_listen(program, f"unix:{path}", "another program listens there")
+    ask(server.connect(), ASKED, END)
 
 
-def without_low_ports():
-    """What is executed from here on may not bind ports that are kept for the privileged."""
-    dropped = ctypes.CDLL(None).prctl(PR_CAPBSET_DROP, CAP_NET_BIND_SERVICE, 0, 0, 0)
-    assert dropped == 0 or os.geteuid() != 0
+def test_other_files_stay(program, tmp_path):
+    file, link = tmp_path / "file", tmp_path / "link"
+    file.write_text("kept", encoding="ascii")
+    link.symlink_to(file)
+    for it in (file, link, tmp_path):
+        must_not_listen(program, f"unix:{it}", "a file stands there that is no socket")
+    assert file.read_text(encoding="ascii") == "kept" and link.is_symlink()
 
 
 def test_a_port_that_it_may_not_use_is_refused(program):
     if int(served.read("/proc/sys/net/ipv4/ip_unprivileged_port_start")) < 2:
         pytest.skip("anybody may use any port here")
-    must_not_listen(program, "127.0.0.1:1", "permission denied", preexec_fn=without_low_ports)
+    under = [] if os.geteuid() else ["setpriv", "--bounding-set", "-net_bind_service"]
+    must_not_listen(program, "127.0.0.1:1", "permission denied", under=under)
 
 
 # (three are the standard streams; the listener has a socket and its poll, and each of two workers a
 # poll and a pair of sockets)
 @pytest.mark.parametrize("descriptors", range(4, 11))
 def test_without_descriptors_for_all_that_listens_it_is_refused(program, descriptors):
-    limit = lambda: resource.setrlimit(resource.RLIMIT_NOFILE, (descriptors, descriptors))
-    must_not_listen(program, PORT, "too few descriptors", preexec_fn=limit)
+    under = ["prlimit", f"--nofile={descriptors}"]
+    must_not_listen(program, PORT, "too few descriptors", under=under)
 
 
 TOO_LARGE_ITEM = b"fault: the largest item does not fit a segment\n"
@@ -265,6 +327,6 @@ def test_sizes_that_do_not_fit_are_told(program, words, said):
 
 
 def test_where_the_first_line_cannot_be_written_it_ends(program):
-    with open("/dev/full", "wb") as full:
-        status, _, said = ended(program, "serve", "--listen", PORT, stdout=full)
+    with open("/dev/full", "wb") as full_device:
+        status, _, said = ended(program, "serve", "--listen", PORT, stdout=full_device)
     assert status == 1 and said.splitlines()[-1] == b"fault: cannot write"

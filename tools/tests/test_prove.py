@@ -1,190 +1,218 @@
-"""Tests of what comes before and around the proofs: what is kept, and what `make run` says if something is missing.
-They prove nothing and take a few seconds.
+"""Tests of what comes before and around the proofs: what is kept and recorded, the version of the
+package, and what `make run` says if something is missing. They prove nothing and take a few
+seconds.
 """
 import os
 import re
 import shutil
 import signal
+import subprocess
 import sys
 import threading
 import time
 
-import machine
 import prove
 import pytest
-from served import TOP, ended, read
-
-# base is below all; left and right stand on it, top on both; aside stands on base alone.
-CRATES = {"base": [], "left": ["base"], "right": ["base"], "aside": ["base"], "top": ["left", "right"]}
-LINES = {"base": 20, "left": 50, "right": 10, "aside": 5, "top": 10}
+from served import TOP, ended, read, version
 
 
-def test_the_longest_way_goes_through_what_is_left():
-    ways = {"base": 80, "left": 60, "right": 20, "aside": 5, "top": 10}
-    assert prove.ways_to_the_top(CRATES, LINES) == ways
-    left = {name: LINES[name] for name in ("right", "aside", "top")}
-    assert prove.ways_to_the_top(CRATES, left)["right"] == 20
-    assert prove.ways_to_the_top(CRATES, {}) == {}
+def test_each_crate_of_the_repository_has_a_line():
+    folder = f"{TOP}/crates"
+    crates = {it for it in os.listdir(folder) if os.path.isdir(f"{folder}/{it}/src")}
+    assert set(prove.read_crates()) == crates
 
 
-def test_those_with_the_longest_way_start_first(monkeypatch):
-    ways = prove.ways_to_the_top(CRATES, LINES)
-    monkeypatch.setattr(machine, "at_once", lambda: 2)
-    for proved, running, started in (
-        ([], [], ["base"]), (["base"], [], ["left", "right"]), (["base"], ["left"], ["right"]),
-        (["base"], ["left", "right"], []), (["base", "right"], ["left"], ["aside"]),
-        (["base", "left", "right", "aside"], [], ["top"]),
-    ):
-        assert prove.to_start(CRATES, ways, set(proved), dict.fromkeys(running)) == started
+LOG = """\
+== low: its tests
+logic=proved tests=3 functions=9 main=Abort
+rt: low: its tests are proved
+== low
+fn low::echo: proved
+logic=proved functions=7 sum=5f
+rt: low proved
+== high
+fn high::main: not proved
+logic=not-proved functions=2
+rt: high NOT PROVED
+rt: other is kept: an earlier run on this machine proved the same files
+3 passed, 1 failed
+"""
 
 
-def test_the_one_with_the_longest_way_of_all_has_all_processors(monkeypatch):
-    ways = prove.ways_to_the_top(CRATES, LINES)
-    monkeypatch.setattr(machine, "processors", lambda: 4)
-    assert prove.copies_for("base", ways, set()) == 4
-    assert [prove.copies_for(it, ways, {"base"}) for it in ("left", "right", "aside")] == [4, 1, 1]
-    assert [prove.copies_for(it, ways, {"base", "left"}) for it in ("right", "aside")] == [4, 1]
+def test_a_log_says_what_was_proved_of_each_crate_and_not_of_its_tests(tmp_path):
+    (tmp_path / "log").write_text(LOG)
+    found, last = prove.verdicts_of_log(tmp_path / "log")
+    assert found["low"] == "logic=proved functions=7 sum=5f"
+    assert "high" not in found
+    assert found["other"] == "kept: an earlier run on this machine proved the same files"
+    assert last == "3 passed, 1 failed"
 
 
-def test_a_library_leaves_its_statements_and_the_program_its_object():
-    prover = prove.Prover("/kit")
-    assert "--statements" in prover.words("net", 1) and "--toolchain" not in prover.words("net", 1)
-    assert "--statements" not in prover.words("segcached", 4) and "--toolchain" in prover.words("segcached", 4)
-    assert ["--jobs", "4"] == prover.words("net", 4)[4:6]
-
-
-def test_each_crate_of_the_repository_has_lines():
-    crates, folder = prove.read_crates(), f"{TOP}/crates"
-    assert set(crates) == {it for it in os.listdir(folder) if os.path.isdir(f"{folder}/{it}/src")}
-    assert prove.lines_of("proto") > prove.lines_of("segcached") > 10
+def test_the_program_names_its_version_and_the_logic_that_it_is_proved_with(program):
+    lines = prove.output_of(program, "--version").splitlines()
+    assert lines[0] == f"segcached {version()}"
+    assert lines[1] == f"proved with Rattle's {prove.logic()}"
 
 
 @pytest.fixture
-def repository(tmp_path, monkeypatch):
-    """A small repository whose program is kept."""
-    (tmp_path / "crates.txt").write_text("# what stands here\nlow:\nhigh: low bytes\nlow_tests: low\n")
+def commit(tmp_path):
+    """Makes a commit of all files at a moment, and says its hash."""
+    def git(*words, **variables):
+        name = ("-c", "user.name=a", "-c", "user.email=a@example")
+        return prove.output_of("git", *name, *words, folder=tmp_path, **variables)
+
+    def make(moment):
+        git("add", "--all")
+        git("commit", "--quiet", "--allow-empty", "--message", moment, GIT_COMMITTER_DATE=moment)
+        return git("rev-parse", "HEAD")
+
+    git("init", "--quiet")
+    return make
+
+
+def test_the_package_of_a_later_commit_is_newer(commit, tmp_path):
+    moments = ["2026-11-27T09:59:59+0000", "2026-11-27T10:00:00+0000", "2026-11-27T19:00:01+0900",
+               "2026-11-27T10:30:00+0000", "2026-11-28T00:00:00+0000"]
+    commits = [commit(moment) for moment in moments]
+    versions = [prove.package_version("0.6.0", it, tmp_path) for it in commits]
+    changed = prove.package_version("0.6.0", f"{commits[-1]}{prove.CHANGED}", tmp_path)
+    assert versions[2] == f"0.6.0+20261127.100001.g{commits[2][:7]}"
+    versions = ["0.1.0", "0.6.0", *versions, "0.6.1+20250101.000000.g0000000"]
+    for earlier, later in zip(versions, versions[1:]):
+        subprocess.run(["dpkg", "--compare-versions", later, "gt", earlier], check=True)
+    date = r"0\.6\.0\+[0-9]{8}\.[0-9]{6}"
+    assert re.fullmatch(rf"{date}\.g{commits[-1][:7]}\.changed", changed)
+
+
+# In place of the kit's: it says of each crate whether it is proved, and makes the program.
+RT = """#!/bin/bash
+[ "$*" = version ] && { echo "a kit"; exit; }
+[ "$*" = ci ] || exit 9
+grep -rq SLOW crates && { echo "rt: low proved"; sleep 60; }
+grep -rq WRONG crates && { echo "rt: low NOT PROVED"; echo "0 passed, 2 failed"; exit 1; }
+for name in low high; do
+  printf '%s\\n' "== $name" "logic=proved functions=1" "rt: $name proved"
+done
+mkdir -p crates/high/out
+printf '#!/bin/sh\\necho high 1.2.3\\n' >crates/high/out/high
+chmod 755 crates/high/out/high
+echo "with "$(ls crates) "and "$(ls crates/low)
+cat crates.txt HANDLES
+echo "2 passed, 0 failed"
+"""
+
+
+@pytest.fixture
+def unproved(tmp_path, monkeypatch, commit):
+    """A small repository with nothing proved, and a kit that isn't one."""
+    lines = "# what stands here\nlow:\nhigh: low bytes\nlow_tests: low\n"
+    (tmp_path / "crates.txt").write_text(lines)
     (tmp_path / "HANDLES").write_text("Handles allowed: none.\n")
+    (tmp_path / ".gitignore").write_text("out/\n")
     for name, root in (("low", "lib.rt"), ("high", "main.rt"), ("low_tests", "lib.rt")):
-        prove.write(f"{tmp_path}/crates/{name}/src/{root}", f"// {name}\n")
-        prove.write(f"{tmp_path}/crates/{name}/wrong/wrong.edit", "file: src/lib.rt\n")
-    prove.write(f"{tmp_path}/crates/high/out/high", "a program")
-    monkeypatch.setattr(prove, "TOP", str(tmp_path))
+        prove.write(tmp_path / "crates" / name / "src" / root, f"// {name}\n")
+        prove.write(tmp_path / "crates" / name / "wrong" / "one.edit", "file: src/lib.rt\n")
+    prove.write(tmp_path / "kit" / "rt", RT)
+    (tmp_path / "kit" / "rt").chmod(0o755)
+    monkeypatch.setenv("PATH", f"{tmp_path}/kit:{os.environ['PATH']}")
     monkeypatch.setattr(prove, "NAME", "high")
+    monkeypatch.setattr(prove, "TOP", str(tmp_path))
     monkeypatch.setattr(prove, "PROGRAM", str(tmp_path / "crates" / "high" / "out" / "high"))
-    prove.keep()
-    return tmp_path
-
-
-def test_what_is_kept_is_known(repository):
-    assert prove.read_crates() == {"low": [], "high": ["low"], "low_tests": ["low"]}
-    assert prove.is_kept()
-
-
-# Files of crates, and whether the program stands on them.
-CHANGED = {
-    "low/src/lib.rt": True, "high/src/main.rt": True, "high/stdout": True, "high/out/high": True,
-    "low/wrong/wrong.edit": False, "low_tests/src/lib.rt": False,
-}
-
-
-@pytest.mark.parametrize("path", CHANGED)
-def test_a_change_of_what_the_program_stands_on_is_seen(repository, path):
-    (repository / "crates" / path).write_text("changed")
-    assert prove.is_kept() != CHANGED[path]
-
-
-@pytest.mark.parametrize("path", ["high/out/high", "high/out/high.kept"])
-def test_what_is_gone_is_seen(repository, path):
-    (repository / "crates" / path).unlink()
-    assert not prove.is_kept()
-
-
-def test_a_new_file_and_another_logic_are_seen(repository, monkeypatch):
-    prove.write(more := repository / "crates/low/specs/More.antt", "")
-    assert not prove.is_kept()
-    more.unlink()
-    assert prove.is_kept()
-    monkeypatch.setattr(machine, "logic", lambda: "another")
-    assert not prove.is_kept()
-
-
-# In place of the prover: it writes what it was asked for, and refuses a crate whose source says so.
-PROVER = """#!/bin/bash
-words=("$@")
-while [ $# -gt 1 ]; do [ "$1" != -o ] || { mkdir -p "$(dirname "$2")"; echo made >"$2"; }; shift; done
-grep -q SLOW "$1" && sleep 60
-grep -q WRONG "$1" && { echo logic=not-proved; exit 1; }
-echo "called with ${words[*]}"
-echo "logic=proved functions=1"
-"""
-LINKER = """#!/bin/bash
-while [ $# -gt 1 ]; do [ "$1" != -o ] || echo "a program" >"$2"; shift; done
-"""
+    commit("2026-11-27T10:00:00+0000")
+    handlers = {it: signal.getsignal(it) for it in prove.ENDS}
+    yield tmp_path
+    for number, handler in handlers.items():
+        signal.signal(number, handler)
 
 
 @pytest.fixture
-def unproved(repository, monkeypatch):
-    """The small repository with nothing proved, and a kit that isn't one."""
-    kit = repository / "kit"
-    for path, text in (("bin/rattle", PROVER), ("bin/rattle-link", LINKER), ("bin/rt", f"#!/bin/sh\necho {kit}/START\n")):
-        prove.write(kit / path, text)
-        (kit / path).chmod(0o755)
-    monkeypatch.setenv("PATH", f"{kit}/bin:{os.environ['PATH']}")
-    monkeypatch.setattr(prove, "PROOFS", str(repository / "out" / "proofs"))
-    monkeypatch.setattr(prove, "LIBRARIES", str(repository / "out" / "proofs" / "libraries"))
-    (repository / "out" / "proofs" / "libraries").mkdir(parents=True)
-    shutil.rmtree(repository / "crates" / "high" / "out")
-    return repository
+def repository(unproved, capsys):
+    """The small repository once its program is proved."""
+    assert prove.prove() == 0
+    return unproved
 
 
-def test_crates_are_proved_over_those_below_and_the_program_is_linked(unproved, capsys):
-    assert prove.prove([]) == 0
+def proved_in(capsys):
+    """The crates that a run says are proved, with their numbers."""
+    return re.findall(r"^ +(\d of \d  \w+) ", capsys.readouterr().out, re.MULTILINE)
+
+
+def test_the_crates_of_the_program_alone_are_proved_without_their_wrong_bodies(unproved, capsys):
+    assert prove.prove() == 0
+    assert proved_in(capsys) == ["1 of 2  low", "2 of 2  high"]
+    log = (unproved / "crates" / "high" / "out" / "high.log").read_text().splitlines()
+    assert "with high low and src" in log and {"low: ", "high: low bytes"} < set(log)
+    assert "Handles allowed: none." in log
+    assert log[-1] == "2 passed, 0 failed"
     assert prove.is_kept()
-    said = capsys.readouterr().out.splitlines()
-    assert [line.split()[:4] for line in said[1:]] == [["1", "of", "2", "low"], ["2", "of", "2", "high"]]
-    log = (unproved / "crates" / "high" / "out" / "high.log").read_text()
-    assert re.findall(r"^== \w+|^logic=.*", log, re.MULTILINE) == ["== high", "logic=proved functions=1", "== low", "logic=proved functions=1"]
-    libraries = f"{unproved}/out/proofs/libraries"
-    assert f"--extern low={libraries}/low.rlib --extern bytes={unproved}/kit/rlibs/bytes.rlib" in log
-    assert log.splitlines()[-1] == "2 crates proved"
+    # (a copy of sources, which `rt ci` of the repository would refuse, isn't left)
+    assert {it.parent.name for it in unproved.rglob("*.rt")} == {"src"}
+    assert not (unproved / "out").exists()
 
 
-def test_what_was_proved_is_not_proved_again(unproved, capsys):
-    assert prove.prove([]) == 0
-    (unproved / "crates" / "high" / "src" / "main.rt").write_text("changed")
-    capsys.readouterr()
-    assert prove.prove([]) == 0
-    said = capsys.readouterr().out.splitlines()
-    assert said[0] == "1 of 2 crates are proved, and nothing has changed since."
-    assert [line.split()[:4] for line in said[2:]] == [["2", "of", "2", "high"]]
+def test_the_record_says_what_was_proved_of_which_files_and_by_which_kit(repository):
+    record = prove.read_record(prove.PROGRAM)
+    assert record["files"] == prove.output_of("git", "rev-parse", "HEAD^{tree}", folder=repository)
+    assert record["commit"] == prove.output_of("git", "rev-parse", "HEAD", folder=repository)
+    assert (record["kit"], record["low"]) == ("a kit", "logic=proved functions=1")
+    assert record["run"] == "2 passed, 0 failed, with no tests and no wrong bodies"
+    assert read(f"{repository}/crates/high/out/PROVED").startswith("high 1.2.3\n")
 
 
-def test_a_crate_that_is_refused_ends_the_run_and_is_named(unproved, capsys):
+def test_there_is_no_record_of_files_that_changed_while_they_were_proved(unproved, monkeypatch):
+    sums = iter(["before", "after"])
+    monkeypatch.setattr(prove, "sum_or_none", lambda: next(sums))
+    assert prove.prove() == 0
+    assert not prove.read_record(prove.PROGRAM) and not prove.is_kept()
+
+
+def test_a_crate_that_an_earlier_run_proved_is_counted(unproved, capsys):
+    said = RT.replace("$name proved", "$name is kept: an earlier run")
+    prove.write(unproved / "kit" / "rt", said)
+    assert prove.prove() == 0
+    assert proved_in(capsys) == ["1 of 2  low", "2 of 2  high"]
+
+
+def test_a_crate_that_is_refused_is_named(unproved, capsys):
     (unproved / "crates" / "low" / "src" / "lib.rt").write_text("WRONG")
-    assert prove.prove([]) == 1
-    said = capsys.readouterr().out
-    assert "logic=not-proved" in said and said.splitlines()[-1].startswith("low isn't proved. ")
-    assert not prove.is_proved("low") and not prove.is_kept()
+    assert prove.prove() == 1
+    assert "rt: low NOT PROVED\n" in capsys.readouterr().out
+    assert not prove.is_kept()
 
 
-def test_an_interrupt_ends_what_runs_and_keeps_what_is_proved(unproved, capsys):
+def test_an_interrupt_ends_what_runs_and_says_what_is_proved(unproved, capsys):
     (unproved / "crates" / "high" / "src" / "main.rt").write_text("SLOW")
-    came = []
-    threading.Timer(2, came.append, [signal.SIGINT]).start()
+    threading.Timer(2, os.kill, [os.getpid(), signal.SIGINT]).start()
     began = time.monotonic()
-    assert prove.prove(came) == prove.INTERRUPTED
+    assert prove.prove() == prove.INTERRUPTED
     assert time.monotonic() - began < 10
-    assert prove.is_proved("low")
-    assert capsys.readouterr().out.splitlines()[-1].startswith("Interrupted: 1 of 2 crates are proved and kept")
+    said = capsys.readouterr().out.splitlines()[-1]
+    assert said.startswith("Interrupted: 1 of 2 crates are proved and kept")
+
+
+@pytest.mark.parametrize("path", [
+    "crates/low/src/lib.rt", "crates/high/src/main.rt", "crates/high/stdout", "README.md",
+    "crates/low/specs/More.antt", "crates/high/out/high"])
+def test_a_change_is_seen(repository, path):
+    assert prove.is_kept()
+    prove.write(repository / path, "changed")
+    assert not prove.is_kept()
+
+
+@pytest.mark.parametrize("name", ["high", "PROVED"])
+def test_what_is_gone_is_seen(repository, name):
+    (repository / "crates" / "high" / "out" / name).unlink()
+    assert not prove.is_kept()
 
 
 def test_the_readme_names_the_logic():
-    assert f"`{machine.logic()}`" in read(f"{TOP}/README.md")
+    assert f"`{prove.logic()}`" in read(f"{TOP}/README.md")
 
 
 def memory_file(folder, gigabytes):
     path = folder / "meminfo"
-    path.write_text(f"MemTotal:       99999999 kB\nMemFree: 1 kB\nMemAvailable:   {int(gigabytes * 1024**2)} kB\n")
+    lines = "MemTotal:       99999999 kB\nMemFree: 1 kB\nMemAvailable:   %d kB\n"
+    path.write_text(lines % (gigabytes * 1024**2))
     return str(path)
 
 
@@ -196,18 +224,18 @@ def test_free_memory_is_that_of_the_machine_or_of_its_group(tmp_path):
     memory, none = memory_file(tmp_path, 16), "/no/such/file"
     for limits, free in (([], 16), ([limit], 4), ([unlimited, none], 16)):
         groups = [(it, stat, "anon") for it in limits]
-        assert machine.free_gigabytes(memory, groups) == free
+        assert prove.free_gigabytes(memory, groups) == free
 
 
 def test_memory_for_less_than_two_proofs_is_said():
-    assert machine.lacks_memory(9.0) is None
-    assert machine.lacks_memory(8.9) == "8.9 GB of memory are free, and proving needs 9 GB"
+    assert prove.lacks_memory(9.0) is None
+    assert prove.lacks_memory(8.9) == "8.9 GB of memory are free, and proving needs 9 GB"
 
 
-def said_by_run(path, tools=f"{TOP}/tools"):
+def said_by_run(path, top=TOP):
     """The one line with which `make run` ends with this as its path."""
-    words = [sys.executable, f"{tools}/run.py"]
-    status, printed, said = ended(*words, env={"PATH": path}, text=True, seconds=20)
+    words = [sys.executable, f"{top}/tools/run.py"]
+    status, printed, said = ended(*words, env={"PATH": str(path)}, text=True, seconds=20)
     assert (status, printed, said.count("\n")) == (1, "", 1)
     return said
 
@@ -215,27 +243,28 @@ def said_by_run(path, tools=f"{TOP}/tools"):
 def folder_with_rt(folder, line):
     (folder / "rt").write_text(f"#!/bin/sh\necho '{line}'\n")
     (folder / "rt").chmod(0o755)
-    return str(folder)
+    return folder
 
 
 def test_a_run_without_rt_says_so_in_one_line(tmp_path):
     lacking = "there is no rt on the path: segcached is proved with a Rattle kit of"
-    assert said_by_run(str(tmp_path)) == f"segcached: {lacking} '{machine.logic()}'\n"
+    assert said_by_run(tmp_path) == f"segcached: {lacking} '{prove.logic()}'\n"
 
 
 def test_a_run_with_an_rt_of_another_logic_says_so_in_one_line(tmp_path):
     kit = "rattle-kit-99x logic 0000000000000000"
     said = said_by_run(folder_with_rt(tmp_path, kit))
-    assert f"'{kit}'" in said and machine.logic() in said
+    assert f"'{kit}'" in said and prove.logic() in said
 
 
 def test_a_run_with_little_memory_says_so_in_one_line(tmp_path):
-    """The tools stand in a repository in which nothing is proved and memory is said to be short."""
-    tools = tmp_path / "tools"
-    shutil.copytree(f"{TOP}/tools", tools, ignore=shutil.ignore_patterns("tests"))
-    before, after = (tools / "machine.py").read_text().split('"/proc/meminfo"')
-    (tools / "machine.py").write_text(f'{before}"{memory_file(tmp_path, 5.5)}"{after}')
+    """In a repository in which nothing is proved, memory is said to be short."""
+    for name in ("tools", "packaging"):
+        ignored = shutil.ignore_patterns("tests")
+        shutil.copytree(f"{TOP}/{name}", tmp_path / name, ignore=ignored)
+    tool = tmp_path / "tools" / "prove.py"
+    tool.write_text(tool.read_text().replace("/proc/meminfo", memory_file(tmp_path, 5.5)))
     (tmp_path / "crates.txt").write_text("segcached:\n")
-    folder = folder_with_rt(tmp_path, f"rattle-kit-99x {machine.logic()}")
-    said = said_by_run(f"{folder}:/usr/bin:/bin", tools)
+    folder = folder_with_rt(tmp_path, f"rattle-kit-99x {prove.logic()}")
+    said = said_by_run(f"{folder}:/usr/bin:/bin", tmp_path)
     assert said == "segcached: 5.5 GB of memory are free, and proving needs 9 GB\n"

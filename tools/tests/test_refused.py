@@ -1,15 +1,16 @@
-"""Each request for memory and each thread refused in turn: in refused_growth, built for it, and in segcached."""
+"""Each request for memory and each thread refused in turn: in refused_growth, built for it, and in
+segcached."""
 import os
 import pathlib
 
 import pytest
 import served
+from script_of import Script
 from served import TOP
 
 REFUSED_GROWTH = f"{TOP}/crates/refused_growth"
 BUILT = f"{REFUSED_GROWTH}/out/refused_growth"
 SCRIPT = f"{TOP}/crates/segcached/data/script"
-SESSIONS = b"set a 0 0 1\r\nx\r\nget a\r\n", b"set b 0 0 1\r\ny\r\nget b\r\n"
 
 
 @pytest.fixture
@@ -26,13 +27,15 @@ def refuse(tmp_path):
 @pytest.fixture
 def two_workers(tmp_path):
     """The words of a replay with a session for each of two workers."""
-    lines = ["open 0 1", "open 1 1", *(f"send {worker} 1 {data.hex()}" for worker, data in enumerate(SESSIONS))]
-    (tmp_path / "two_workers").write_text("".join(f"{line}\n" for line in lines), encoding="ascii")
+    script = Script(2)
+    for key in (b"a", b"b"):
+        script.send(script.open(), b"set %b 0 0 1\r\nx\r\nget %b\r\n" % (key, key))
+    (tmp_path / "two_workers").write_text(script.text(), encoding="ascii")
     return ["replay", f"{tmp_path}/two_workers", "--workers", "2"]
 
 
 @pytest.mark.parametrize("kind", ["REFUSE_NTH", "REFUSE_THREAD"], ids=["memory", "threads"])
-def test_what_is_refused_changes_nothing_that_is_written(refuse, say, kind):
+def test_what_is_refused_changes_nothing_that_is_written(refuse, kind):
     """Of refused_growth; what it writes stands in its file stdout. If a thread is refused none of
     its group begins, of which ports and clocks count how often they are asked; it runs a group of
     three threads twice."""
@@ -40,7 +43,6 @@ def test_what_is_refused_changes_nothing_that_is_written(refuse, say, kind):
     wanted = 0, pathlib.Path(f"{REFUSED_GROWTH}/stdout").read_bytes()
     for number, ended in refuse(kind, BUILT):
         assert ended[:2] == wanted, f"request {number}"
-    say(f"{number - 1} requests, each refused in turn")
     assert number > 1 if kind == "REFUSE_NTH" else number == 7
 
 
@@ -55,7 +57,8 @@ FAULTS = {b"fault: out of memory", b"fault: cannot start a thread"}
 @pytest.mark.parametrize("words", [
     ["--help"], ["nonsense"], ["replay", f"{TOP}/crates/none"], ["replay", SCRIPT], None,
 ], ids=["help", "bad words", "a missing script", "a script", "two workers"])
-def test_segcached_ends_as_without_a_refusal_or_says_out_of_memory(program, refuse, two_workers, say, words):
+def test_segcached_ends_as_without_a_refusal_or_says_out_of_memory(
+        program, refuse, two_workers, words):
     words = words or two_workers
     wanted, out, _ = served.ended(program, *words)
     wanted_lines = beginnings(out)
@@ -66,10 +69,10 @@ def test_segcached_ends_as_without_a_refusal_or_says_out_of_memory(program, refu
         else:
             assert status == 1 and lines == wanted_lines[: len(lines)], f"request {number}"
             assert FAULTS & set(said.splitlines()), f"request {number}"
-    say(f"{number - 1} requests for memory, each refused in turn")
     assert number > 1
 
 
-def test_a_refused_thread_is_a_fault_of_its_own_and_nothing_is_printed(program, refuse, two_workers):
+def test_a_refused_thread_is_a_fault_of_its_own_and_nothing_is_printed(
+        program, refuse, two_workers):
     *ends, _ = (ended for _, ended in refuse("REFUSE_THREAD", program, *two_workers))
     assert ends == [(1, b"", b"fault: cannot start a thread\n")] * 3

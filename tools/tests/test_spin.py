@@ -1,6 +1,8 @@
-"""`serve --spin`: for how long threads look for work before they sleep. (All waits take six seconds.)
+"""`serve --spin`: for how long threads look for work before they sleep. (All waits take six
+seconds.)
 
-A thread that looks for work is running or waits for a processor, and one that sleeps isn't and doesn't, however busy the machine is.
+A thread that looks for work is running or waits for a processor, and one that sleeps isn't and
+doesn't, however busy the machine is.
 """
 import contextlib
 import ctypes
@@ -76,9 +78,12 @@ def test_storage_and_a_worker_look_for_work_after_each_request_and_then_sleep(se
         tries.in_two_of_three(attempt)
 
 
-@pytest.mark.parametrize("words, spins", [(["--spin", "1000000"], True), (["--spin", "0"], False), ([], False)], ids=["spin", "spin 0", "none"])
+@pytest.mark.parametrize("words, spins", [
+    (["--spin", "1000000"], True), (["--spin", "0"], False), ([], False),
+], ids=["spin", "spin 0", "none"])
 def test_a_worker_that_waits_for_an_answer_looks_for_it(serve, words, spins):
-    """It runs, or, once it has looked for long, sleeps for a millisecond between two looks. One that doesn't look sleeps for 100."""
+    """It runs, or, once it has looked for long, sleeps for a millisecond between two looks. One
+    that doesn't look sleeps for 100."""
     server = serve("--workers", "1", *words)
 
     def attempt():

@@ -1,109 +1,42 @@
-"""What docs/CLIENTS.md and docs/OPERATIONS.md say of a served program, sentence by sentence."""
+"""What docs/OPERATIONS.md says of a served program, and docs/INSTALL.md of TLS. (The rows of
+docs/CLIENTS.md stand in test_rows.py.)"""
 import os
 import re
 import signal
+import ssl
 import subprocess
+import textwrap
 import threading
 import time
 
 import pytest
 import served
-from asking import BAD_BLOCK, END, ERROR, NO_NUMBER, STORED, TOO_LARGE, TOO_LONG, ask, hit, put
-from served import read_to_end
+from asking import END, SET_AND_GET, SET_AND_GET_ANSWER, STORED, ask, put
+
+PACKAGING = f"{served.TOP}/packaging"
+PORT = "127.0.0.1:0"
 
 
-@pytest.fixture(scope="module")
-def server(program):
-    with served.Server(program, "--segment-size", "1048576") as it:
-        yield it
+def stop(number):
+    """Stops a process: it returns once all threads have stopped, which takes a moment."""
+    os.kill(number, signal.SIGSTOP)
+    os.waitid(os.P_PID, number, os.WSTOPPED)
 
-
-# ---- CLIENTS
-
-LARGEST = b"y" * 131_072
-# What is said there, what is sent, and what it is answered.
-ROWS = {
-    "flags from 0": (b"set f 0 0 1\r\nx\r\nget f\r\n", STORED + hit(b"f", b"x")),
-    "flags to 4294967295": (b"set f 4294967295 0 1\r\nx\r\nget f\r\n",
-                            STORED + hit(b"f", b"x", 2**32 - 1)),
-    **{f"an exptime of {it} is a moment to come": (b"set e 0 %d 1\r\nx\r\nget e\r\n" % it,
-                                                   STORED + hit(b"e", b"x"))
-       for it in (2**31, 2**32 - 1, 10**10 - 1)},
-    "a negative exptime is past": (b"set e 0 -1 1\r\nx\r\nget e\r\n", STORED + END),
-    "a value that is too large leaves what the key had": (
-        put(b"v", b"x") + put(b"v", LARGEST) + b"get v\r\n", STORED + TOO_LARGE + hit(b"v", b"x")),
-    "a command that the strict dialect leaves out is answered with noreply too": (
-        b"verbosity 0 noreply\r\nappend a 0 0 1 noreply\r\nx\r\nget no\r\n", 3 * ERROR + END),
-    "lines of a browser are errors and its body is done": (
-        b"POST / HTTP/1.1\r\nHost: cache\r\n\r\nset http 0 0 1\r\nx\r\n", 3 * ERROR + STORED),
-}
-
-
-@pytest.mark.parametrize("sent, answer", ROWS.values(), ids=ROWS)
-def test_what_the_page_of_clients_says_is_so(server, sent, answer):
-    with server.connect() as stream:
-        ask(stream, sent, answer)
-
-
-def test_a_flush_takes_a_delay_and_no_moment(server):
-    """Of this moment as a delay nothing is seen for some fifty years."""
-    with server.connect() as stream:
-        ask(stream, b"set d 0 0 1\r\nx\r\nflush_all %d\r\n" % time.time(), STORED + b"OK\r\n")
-        time.sleep(1.1)
-        ask(stream, b"get d\r\nflush_all\r\n", hit(b"d", b"x") + b"OK\r\n")
-
-
-@pytest.mark.parametrize("value, answer", [
-    (b"0" * 19 + b"5", b"6\r\n"), (b"18446744073709551615", b"0\r\n"), (b"18446744073709551616", NO_NUMBER),
-    (b"0" * 20 + b"5", NO_NUMBER), (b"5 ", NO_NUMBER), (b" 5", NO_NUMBER), (b"+5", NO_NUMBER), (b"-5", NO_NUMBER), (b"", NO_NUMBER),
-])
-def test_a_counter_is_1_to_20_digits(server, value, answer):
-    with server.connect() as stream:
-        ask(stream, put(b"n", value) + b"incr n 1\r\n", STORED + answer)
-
-
-# (the block of one more byte isn't sent: the line alone closes the session)
-@pytest.mark.parametrize("request_bytes, answer", [
-    (b"set a 0 0 131073 noreply\r\n", TOO_LARGE), (b"set a 0 0 1 noreply\r\nxyz\r\n", BAD_BLOCK),
-], ids=["a large block", "a block of another length"])
-def test_noreply_does_not_suppress_the_answer_of_what_closes_the_session(server, request_bytes, answer):
-    with server.connect() as stream:
-        stream.sendall(request_bytes)
-        assert read_to_end(stream) == answer
-
-
-def test_the_binary_protocol_gets_no_answer(server):
-    with server.connect(0.3) as stream:
-        stream.sendall(b"\x80\x00\x00\x01" + bytes(7) + b"\x01" + bytes(12) + b"a")
-        with pytest.raises(TimeoutError):
-            stream.recv(1)
-
-
-@pytest.mark.parametrize("keys, answer", [(50, END), (80, END), (82, TOO_LONG)])
-def test_some_80_keys_of_24_bytes_go_into_a_get(server, keys, answer):
-    with server.connect() as stream:
-        stream.sendall(b"get " + b" ".join(b"key-%020d" % number for number in range(keys)) + b"\r\nquit\r\n")
-        assert read_to_end(stream) == answer
-
-
-# ---- OPERATIONS
 
 def test_a_stopped_process_takes_connections_and_does_not_answer(serve):
     """So whether it serves is asked by `get health`, with a time limit."""
     server = serve()
-    server.process.send_signal(signal.SIGSTOP)
-    # (it returns once all threads have stopped, which takes a moment)
-    os.waitid(os.P_PID, server.process.pid, os.WSTOPPED)
-    with server.connect(0.3) as stream:
-        stream.sendall(b"get health\r\n")
-        with pytest.raises(TimeoutError):
-            stream.recv(1)
-        server.process.send_signal(signal.SIGCONT)
-        stream.settimeout(20)
-        ask(stream, b"", END)
+    stop(server.process.pid)
+    stream = server.connect(0.3)
+    stream.sendall(b"get health\r\n")
+    with pytest.raises(TimeoutError):
+        stream.recv(1)
+    server.process.send_signal(signal.SIGCONT)
+    stream.settimeout(20)
+    ask(stream, b"", END)
 
 
-@pytest.mark.parametrize("listen", ["127.0.0.1:0", "unix:{}"], ids=["port", "path"])
+@pytest.mark.parametrize("listen", [PORT, "unix:{}"], ids=["port", "path"])
 def test_the_probe_says_whether_it_answers(program, listen, tmp_path):
     with served.Server(program, listen=listen.format(tmp_path / "cache")) as server:
         probe = server.probe()
@@ -111,8 +44,7 @@ def test_the_probe_says_whether_it_answers(program, listen, tmp_path):
         server.process.send_signal(signal.SIGSTOP)
         assert subprocess.run(probe).returncode != 0
         server.process.send_signal(signal.SIGCONT)
-        with server.connect() as stream:
-            ask(stream, put(b"health", b"x"), STORED)
+        ask(server.connect(), put(b"health", b"x"), STORED)
         assert subprocess.run(probe).returncode == 0
     assert subprocess.run(probe).returncode != 0
 
@@ -136,18 +68,18 @@ def test_in_a_container_the_probe_finds_process_1(serve, apart, listen, tmp_path
 
 def is_ready(server, *words):
     """How the script that the units wait for ends, which is given the options and the process."""
-    script = f"{served.TOP}/packaging/ready.sh"
     process = {**os.environ, "MAINPID": str(server.process.pid)}
-    return subprocess.run([script, *words], env=process, timeout=20).returncode == 0
+    ran = subprocess.run([f"{PACKAGING}/ready.sh", *words], env=process, timeout=20)
+    return ran.returncode == 0
 
 
-@pytest.mark.parametrize("listen", ["127.0.0.1:0", "0.0.0.0:0", "[::1]:0", "[::]:0", "unix:{}"])
+@pytest.mark.parametrize("listen", [PORT, "0.0.0.0:0", "[::1]:0", "[::]:0", "unix:{}"])
 def test_a_service_counts_as_started_once_it_answers(serve, listen, tmp_path):
     server = serve(listen=listen.format(tmp_path / "cache"))
     address = server.first_line.split()[-1]
-    assert is_ready(server, "--lenient", "--listen", address, "--workers", "2") and is_ready(server, f"--listen={address}")
-    server.process.send_signal(signal.SIGSTOP)
-    os.waitid(os.P_PID, server.process.pid, os.WSTOPPED)
+    assert is_ready(server, "--lenient", "--listen", address, "--workers", "2")
+    assert is_ready(server, f"--listen={address}")
+    stop(server.process.pid)
     goes_on = threading.Timer(0.5, server.process.send_signal, [signal.SIGCONT])
     began = time.monotonic()
     goes_on.start()
@@ -163,35 +95,35 @@ def test_a_service_that_has_ended_is_not_started_where_another_server_has_its_po
 
 
 def test_a_taken_port_is_seen_before_a_start(serve, tmp_path):
-    taken = [f"{served.TOP}/packaging/taken.sh", "--workers", "2", "--listen"]
+    taken = [f"{PACKAGING}/taken.sh", "--workers", "2", "--listen"]
     address = f"127.0.0.1:{serve().port}"
     # (of several addresses it is the first of TCP, and of paths alone the first one)
     path = serve(listen=f"unix:{tmp_path}/cache").first_line.split()[-1]
-    several = ["unix:/run/none", f"--listen={address}", "--listen", "127.0.0.1:1"]
-    for words, found in (([address], address), (several, address), ([path, "--listen", "unix:/run/none"], path),
-                         (["127.0.0.1:0", "--listen", path], path)):
+    for words, found in (
+        ([address], address), ([path, "--listen", "unix:/run/none"], path),
+        (["unix:/run/none", f"--listen={address}", "--listen", "127.0.0.1:1"], address),
+        ([PORT, "--listen", path], path),
+    ):
         assert subprocess.check_output([*taken, *words], text=True, timeout=20) == f"{found}\n"
-    for free in ("unix:/run/none", f"127.0.0.1:{served.free_port()}", "127.0.0.1:0"):
+    for free in ("unix:/run/none", f"127.0.0.1:{served.free_port()}", PORT):
         assert subprocess.run([*taken, free], timeout=20).returncode == 1
 
 
-@pytest.mark.parametrize("file", ["packaging/systemd/segcached.service", "packaging/examples/Containerfile"])
-def test_started_as_a_service_it_ignores_what_nobody_expects_to_end_it(serve, file):
-    """By the words before the program in a unit or a container file."""
-    form = r"(/usr/bin/env)\W+(--ignore-signal=[A-Z0-9,]+)\W+/usr/(?:local/)?bin/segcached\b"
-    ignoring = re.search(form, served.read(f"{served.TOP}/{file}")).groups()
-    server = serve(under=ignoring)
-    for number in (signal.SIGHUP, signal.SIGUSR1, signal.SIGUSR2):
-        server.process.send_signal(number)
-    ask(server.connect(), b"get a\r\n", END)
-    must_end(server, signal.SIGTERM)
-
-
 def must_end(server, number):
-    """By this signal, at once."""
     server.process.send_signal(number)
     assert server.process.wait(1) == -number
     server.was_stopped = True
+
+
+@pytest.mark.parametrize("file", ["systemd/segcached.service", "examples/Containerfile"])
+def test_started_as_a_service_it_ignores_what_nobody_expects_to_end_it(serve, file):
+    """By the words before the program in a unit or a container file."""
+    form = r"(/usr/bin/env)\W+(--ignore-signal=[A-Z0-9,]+)\W+/usr/(?:local/)?bin/segcached\b"
+    server = serve(under=re.search(form, served.read(f"{PACKAGING}/{file}")).groups())
+    for number in (signal.SIGHUP, signal.SIGUSR1, signal.SIGUSR2):
+        server.process.send_signal(number)
+    ask(server.connect(), "get a|", END)
+    must_end(server, signal.SIGTERM)
 
 
 @pytest.mark.parametrize("number", [signal.SIGHUP, signal.SIGINT, signal.SIGTERM])
@@ -199,21 +131,13 @@ def test_a_signal_ends_it_at_once(serve, number):
     must_end(serve(), number)
 
 
-def test_all_addresses_of_ipv6_are_those_of_ipv4_too(serve):
-    server = serve(listen="[::]:0")
-    server.host = "127.0.0.1"
-    ask(server.connect(), b"get a\r\n", END)
-
-
-# ---- what it says of its memory at its start
-
 TAKES = "segcached: takes about {} MiB of memory at most"
 WARNS = "segcached: warning: its control group may have {} MiB, so the kernel may kill it"
 MIB = 1 << 20
+OF_THE_PACKAGE = [*served.OF_THE_PACKAGE, "--segments", "64"]
 
 
 def said(program, words, under=()):
-    """What a server writes to standard error until it listens, after the line of its options."""
     with served.Server(program, *words, under=under) as server:
         server.process.kill()
         server.was_stopped = True
@@ -230,8 +154,8 @@ def most(workers, connections, segments, segment_size, values, reply, output=64)
 
 
 @pytest.mark.parametrize("words, wanted", [
-    (served.OF_THE_PACKAGE + ["--segments", "64"], 1924),
-    (served.OF_THE_PACKAGE + ["--segments", "64", "--output-memory", "16777216"], 1588),
+    (OF_THE_PACKAGE, 1924),
+    ([*OF_THE_PACKAGE, "--output-memory", "16777216"], 1588),
     ([], most(2, 1024, 64, 65536, 160, 128)),
     ("--lenient --workers 8 --connections 65536 --segment-size 4096".split(),
      most(8, 65536, 64, 4096, 40, 8)),
@@ -259,5 +183,33 @@ exec "$@"
 def test_a_control_group_with_less_is_warned_of(program, apart, limit, warning):
     """The system's files of limits are replaced for the server alone."""
     group = apart("--mount", "sh", "-c", GROUP, str(limit))
-    words = [*served.OF_THE_PACKAGE, "--segments", "64"]
-    assert said(program, words, group) == [TAKES.format(1924), *warning]
+    assert said(program, OF_THE_PACKAGE, group) == [TAKES.format(1924), *warning]
+
+
+def lines_of(language, word):
+    """The block of this language in docs/INSTALL.md that has this word."""
+    text = served.read(f"{served.TOP}/docs/INSTALL.md")
+    blocks = re.findall(rf"^ *```{language}\n(.*?)^ *```", text, re.MULTILINE | re.DOTALL)
+    return textwrap.dedent(next(it for it in blocks if word in it))
+
+
+def test_a_client_over_tls_is_answered(serve, tmp_path):
+    """By stunnel, with the lines of the page, as its unit runs it: not in the background."""
+    try:
+        served.install("stunnel4")
+    except subprocess.CalledProcessError:
+        pytest.skip("stunnel can't be installed")
+    port, certificate, file = served.free_port(), tmp_path / "segcached.crt", tmp_path / "conf"
+    os.chmod(tmp_path, 0o755)
+    making, written = (lines_of(*it).replace("/etc/stunnel", str(tmp_path))
+                       for it in (("sh", "openssl"), ("text", "[segcached]")))
+    subprocess.run(["sh", "-e", "-c", making], check=True, capture_output=True)
+    written = re.sub(r"accept = .*", f"accept = 127.0.0.1:{port}", written)
+    written = re.sub(r"connect = .*", f"connect = 127.0.0.1:{serve().port}", written)
+    file.write_text(re.sub(r"set[ug]id = .*\n", "", written) if os.getuid() else written)
+    with served.OnPort(port, ["/usr/bin/stunnel4", str(file)]) as tunnel:
+        context = ssl.create_default_context(cafile=str(certificate))
+        with context.wrap_socket(tunnel.connect(), server_hostname="cache.example") as stream:
+            stream.sendall(SET_AND_GET % (b"a", b"a") + b"quit\r\n")
+            assert served.read_to_end(stream) == SET_AND_GET_ANSWER % b"a"
+        assert tunnel.process.poll() is None

@@ -1,4 +1,4 @@
-"""When tries of what takes time have succeeded: tools/tries.py, and what it is told of the machine."""
+"""When tries of what takes time have succeeded: tools/tries.py, and what it sees of a machine."""
 import contextlib
 import os
 import subprocess
@@ -10,7 +10,7 @@ import pytest
 import tries
 import waits
 from served import Trouble
-from standstills import Standstills
+from tries import Standstills
 
 
 def machine(stood_still):
@@ -35,7 +35,8 @@ def test_two_of_three_are_enough(monkeypatch, tried, said):
     assert outcome(monkeypatch, tried) == said
 
 
-@pytest.mark.parametrize("tried", [[False, False, True], [False, True, False], [True, False, False]])
+@pytest.mark.parametrize("tried", [
+    [False, False, True], [False, True, False], [True, False, False]])
 def test_one_of_three_is_not(monkeypatch, tried):
     with pytest.raises(Trouble, match="in 2 of "):
         outcome(monkeypatch, tried)

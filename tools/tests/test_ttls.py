@@ -1,70 +1,237 @@
-"""Items of a served program expire by seconds of its clock. (All waits are in three tests, of twelve seconds, three and five.)"""
+"""How long items live: with `--exact-ttls` to the second, by the clock of a replay, and in a served
+program, whose clock doesn't jump with the machine's.
+
+A row is worked out from the TTL alone: at a moment and a TTL later the item is gone, and until a
+second before it is there. (The waits are in two tests, of five and ten seconds.)
+"""
+import itertools
+import os
+import tempfile
 import time
 
 import pytest
-from asking import END, MISS, ask, hit, opened
-from served import Client, together
+from asking import END, MISS, NOT_FOUND, STORED, ask, get, hit, put
+from served import Client, together, with_faketime
+from test_store_rows import (
+    IN_PLACE, LENIENT, SHOWN, SMALL, TOUCHED, found, key, must_answer, must_answer_at)
+
+EXACT = "--exact-ttls"
+LEAST_READ = "--evict", "least-read"
+BY_ALL_WORDS = pytest.mark.parametrize("words", [
+    (), LEAST_READ, (LENIENT, IN_PLACE), (LENIENT, IN_PLACE, *LEAST_READ)], ids=" ".join)
+BY_RULES = pytest.mark.parametrize("words", [(), LEAST_READ], ids=" ".join)
 
 
-def serve_early_in_a_second(serve):
-    """A server whose clock began early in a second of Unix time, so that its own seconds begin early in those."""
-    for _ in range(20):
-        time.sleep(1.02 - time.time() % 1)
-        second = int(time.time())
-        server = serve("--workers", "1")
-        opened(server, 1, MISS, END)
-        if time.time() < second + 0.3:
-            return server
-    return pytest.fail("no server began to serve within a third of a second")
+def until(moment):
+    return (moment - 1, "get a|", SHOWN), (moment, "get a|", END)
 
 
-def stored_within_a_second(serve):
-    """A client that has stored items within a second of the server and of Unix time; what is known
-    of each key: a moment before which it is there, and one from which it isn't. A TTL is rounded
-    down, here to 8 or 56 seconds, and one of up to 7 ends with the second."""
-    for _ in range(10):
-        client = Client(serve_early_in_a_second(serve))
-        time.sleep(1.4 - time.time() % 1)
-        second = int(time.time())
-        entries = {
-            b"of-3-unix": (second + 3, 1, 3), b"of-10": (10, 8, 11),
-            b"of-10-unix": (second + 10, 8, 11), b"of-60": (60, 48, 61),
-            b"of-60-unix": (second + 60, 48, 61), b"lasting": (0, 1000, 1000),
-            b"over": (-1, 0, 0), b"over-unix": (second - 1, 0, 0),
-        }
-        for key, (exptime, *_) in entries.items():
-            assert client.set(key, b"x", exptime=exptime) == b"STORED"
-        if time.time() < second + 0.9:
-            return client, {key: (second + least, second + most)
-                            for key, (_, least, most) in entries.items()}
-    return pytest.fail("no items were stored within half a second")
+@BY_ALL_WORDS
+@pytest.mark.parametrize("ttl", [1, 2, 5, 7, 8, 10, 15, 16, 30, 60, 600, 2047, 2048, 5000])
+def test_an_item_is_there_until_the_second_before_its_ttl_ends(program, ttl, words):
+    """Another item of the same TTL opens the segment five seconds before."""
+    rows = [(995, f"set other 0 {ttl} 1|x|", STORED), (1000, f"add a 0 {ttl} 1|x|", STORED)]
+    must_answer_at(program, rows + [*until(1000 + ttl)][ttl == 1 :], EXACT, *words)
 
 
-def test_items_are_hits_until_they_expire_and_then_misses(serve):
+def test_a_ttl_above_97_days_is_kept(program):
+    """Twelve million seconds are 139 days. Each request comes after a million more."""
+    rows = [("set a 0 1012000000 1|x|", STORED), *[("get a|", SHOWN)] * 11, ("get a|", END)]
+    must_answer(program, rows, "--now", 1_000_000_000, "--tick", 1_000_000, EXACT)
+
+
+@pytest.mark.parametrize("now, seconds", [(2**48 - 21, 20), (2**48 - 20, 16)], ids=["below", "at"])
+def test_deadlines_from_2_to_the_48th_on_are_rounded_down(program, now, seconds):
+    rows = [(now, "set a 0 20 1|x|", STORED), *until(now + seconds)]
+    must_answer_at(program, rows, EXACT)
+
+
+@BY_ALL_WORDS
+@pytest.mark.parametrize("ttl", [5, 60])
+def test_a_counter_that_counts_each_second_ends_with_its_ttl(program, ttl, words):
+    """As limits do it: it is counted at each request, and added where there is none."""
+    rows = []
+    for moment in range(1000, 1000 + 4 * (ttl + 1), ttl + 1):
+        rows += [(moment, "incr n 1|", NOT_FOUND), (moment + 1, f"add n 0 {ttl} 1|1|", STORED)]
+        rows += [(moment + second, "incr n 1|", f"{second}|") for second in range(2, ttl + 1)]
+    must_answer_at(program, rows, EXACT, *words)
+
+
+@BY_RULES
+def test_a_session_that_is_touched_each_minute_ends_a_ttl_after_the_last_touch(program, words):
+    rows = [(1000, "set a 0 1440 1|x|", STORED)]
+    rows += [(1000 + 60 * minute, "touch a 1440|", TOUCHED) for minute in range(1, 41)]
+    must_answer_at(program, [*rows, *until(3400 + 1440)], LENIENT, EXACT, *words)
+
+
+# What is asked for at which moment of an item of 60 seconds that is set at 1,000, and when it is
+# gone.
+CHANGED = {
+    "a touch for longer": ([(1001, "touch a 60|", TOUCHED)], 1061),
+    "a touch for less": ([(1001, "touch a 9|", TOUCHED)], 1010),
+    "a touch for what there is": ([(1001, "touch a 59|", TOUCHED)], 1060),
+    "a write over it": ([(1030, "set a 0 60 1|x|", STORED)], 1090),
+    "a write over it for less": ([(1030, "set a 0 5 1|x|", STORED)], 1035),
+    "a write over it in the last second": ([(1059, "set a 0 60 1|x|", STORED)], 1119),
+    "a touch in the last second": ([(1059, "touch a 7|", TOUCHED)], 1066),
+    "none, and then some": ([(1001, "touch a 0|", TOUCHED), (1100, "get a|", SHOWN),
+                             (1101, "touch a 8|", TOUCHED)], 1109),
+}
+
+
+@BY_RULES
+@pytest.mark.parametrize("rows, gone", CHANGED.values(), ids=CHANGED)
+def test_another_ttl_counts_from_the_moment_at_which_it_is_asked_for(program, rows, gone, words):
+    rows = [(1000, "set a 0 60 1|x|", STORED), *rows, *until(gone)]
+    must_answer_at(program, rows, LENIENT, EXACT, *words)
+
+
+@BY_ALL_WORDS
+def test_a_lock_keeps_others_out_until_its_ttl_ends(program, words):
+    """So php-memcache locks a session, for 15 seconds."""
+    add = "add lock 0 15 1|x|"
+    rows = [(993, "set other 0 15 1|x|", STORED), (1000, add, STORED)]
+    rows += [(1000 + second, add, "NOT_STORED|") for second in range(1, 15)]
+    must_answer_at(program, [*rows, (1015, add, STORED)], EXACT, *words)
+
+
+LARGE = b"v" * 484
+
+
+@BY_RULES
+def test_items_that_are_written_minutes_apart_share_a_segment(program, words):
+    """One of them is written each ten seconds, so each would be in another segment if one took
+    items for eight seconds only. The other seven segments have eight lasting items each."""
+    timed, lasting = range(101, 151), range(1, 57)
+    rows = [(1000 + 10 * turn, put(key(it), b"x", exptime=600), STORED)
+            for turn, it in enumerate(timed)]
+    rows += [(1500, put(key(it), LARGE), STORED) for it in lasting]
+    rows += [(1500, *found(it, b"x")) for it in timed]
+    rows += [(1500, *found(it, LARGE)) for it in lasting]
+    must_answer_at(program, rows, *SMALL, EXACT, *words)
+
+
+@pytest.mark.parametrize("moment, is_freed", [
+    (3048, False), (3100, False), (3170, False), (3171, True)])
+def test_a_segment_is_freed_when_the_last_of_its_items_has_ended(program, moment, is_freed):
+    """Both small items are of one bucket, and stand in one segment; they end at 3,048 and 3,171.
+    Seven segments have eight lasting items each. One more finds the first segment free, or has the
+    first four of the others merged, of which the newest stay."""
+    rows = [(1000, "set a 0 2048 1|x|", STORED), (1001, "set b 0 2170 1|x|", STORED)]
+    rows += [(1001 + number, put(key(number), LARGE), STORED) for number in range(1, 57)]
+    rows += [(moment, put(key(57), LARGE), STORED), (moment + 1, "get a|", END)]
+    rows += [(moment + 2, "get b|", END if moment + 2 >= 3171 else hit(b"b", b"x"))]
+    rows += [(moment + 2 + it, *found(it, LARGE if is_freed or it > 24 else None))
+             for it in range(1, 58)]
+    must_answer_at(program, rows, *SMALL, EXACT)
+
+
+def test_a_merge_keeps_each_deadline(program):
+    """64 items fill eight segments that `least-read` says were opened at 1,088. The next write has
+    the first three merged, and the newest of theirs stay, those of 17 to 24. Each item ends at a
+    second of its own."""
+    numbers = range(1, 66)
+    rows = [(1087 + it, put(key(it), LARGE, exptime=2060 + it), STORED) for it in numbers]
+    rows += [(1152 + it, *found(it, LARGE if it > 16 else None)) for it in numbers]
+    for it in (17, 18, 24, 25, 65):
+        rows += [(3146 + 2 * it, *found(it, LARGE)), (3147 + 2 * it, *found(it, None))]
+    must_answer_at(program, rows, *SMALL, EXACT, *LEAST_READ)
+
+
+# ---- of a served program
+
+# When the clocks of served programs begin, in Unix time.
+AT = 2_000_000_000
+
+
+def stepped(serve, folder, *words, **variables):
+    """A server of one worker, and what sets its clocks on by seconds beside those that pass."""
+    number, file = tempfile.mkstemp(dir=folder)
+    os.close(number)
+    offset = AT - time.time()
+
+    def step(seconds):
+        # (in one step, so that no reading finds half of it)
+        with open(f"{file}.new", "w", encoding="ascii") as new:
+            new.write(f"{offset + seconds:+.6f}\n")
+        os.replace(f"{file}.new", file)
+
+    step(0)
+    faked = with_faketime(FAKETIME_TIMESTAMP_FILE=file, FAKETIME_NO_CACHE="1", **variables)
+    return serve("--workers", "1", *words, environment=faked), step
+
+
+@pytest.mark.parametrize("ttl", [1, 2, 5, 8, 15, 30, 60, 600])
+def test_items_of_a_served_program_live_as_long_less_at_most_a_second(serve, tmp_path, ttl):
+    """They are stored at eight moments of a second. (Where this process stood still an answer may
+    come too late to show a hit.)"""
+    began, phases = time.monotonic(), {b"k%d" % at: at / 8 for at in range(8)}
+    server, step = stepped(serve, tmp_path, EXACT)
+    client = Client(server)
+    for name, phase in phases.items():
+        step(phase)
+        assert client.set(name, b"x", exptime=ttl) == b"STORED"
+    for second, (name, phase) in itertools.product(range(1, ttl + 1), phases.items()):
+        step(second + phase)
+        value, passed = client.get(name), time.monotonic() - began
+        assert value == b"x" or value is None and second + passed >= ttl - 1, (name, second)
+        assert value is None or second < ttl, (name, second)
+
+
+@pytest.mark.parametrize("words", [(EXACT,), (EXACT, IN_PLACE, *LEAST_READ)], ids=" ".join)
+def test_a_limit_of_100_a_minute_lets_100_of_300_pass(serve, tmp_path, words):
+    """It counts each request in a counter of a minute, which it adds where there is none."""
+    server, step = stepped(serve, tmp_path, *words)
+    client, passed, began = Client(server), 0, time.monotonic()
+    for number in range(300):
+        step(number * 57 // 300)
+        count = client.ask(b"incr n 1")
+        if count == b"NOT_FOUND":
+            assert client.set(b"n", b"1", b"add", exptime=60) == b"STORED"
+            count = b"1"
+        passed += int(count) <= 100
+    assert passed == 100 or passed > 100 and time.monotonic() - began > 2
+
+
+DAY, HOUR = 86_400, 3_600
+
+# By keys the exptime, for how many seconds an item is there, and from which second on it is gone. A
+# TTL is rounded down, here to 8 or 56 seconds, and one of up to 7 ends with the second.
+LIVES = {
+    b"of-3-unix": (AT + 3, 1, 3), b"of-10": (10, 8, 11), b"of-10-unix": (AT + 10, 8, 11),
+    b"of-60": (60, 48, 61), b"of-60-unix": (AT + 60, 48, 61), b"lasting": (0, 1000, 1000),
+    b"over": (-1, 0, 0), b"over-unix": (AT - 1, 0, 0),
+}
+
+
+def test_items_are_hits_until_they_expire_and_then_misses(serve, tmp_path):
     """(Where this process stood still an answer may come too late to show a hit.)"""
-    client, entries = stored_within_a_second(serve)
-    began = time.time()
-    for after in (0, 4, 11):
-        time.sleep(max(0, began + after - time.time()))
-        for key, (there_before, gone_from) in entries.items():
-            asked, value = time.time(), client.get(key)
+    began = time.monotonic()
+    server, step = stepped(serve, tmp_path)
+    client = Client(server)
+    for key, (exptime, *_) in LIVES.items():
+        assert client.set(key, b"x", exptime=exptime) == b"STORED"
+    for second in (0, 3, 4, 7, 11, 47, 61):
+        step(second)
+        for key, (_, there_before, gone_from) in LIVES.items():
+            value = client.get(key)
             assert value in (b"x", None)
-            assert value or time.time() >= there_before, (key, after)
-            assert value is None or asked < gone_from, (key, after)
+            assert value or second + time.monotonic() - began >= there_before, (key, second)
+            assert value is None or second < gone_from, (key, second)
 
 
-def test_the_clock_is_neither_late_nor_early(serve):
-    """A deadline of this second has passed, and one of the next hasn't. A request of the second before comes half a second earlier, so a reading
-    that is kept for a second shows."""
-    with serve_early_in_a_second(serve).connect() as stream:
-        time.sleep(1.9 - time.time() % 1)
-        ask(stream, b"get none\r\n", b"END\r\n")
-        time.sleep(1.4 - time.time() % 1)
-        second = int(time.time())
-        ask(stream, b"set over 0 %d 1\r\nx\r\nget over\r\n" % second, b"STORED\r\nEND\r\n")
-        stream.sendall(b"set soon 0 %d 1\r\nx\r\nget soon\r\n" % (second + 1))
-        # (a machine that stood still until then shows nothing)
-        assert stream.recv(100) == b"STORED\r\n" + hit(b"soon", b"x") or time.time() >= second + 1
+def test_the_clock_is_neither_late_nor_early(serve, tmp_path):
+    """A deadline of this second has passed, and one of the next hasn't. A request of the second
+    before comes half a second earlier, so a reading that is kept for a second shows. (A machine
+    that stood still until then shows nothing.)"""
+    began = time.monotonic()
+    stream = stepped(serve, tmp_path)[0].connect()
+    time.sleep(max(0, began + 0.9 - time.monotonic()))
+    ask(stream, MISS, END)
+    time.sleep(0.5)
+    ask(stream, f"set over 0 {AT + 1} 1|x|get over|", STORED + END)
+    stream.sendall(put(b"soon", b"x", exptime=AT + 2) + get(b"soon"))
+    assert stream.recv(100) == STORED + hit(b"soon", b"x") or time.monotonic() >= began + 2
 
 
 def late_ones(rate, server):
@@ -85,7 +252,31 @@ def late_ones(rate, server):
 
 
 def test_an_item_expires_however_few_requests_come(serve):
-    """A clock that is read at each eighth request alone shows it for eight seconds more at one request a second, and for one at seven."""
+    """A clock that is read at each eighth request alone shows it for eight seconds more at one
+    request a second, and for one at seven."""
     servers = {rate: serve("--workers", "1") for rate in range(1, 8)}
     late = together(lambda it=it: late_ones(*it) for it in servers.items())
     assert late == [0] * 7
+
+
+def test_a_step_of_the_clock_of_unix_time_by_a_day_changes_no_life(serve, tmp_path):
+    """The monotonic clock and all waiting go on as they are."""
+    servers = [stepped(serve, tmp_path, FAKETIME_DONT_FAKE_MONOTONIC="1") for _ in range(2)]
+    lives = {b"ten-": (10, True), b"hour-": (AT + HOUR, True), b"past-": (AT - HOUR, False)}
+
+    def must_show(server, kind, name, is_there):
+        ask(server.connect(), get(kind + name), hit(kind + name, b"x") if is_there else END)
+
+    for (server, step), days in zip(servers, (1, -1)):
+        for name, seconds in ((b"before", 0), (b"between", days * DAY), (b"after", 0)):
+            step(seconds)
+            for kind, (exptime, is_there) in lives.items():
+                ask(server.connect(), put(kind + name, b"x", exptime=exptime), STORED)
+                must_show(server, kind, name, is_there)
+    began = time.monotonic()
+    for after, is_there in (0, True), (10.1, False):
+        time.sleep(max(0, began + after - time.monotonic()))
+        for server, _ in servers:
+            for name in (b"before", b"between", b"after"):
+                must_show(server, b"ten-", name, is_there)
+                must_show(server, b"hour-", name, True)

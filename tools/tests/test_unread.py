@@ -1,24 +1,24 @@
 """Large answers: what waits until there is memory, what they cost, and what is given back. Strict
 sessions are answered whole, no client that reads is closed, and a lenient one that takes nothing
-is, in the end. (test_store_rows.py has the limit of a lenient answer.)"""
-import concurrent.futures
+is, in the end. (test_store_rows.py has the limit of a lenient answer; tools/hostile.py has what
+else others wait beside them.)"""
 import os
-import selectors
-import statistics
+import select
 import time
 
 import replays
 import tries
 from asking import (
-    END, ERROR, LARGE, MISS, OUT_OF_MEMORY, STORED, ask, asks_for, get, hit, hits, is_same, opened,
-    put, seconds_to, write_large)
+    LARGE, OUT_OF_MEMORY, STORED, ask, asks_for, get, hit, is_same, put, seconds_to, write_large)
 from script_of import Script
 from served import OF_THE_PACKAGE, TUNABLES, comes_true, read_exactly, together
 from stats_of import told
+from waits import Beside, waits_beside
 
 # A request for 60 large values, and its answer of 7.9 MB.
 MANY, MANY_HITS = get(b"large", 60), hit(b"large", LARGE, times=60)
-# How many small requests a client sends a second, and a share of a processor that counts for nothing.
+# How many small requests a client sends a second, and the share of a processor that counts for
+# nothing.
 RATES, SLACK = (10, 100, 1000), 0.0003
 SIZES = ["--workers", "1", "--segment-size", "1048576", "--segments", "64"]
 
@@ -54,16 +54,13 @@ def test_clients_that_read_steadily_are_answered_whole(serve, storage):
     write_large(server)
     streams = [asks_for(server, 60) for _ in range(30)]
     assert all(together(lambda it=it: comes_whole(it, len(MANY_HITS), 4e6, 60) for it in streams))
-    with server.connect() as stream:
-        assert told(stream)["closed_unread"] == "0"
+    assert told(server.connect())["closed_unread"] == "0"
 
 
 def waits_until_answered(small, large, seconds):
     """How long the one waited for replies until the other had one, or for so many seconds."""
     waits, until = [seconds_to(small)], time.monotonic() + seconds
-    selector = selectors.DefaultSelector()
-    selector.register(large, selectors.EVENT_READ)
-    while not selector.select(0.01) and time.monotonic() < until:
+    while not select.select([large], [], [], 0.01)[0] and time.monotonic() < until:
         waits.append(seconds_to(small))
     return waits
 
@@ -93,8 +90,7 @@ def test_a_lenient_client_that_takes_nothing_for_ten_seconds_is_closed_for_one_t
 
 
 def test_a_strict_client_that_takes_nothing_is_not_closed(serve):
-    """One that waits for the memory waits on, and is answered once the others are gone; what is
-    small is answered meanwhile."""
+    """One that waits for memory is answered once the others are gone; what is small, before."""
     stalled, small, large = beside_stalled(serve(*SIZES), 3, 255)
     start = time.monotonic()
     waits_until_answered(small, large, 14)
@@ -105,8 +101,7 @@ def test_a_strict_client_that_takes_nothing_is_not_closed(serve):
 
 
 def least_shares(servers, rate, seconds=6):
-    """Which shares of a processor servers take at least in a second, each of which a client sends
-    so many requests a second, in turn."""
+    """The least shares of a processor that servers take in a second of so many requests."""
     streams, least = [it.connect() for it in servers], [1.0 for _ in servers]
     for _ in range(seconds):
         before, start = [it.processor_seconds() for it in servers], time.monotonic()
@@ -116,14 +111,15 @@ def least_shares(servers, rate, seconds=6):
                 seconds_to(it)
             time.sleep(max(0, start + (count + 1) / rate - time.monotonic()))
         took = time.monotonic() - start
-        for place, (it, at) in enumerate(zip(servers, before)):
-            least[place] = min(least[place], (it.processor_seconds() - at) / took)
+        shares = [(it.processor_seconds() - at) / took for it, at in zip(servers, before)]
+        least = list(map(min, least, shares))
     return least
 
 
-def test_a_client_that_takes_nothing_costs_no_processor(serve, storage, say):
+def test_a_client_that_takes_nothing_costs_no_processor(serve, storage):
     """While a worker has output that a client doesn't take it waits for events as without it. (When
-    each event began 8,192 polls, 10, 100 and 1,000 requests a second took 7, 45 and 90 hundredths.)"""
+    each event began 8,192 polls, 10, 100 and 1,000 requests a second took 7, 45 and 90 hundredths
+    of a processor.)"""
     pairs = {rate: [serve("--lenient", *storage, *SIZES) for _ in range(2)] for rate in RATES}
     for without, beside in pairs.values():
         write_large(without)
@@ -137,41 +133,7 @@ def test_a_client_that_takes_nothing_costs_no_processor(serve, storage, say):
         return (all(beside <= 1.2 * without + SLACK for without, beside in found),
                 f"hundredths of a processor, without and beside it: {', '.join(words)}")
 
-    say(tries.in_two_of_three(attempt))
-
-
-def test_what_stands_before_a_large_get_hides_nothing(serve):
-    """Others wait no longer for eight that ask for 60 large values behind a line that is none."""
-    server = serve("--lenient", *SIZES)
-    write_large(server)
-    line, answer = b"x\r\n" + MANY, len(ERROR + MANY_HITS)
-    small, selector, waits = server.connect(), selectors.DefaultSelector(), []
-    left = dict.fromkeys(opened(server, 8, line), answer)
-    for stream in left:
-        selector.register(stream, selectors.EVENT_READ)
-    until, last = time.monotonic() + 3, 0.0
-    while time.monotonic() < until:
-        for key, _ in selector.select(0.001):
-            stream = key.fileobj
-            left[stream] -= len(stream.recv(min(left[stream], 1 << 20)))
-            if not left[stream]:
-                stream.sendall(line)
-                left[stream] = answer
-        if time.monotonic() > last + 0.005:
-            waits.append(seconds_to(small))
-            last = time.monotonic()
-    assert statistics.median(waits) < 0.06
-
-
-# ---- what large answers cost
-
-def test_a_strict_answer_has_no_limit(serve):
-    """257 hits of 131,000 bytes."""
-    server, wanted = serve(*SIZES), hit(b"large", LARGE, times=257)
-    write_large(server)
-    stream = asks_for(server, 257)
-    assert is_same(read_exactly(stream, len(wanted)), wanted)
-    ask(stream, MISS, END)
+    tries.in_two_of_three(attempt)
 
 
 # How long the others may wait on a quiet machine, and how long they wait there if nobody asks for
@@ -179,75 +141,45 @@ def test_a_strict_answer_has_no_limit(serve):
 MOST_WAIT, QUIET, ROOM = 0.060, 0.015, 8
 
 
-def longest_wait(server, ask_for_much):
-    """The longest that one of six others waited for an answer meanwhile, in seconds."""
-    def run():
-        longest = 0.0
-        with server.connect() as stream:
-            while not asked.done():
-                longest = max(longest, seconds_to(stream))
-                time.sleep(0.001)
-        return longest
-
-    with concurrent.futures.ThreadPoolExecutor(7) as pool:
-        asked = pool.submit(lambda: (time.sleep(0.1), ask_for_much()))
-        waits = [pool.submit(run) for _ in range(6)]
-        asked.result()
-        return max(it.result() for it in waits)
-
-
-def test_a_get_of_sixteen_thousand_large_values_costs_little(serve, say):
+def test_a_get_of_sixteen_thousand_large_values_costs_little(serve):
     """Of 1,988 MiB and 7.9 seconds, if all hits were written. (memcached's others wait 45 ms.)"""
-    line = get(b"k", 16_000)
-    assert len(line) == 32_005
-    server = serve("--lenient", "--segment-size", "1048576", "--segments", "64")
+    server = serve("--lenient", *SIZES[2:])
+    stream = server.connect()
+    ask(stream, put(b"k", b"k" * 130_000), STORED)
 
-    def ask_five_times():
-        for _ in range(5):
-            ask(stream, line, OUT_OF_MEMORY)
+    def longest_wait(times):
+        """Of others, beside so many of these."""
+        with Beside(waits_beside, server, False) as waits:
+            time.sleep(0.1)
+            for _ in range(times):
+                ask(stream, get(b"k", 16_000), OUT_OF_MEMORY)
+            time.sleep(0.1)
+        return waits.noted[1]
 
     def attempt():
-        quiet = longest_wait(server, lambda: time.sleep(0.2))
-        waited = longest_wait(server, ask_five_times)
-        most = MOST_WAIT if quiet <= QUIET else ROOM * quiet
+        quiet, waited = longest_wait(0), longest_wait(5)
         said = f"the others waited {waited * 1e3:.0f} ms at most, and without it {quiet * 1e3:.0f}"
-        return waited <= most, said
+        return waited <= (MOST_WAIT if quiet <= QUIET else ROOM * quiet), said
 
-    with server.connect() as stream:
-        ask(stream, put(b"k", b"k" * 130_000), STORED)
-        said = tries.in_two_of_three(attempt)
-    mebibytes = server.kilobytes("VmHWM") / 1024
-    say(f"at most {mebibytes:.0f} MiB resident, {said}")
+    tries.in_two_of_three(attempt)
     # (one of its 64 segments is resident)
-    assert mebibytes < 100
+    assert server.kilobytes("VmHWM") < 100 * 1024
 
 
-# ---- what a burst of them took is given back, with the package's settings of the C library
+def test_a_burst_of_large_replies_is_given_back(serve):
+    """With the package's settings of the C library: 60 read three replies of 7 MB at once."""
+    words, value = ["--workers", "2", "--segments", "64", *OF_THE_PACKAGE], b"v" * 1_000_000
+    server = serve(*words, environment={**os.environ, "GLIBC_TUNABLES": TUNABLES})
+    keys = [b"k%d" % number for number in range(7)]
+    for key in keys:
+        ask(server.connect(), put(key, value), STORED)
+    before = server.kilobytes("VmRSS")
+    length = 3 * (7 * len(hit(keys[0], value)) - 6 * len(b"END\r\n"))
 
-MIB = 1024
-KEYS, VALUE = [b"k%d" % number for number in range(7)], b"v" * 1_000_000
-READERS, REPLIES = 60, 3
-
-
-def read_all(server):
-    """Reads some replies of 7 MB, all asked for at once."""
-    with server.connect(120) as stream:
-        stream.sendall((b"get %b\r\n" % b" ".join(KEYS)) * REPLIES)
-        length = len(b"".join(hits(key, VALUE) for key in KEYS) + b"END\r\n")
-        for _ in range(REPLIES):
+    def read_all():
+        with server.connect(120) as stream:
+            stream.sendall(3 * (b"get %b\r\n" % b" ".join(keys)))
             assert len(read_exactly(stream, length)) == length
 
-
-def test_a_burst_of_large_replies_is_given_back(serve, say):
-    environment = {**os.environ, "GLIBC_TUNABLES": TUNABLES}
-    words = ["--workers", "2", "--segments", "64", *OF_THE_PACKAGE]
-    server = serve(*words, environment=environment)
-    with server.connect() as stream:
-        for key in KEYS:
-            ask(stream, put(key, VALUE), STORED)
-    before = server.kilobytes("VmRSS")
-    together([lambda: read_all(server)] * READERS)
-    kept = lambda: (server.kilobytes("VmRSS") - before) // MIB
-    is_given_back = comes_true(lambda: kept() <= 48, 60)
-    say(f"{kept()} MiB stay")
-    assert is_given_back
+    together([read_all] * 60)
+    assert comes_true(lambda: server.kilobytes("VmRSS") - before <= 48 * 1024, 60)

@@ -1,12 +1,13 @@
-"""The model of waking, models/waking.pml: spin finds no state in which a thread sleeps over work, and refuses wrong protocols."""
+"""The model of waking, models/waking.pml: spin finds no state in which a thread sleeps over work,
+and refuses wrong protocols."""
 import re
-import subprocess
 
 import pytest
-from served import TOP, read
+from served import TOP, ended, read
 
 MODEL = f"{TOP}/models/waking.pml"
-# Two workers over ports that are no sockets; two that execute requests; one worker over sockets, with a listener and a client.
+# Two workers over ports that are no sockets; two that execute requests; one worker over sockets,
+# with a listener and a client.
 LANES = ("-DWORKERS=2", "-DREQUESTS=2")
 BY_WORKERS = ("-DWORKERS=2", "-DREQUESTS=1", "-DBY_WORKERS")
 SOCKETS = ("-DWORKERS=1", "-DREQUESTS=3", "-DSOCKETS")
@@ -29,15 +30,15 @@ WRONG = {name: (world, fault) for world, fault, names in (
 
 def searched(*words):
     """Whether spin found nothing wrong in all that there is, and what it said."""
-    ran = subprocess.run([f"{TOP}/tools/spin.sh", MODEL, *words], capture_output=True, text=True, timeout=600)
-    assert not ran.stderr, ran.stderr
-    return ran.returncode == 0, ran.stdout
+    status, printed, said = ended(f"{TOP}/tools/spin.sh", MODEL, *words, text=True, seconds=600)
+    assert not said, said
+    return status == 0, printed
 
 
-@pytest.mark.parametrize("world", [LANES, BY_WORKERS, SOCKETS], ids=["lanes", "by workers", "sockets"])
-def test_no_thread_sleeps_over_work_and_each_run_ends(world, say):
+@pytest.mark.parametrize("world", [LANES, BY_WORKERS, SOCKETS],
+                         ids=["lanes", "by workers", "sockets"])
+def test_no_thread_sleeps_over_work_and_each_run_ends(world):
     is_right, said = searched(*world)
-    say(f"{int(re.search('([0-9]+) states, stored', said)[1]):,} states")
     assert is_right, said
 
 
@@ -60,4 +61,5 @@ def test_the_code_beside_the_steps_is_there():
     for crate, name, items in cited:
         code = read(f"{TOP}/crates/{crate}/src/{name}")
         for item in items.split(", "):
-            assert re.search(rf"\b(?:fn|const|struct|trait) {item}\b", code), f"{crate}/{name}: {item}"
+            kinds = "fn|const|struct|trait"
+            assert re.search(rf"\b(?:{kinds}) {item}\b", code), f"{crate}/{name}: {item}"

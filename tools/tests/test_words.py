@@ -4,14 +4,15 @@ import pytest
 from served import ended
 
 
-@pytest.mark.parametrize("words", ["--help", "-h", "help", "replay --help", "help replay", "--version"])
+@pytest.mark.parametrize("words", [
+    "--help", "-h", "help", "replay --help", "help replay", "--version"])
 def test_help_is_printed(program, words):
     status, out, said = ended(program, *words.split())
     assert status == 0 and out.endswith(b"\n") and said == b""
 
 
 SERVE = "serve --listen 127.0.0.1:0"
-BAD = ["", "replay", "replay a b", "serve", "serve --listen"]
+BAD = ["", "replay", "replay a b", "serve", "serve --listen", b"replay \xff"]
 BAD += [f"replay a {it}" for it in (
     "--segment-size 4095", "--segment-size 1048577", "--segments 7", "--segments 65537",
     "--max-item-size 511", "--now -1", "--now x", "--tick 18446744073709551616", "--nothing",
@@ -33,34 +34,28 @@ def test_bad_words_have_status_2_and_print_nothing(program, words):
     assert (status, out) == (2, b"") and said
 
 
-def test_words_that_are_no_text_have_status_2(program):
-    status, out, said = ended(program, b"replay", b"\xff")
-    assert (status, out) == (2, b"") and said
-
-
 # Words with a number out of its range or a value that the option doesn't have, and the text that
-# names it.
+# names it. (A sum of output memory is for two workers, unless it is told otherwise.)
 NAMED = {
-    "replay a --workers 9": b"'9' for '--workers <COUNT>': 9 is not in 1..=8\n",
-    f"{SERVE} --segments 7": b"'7' for '--segments <COUNT>': 7 is not in 8..=65536\n",
+    "replay a --workers 9": "'9' for '--workers <COUNT>': 9 is not in 1..=8\n",
+    f"{SERVE} --segments 7": "'7' for '--segments <COUNT>': 7 is not in 8..=65536\n",
     f"{SERVE} --spin 1000001":
-        b"'1000001' for '--spin <MICROSECONDS>': 1000001 is not in 0..=1000000\n",
+        "'1000001' for '--spin <MICROSECONDS>': 1000001 is not in 0..=1000000\n",
     f"{SERVE} --output-memory 4194303":
-        b"'4194303' for '--output-memory <BYTES>': 4194303 is not in 4194304..=1099511627776\n",
-    # (for two workers, unless it is told otherwise)
-    f"{SERVE} --output-memory 8388607":
-        b"'8388607' for '--output-memory <BYTES>': 8388607 is less than 4194304 for each of 2 workers\n",
-    f"{SERVE} --workers 8 --output-memory 33554431":
-        b"'33554431' for '--output-memory <BYTES>': 33554431 is less than 4194304 for each of 8 workers\n",
-    "replay a --storage main":
-        b"'main' for '--storage <THREADS>'\n  [possible values: thread, workers]\n",
+        "'4194303' for '--output-memory <BYTES>': 4194303 is not in 4194304..=1099511627776\n",
+    **{f"{SERVE} {others}--output-memory {least - 1}":
+       f"'{least - 1}' for '--output-memory <BYTES>': {least - 1} is less than 4194304 for each of "
+       f"{workers} workers\n"
+       for others, workers, least in (("", 2, 8_388_608), ("--workers 8 ", 8, 33_554_432))},
+    "replay a --storage main": "'main' for '--storage <THREADS>'\n"
+                               "  [possible values: thread, workers]\n",
 }
 
 
 @pytest.mark.parametrize("words", NAMED)
 def test_a_value_that_an_option_does_not_have_is_named(program, words):
     status, out, said = ended(program, *words.split())
-    wanted = b"error: invalid value " + NAMED[words]
+    wanted = f"error: invalid value {NAMED[words]}".encode()
     # (more may stand behind the values that there are)
     is_named = said == wanted or said.startswith(wanted) and b"[possible values" in said
     assert (status, out) == (2, b"") and is_named

@@ -34,9 +34,17 @@ pub(crate) const STORAGES: [(&str, Storage); 2] = [
     (BY_WORKERS, Storage::Workers),
 ];
 
-const BY_THREAD: &str = "thread";
+pub(crate) const BY_THREAD: &str = "thread";
 
 const BY_WORKERS: &str = "workers";
+
+/// The value of `--storage` that asks for this.
+pub(crate) fn storage_word(storage: Storage) -> &'static str {
+    match storage {
+        Storage::Thread => BY_THREAD,
+        Storage::Workers => BY_WORKERS,
+    }
+}
 
 /// The values of `--evict`, and what they ask for. The first is the default.
 pub(crate) const EVICTIONS: [(&str, Eviction); 2] = [
@@ -44,9 +52,17 @@ pub(crate) const EVICTIONS: [(&str, Eviction); 2] = [
     (LEAST_READ, Eviction::LeastRead),
 ];
 
-const OLDEST: &str = "oldest";
+pub(crate) const OLDEST: &str = "oldest";
 
 const LEAST_READ: &str = "least-read";
+
+/// The value of `--evict` that asks for this.
+pub(crate) fn eviction_word(eviction: Eviction) -> &'static str {
+    match eviction {
+        Eviction::Oldest => OLDEST,
+        Eviction::LeastRead => LEAST_READ,
+    }
+}
 
 const LENIENT_HELP: &str =
     "Take what many clients send: spaces before a line's end, lines of up to 32768 bytes in place of 2048, delete with a time of 0, and the commands touch, append, prepend, stats, version and verbosity";
@@ -67,7 +83,7 @@ const QUIET_HELP: &str =
     "Write no line on standard error for connections that are closed for what they sent, for silence or for memory";
 
 const EVICT_HELP: &str =
-    "Which segments are merged or evicted: the oldest, or of the first quarter those whose items were read least";
+    "Which segments are merged or evicted: the oldest, or of the first third those whose items were read least";
 
 const REPLAY_HELP: &str = "A script has a line for each event, with single spaces between its words:
   open W S      session S begins at worker W

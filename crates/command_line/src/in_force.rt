@@ -1,8 +1,8 @@
 //! The options with which a server runs, as words.
 
 use crate::commands::{
-    EVICT, EVICTIONS, EXACT_TTLS, LENIENT, LISTEN, QUIET, SOCKET_MODE, STORAGE, STORAGES,
-    UPDATE_IN_PLACE,
+    BY_THREAD, EVICT, EXACT_TTLS, LENIENT, LISTEN, OLDEST, QUIET, SOCKET_MODE, STORAGE,
+    UPDATE_IN_PLACE, eviction_word, storage_word,
 };
 use crate::number_option::{
     CONNECTIONS, IDLE, MAX_ITEM_SIZE, NumberOption, OUTPUT_MEMORY, SEGMENT_SIZE, SEGMENTS,
@@ -48,22 +48,17 @@ fn push_flag(line: &mut String, name: &str, is_given: bool) -> Result<(), AllocE
     Ok(())
 }
 
-/// Adds an option with the value that asks for this choice, unless that is the first one, the default.
-fn push_choice<T: Copy + PartialEq>(
+/// Adds an option with its value, unless that is the default.
+fn push_choice(
     line: &mut String,
     name: &str,
-    choices: &[(&str, T)],
-    chosen: T,
+    value: &str,
+    default: &str,
 ) -> Result<(), AllocError> {
-    let mut is_default = true;
-    for choice in choices {
-        let (value, asked) = *choice;
-        if asked == chosen && !is_default {
-            push_value(line, name, value)?;
-        }
-        is_default = false;
+    if value == default {
+        return Ok(());
     }
-    Ok(())
+    push_value(line, name, value)
 }
 
 /// Adds the options that have a number.
@@ -86,8 +81,8 @@ fn push_numbers(
 
 /// Adds the options that choose among rules, and those that have no value.
 fn push_rules(line: &mut String, options: &ServeOptions) -> Result<(), AllocError> {
-    push_choice(line, EVICT, &EVICTIONS, options.eviction)?;
-    push_choice(line, STORAGE, &STORAGES, options.storage)?;
+    push_choice(line, EVICT, eviction_word(options.eviction), OLDEST)?;
+    push_choice(line, STORAGE, storage_word(options.storage), BY_THREAD)?;
     push_flag(line, QUIET, options.quiet)?;
     push_flag(line, EXACT_TTLS, options.exact_ttls)?;
     push_flag(line, LENIENT, options.dialect.is_lenient())?;
@@ -113,8 +108,8 @@ fn push_addresses(
     Ok(())
 }
 
-/// All options of a server that are in force, as words that ask for the same: `--listen ADDR --workers 2 ..`. An
-/// option that is left out is not in force. Fails only if out of memory.
+/// All options of a server that are in force, as words that ask for the same: `--listen ADDR
+/// --workers 2 ..`. An option that is left out is not in force. Fails only if out of memory.
 pub fn options_in_force(alloc: Global, options: &ServeOptions) -> Result<String, AllocError> {
     let mut line = String::new(alloc);
     push_addresses(alloc, &mut line, options)?;

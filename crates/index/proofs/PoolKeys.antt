@@ -7,7 +7,8 @@ use Rattle.std.proofs.lemmas.Bool.Decides.{leb_tells, eqb_tells}
 use Rattle.std.proofs.Math.ListN.{get_or-eq_default}
 use Rattle.segments.specs.declared.place.Place.{Place}
 use Rattle.segments.specs.Items.{Item, item_at, size_of_item}
-use Rattle.segments.specs.Pools.{PoolState, Used, segment_at, opening_moment, items_of, item_in, IsPool}
+use Rattle.segments.specs.Pools.{PoolState, Used, segment_at, items_of, item_in, IsPool}
+use Rattle.segments.specs.Rules.{opening_moment}
 use Rattle.segments.specs.Changes.{with_segment, with_item, IsAddedToTail, IsAddedToFree}
 use Rattle.segments.proofs.WalkLemmas.{item_behind}
 use Rattle.index.specs.Keys.{IsKeyAdded}

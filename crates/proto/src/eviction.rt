@@ -6,7 +6,7 @@
 pub enum Eviction {
     /// Chains take turns, each with its front. The segment that was opened first is cleared.
     Oldest,
-    /// Of a quarter of the segments, from the last merge on in the order of opening, the first with such segments behind it is
+    /// Of a third of the segments, from the last merge on in the order of opening, the first with such segments behind it is
     /// merged with them; or the one with the fewest hits is cleared, the first of several. Opening moments are rounded down to
     /// half the bucket's width.
     LeastRead,

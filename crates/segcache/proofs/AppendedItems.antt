@@ -6,19 +6,20 @@ use Rattle.std.specs.Option.{option_map_or}
 use Rattle.std.specs.FinMap as finite
 use Rattle.std.specs.Result.{MatchResult, is_err}
 use Rattle.std.proofs.Common.{Result, Ok, Err}
-use Rattle.std.proofs.lemmas.Bool.{cases_Bool, eq-eqb, ne_eqb, false≢true, or_parts, leb-false, lt-leb, ltb-true, eqb-true}
-use Rattle.std.proofs.lemmas.Option.{option_and_then_some, cond_some}
+use Rattle.std.proofs.lemmas.Bool.{cases_Bool, eq-eqb, ne_eqb, false≢true, or_parts, leb-false, lt-leb, ltb-true, eqb-true, le-leb, not-true}
+use Rattle.std.proofs.lemmas.Option.{option_and_then_some, cond_some, none-some}
 use Rattle.std.proofs.lemmas.Slice.Eq.{bytes_eq-Decides}
 use Rattle.proto.specs.Cache.{Entry, Entries, has_arrived}
-use Rattle.proto.specs.Buckets.{MayLive, bucket_of, time_to_live, shared_deadline, width_of}
-use Rattle.proto.proofs.DeadlineLemmas.{may_be_shared}
+use Rattle.proto.specs.Buckets.{MayLive, bucket_of, time_to_live, shared_deadline, width_of, lower_end}
+use Rattle.proto.proofs.DeadlineLemmas.{may_be_shared, lies_in_bucket}
 use Rattle.segments.specs.declared.place.Place.{Place}
 use Rattle.segments.specs.Items.{Item, size_of_item}
 use Rattle.segments.specs.Pools.{PoolState, IsPool, Used, Liveness, item_in, place_deadline, deadline_in}
-use Rattle.segments.specs.Pools.{bucket_deadline, segment_at, tail, is_sealed, opening_moment, lasting}
-use Rattle.segments.specs.Changes.{IsAddedToTail, IsAddedToFree, open_tail, if_takes, takes, with_item}
+use Rattle.segments.specs.Pools.{bucket_deadline, segment_at, tail, is_sealed, lasting}
+use Rattle.segments.specs.Rules.{opening_moment}
+use Rattle.segments.specs.Changes.{IsAddedToTail, IsAddedToFree, open_tail, if_takes, takes, with_item, has_own, may_join}
 use Rattle.segments.proofs.Places.{appended, set_at, takes_open}
-use Rattle.segments.proofs.OpeningLemmas.{opening_le, opening_open}
+use Rattle.segments.proofs.OpeningLemmas.{opening_le, opening_open, open_joins}
 use Rattle.proto.specs.declared.eviction.Eviction.{Eviction}
 use Rattle.segments.proofs.LinkLemmas.{some_within, last_passes, in_chain}
 use Rattle.segments.proofs.InTimeLemmas.{in_time_appended}
@@ -39,43 +40,43 @@ use Rattle.segcache.proofs.AppendNeeds.{appended_here, appended_other}
 use Rattle.std.proofs.Common.{Bool}
 use Rattle.segcache.specs.Invariants.{IsDatedIn}
 use Rattle.segments.specs.Items.{deadline_if_there, item_deadline, own_or_shared}
-use Rattle.segcache.proofs.OwnDeadlines.{exactly_given, may_before, own_dated, own_may}
+use Rattle.segcache.proofs.OwnDeadlines.{MayStand, stands_appended, own_dated}
 use Rattle.segcache.specs.OwnDeadlines.{own_deadline_by}
 use Rattle.engine.specs.Deadlines.{is_storable_deadline}
 use Rattle.segments.specs.Places.{same_place}
 use Rattle.segments.proofs.MovedPlaces.{same_place_is}
 use Rattle.segments.specs.Pools.{shared_at}
 
--- the item went to a segment of its bucket that takes items at the moment t and could be opened by then; the others stay
-pub record IsIn (p : PoolState) (bucket t : ℕ) (after : PoolState) (place : Place) : Type 0 where
+-- the item went to a segment of its bucket that it may join at the moment t and that could be opened by then; the others stay
+pub record IsIn (p : PoolState) (bucket t : ℕ) (i : Item) (after : PoolState) (place : Place) : Type 0 where
   pub used : Used
   pub is_at : segment_at after place.segment ≡ Some used
   pub of_bucket : used.bucket ≡ bucket
   pub was : used.opened ≤ opening_moment p.eviction bucket t
   pub rule : after.eviction ≡ p.eviction
   pub dates : after.exact ≡ p.exact
-  pub takes : is_sealed bucket used.opened t ≡ false
+  pub takes : may_join (has_own i) bucket used.opened t ≡ true
   pub others : (n : ℕ) → (n == place.segment) ≡ false → segment_at after n ≡ segment_at p n
 
 -- the open tail for an item of a size is the last segment of the bucket's chain, and takes an item of that size
-tail_number : (p : PoolState) (bucket t size n : ℕ) → open_tail p bucket t size ≡ Some n → (tail p bucket ≡ Some n)
-    × (option_map_or (takes p.sizes t size) (segment_at p n) false ≡ true)
-tail_number p bucket t size n e =
-    option_and_then_some (if_takes p t size) (tail p bucket) n e
+tail_number : (p : PoolState) (bucket t : ℕ) (own : Bool) (size n : ℕ) → open_tail p bucket t own size ≡ Some n → (tail p bucket ≡ Some n)
+    × (option_map_or (takes p.sizes t own size) (segment_at p n) false ≡ true)
+tail_number p bucket t own size n e =
+    option_and_then_some (if_takes p t own size) (tail p bucket) n e
     (λ m is_tail passes.
-    let c = cond_some (option_map_or (takes p.sizes t size) (segment_at p m) false) m n passes in
-    (is_tail ∙ ap Some c.1, subst (λ k. option_map_or (takes p.sizes t size) (segment_at p k) false ≡ true) c.1 c.0))
+    let c = cond_some (option_map_or (takes p.sizes t own size) (segment_at p m) false) m n passes in
+    (is_tail ∙ ap Some c.1, subst (λ k. option_map_or (takes p.sizes t own size) (segment_at p k) false ≡ true) c.1 c.0))
 
--- an appended item is in a segment of its bucket that takes items at the moment and was opened by then; the others stay
+-- an appended item is in a segment of its bucket that it may join at the moment and that was opened by then; the others stay
 pub in_segment : (p : PoolState) (bucket t : ℕ) (i : Item) (after : PoolState) (place : Place) → IsPool p → IsPast p t
-    → IsAddedToTail p bucket t i after place ⊎ IsAddedToFree p bucket t i after place → IsIn p bucket t after place
+    → IsAddedToTail p bucket t i after place ⊎ IsAddedToFree p bucket t i after place → IsIn p bucket t i after place
 in_segment p bucket t i after place pool past (inl a) =
     let u : Used = with_item i a.segment in
     let lt = some_within p.segments place.segment a.segment a.is_tail in
     let at : (m : ℕ)
     → segment_at after m ≡ (if m == place.segment then Some u else segment_at p m) = λ m. ap
     (λ (r : PoolState). segment_at r m) a.after_is ∙ set_at p.segments place.segment (Some u) m lt in
-    let number = tail_number p bucket t (size_of_item i) place.segment a.tail in
+    let number = tail_number p bucket t (has_own i) (size_of_item i) place.segment a.tail in
     let c = in_chain p.segments bucket place.segment (last_passes _ p.order place.segment number.0) in
     let same : a.segment.bucket ≡ bucket = ap (λ (o : Option Used). option_map_or (λ (s : Used). s.bucket) o 0)
     (sym a.is_tail ∙ c.is_at) ∙ c.of_bucket in
@@ -87,8 +88,8 @@ in_segment p bucket t i after place pool past (inl a) =
           (past.opened place.segment a.segment a.is_tail);
       rule = ap (λ (r : PoolState). r.eviction) a.after_is;
       dates = ap (λ (r : PoolState). r.exact) a.after_is;
-      takes = subst (λ b. is_sealed b a.segment.opened t ≡ false) same
-          (takes_open p t (size_of_item i) (segment_at p place.segment) a.segment a.is_tail number.1);
+      takes = subst (λ b. may_join (has_own i) b a.segment.opened t ≡ true) same
+          (takes_open p t (has_own i) (size_of_item i) (segment_at p place.segment) a.segment a.is_tail number.1);
       others = λ n e. at n ∙ rw e refl;
     }
 in_segment p bucket t i after place pool past (inr a) =
@@ -106,14 +107,14 @@ in_segment p bucket t i after place pool past (inr a) =
       was = omega arith;
       rule = ap (λ (r : PoolState). r.eviction) a.after_is;
       dates = ap (λ (r : PoolState). r.exact) a.after_is;
-      takes = opening_open p.eviction bucket t;
+      takes = open_joins (has_own i) _ (opening_open p.eviction bucket t);
       others = λ n e. at n ∙ rw e refl;
     }
 
 -- where an item is appended, segments still stand in order, and none was opened after the moment
 pub past_put : (p : PoolState) (bucket t : ℕ) (i : Item) (after : PoolState) (place : Place) → IsPool p → IsPast p t
     → IsAddedToTail p bucket t i after place ⊎ IsAddedToFree p bucket t i after place
-    → IsIn p bucket t after place → IsDatedIn p.exact (shared_at after place) i → IsPast after t
+    → IsIn p bucket t i after place → IsDatedIn p.exact (shared_at after place) i → IsPast after t
 past_put p bucket t i after place pool past added x own =
     let a = appended p bucket t i after place pool added in
     record {
@@ -184,6 +185,36 @@ deadline_may t bucket opened (Some asked) waits is was unclosed =
     let e : bucket_deadline bucket opened ≡ Some (shared_deadline bucket opened) = rw f refl in
     subst (MayLive t (Some asked)) (sym e) (may_be_shared t asked opened bucket later is was b a)
 
+-- a segment that was opened by then has a deadline that comes no later
+no_later : (t asked opened low : ℕ) → t < asked → opened ≤ t → low ≤ asked - t → opened + max 1 low ≤ asked
+no_later t asked opened low later was from = omega arith
+
+-- so where it is one of the bucket of the time to live that is asked for
+shared_before : (t bucket opened : ℕ) (asked : Option ℕ) → has_arrived asked t ≡ false
+    → bucket ≡ bucket_of (time_to_live asked t) → opened ≤ t → (d : ℕ) → asked ≡ Some d
+    → has_arrived (bucket_deadline bucket opened) d ≡ true
+shared_before t bucket opened None waits is was d e = absurd (none-some d e)
+shared_before t bucket opened (Some asked) waits is was d e =
+    let below : bucket_of (time_to_live (Some asked) t) < 1024 = bucket_below (max 1 (asked - t)) in
+    let f : (bucket == lasting) ≡ false = ne_eqb bucket lasting (omega (arith, below, is)) in
+    let later : t < asked = leb-false asked t waits in
+    let life : asked - t ≡ max 1 (asked - t) = omega (arith, later) in
+    let own : bucket_of (Some (asked - t)) ≡ bucket = ap (λ n. bucket_of (Some n)) life ∙ sym is in
+    let from : lower_end bucket ≤ asked - t = subst (λ b. lower_end b ≤ asked - t) own (lies_in_bucket (asked - t)).from in
+    let early = le-leb (shared_deadline bucket opened) asked (no_later t asked opened (lower_end bucket) later was from) in
+    let same : asked ≡ d = cc in
+    subst (λ n. has_arrived (bucket_deadline bucket opened) n ≡ true) same (rw f early)
+
+-- what an item gets that is appended where it may join: it has its own deadline, or the segment's may be given
+appended_gets : (p : PoolState) (t bucket opened : ℕ) (i : Item) (asked : Option ℕ) → has_arrived asked t ≡ false
+    → bucket ≡ bucket_of (time_to_live asked t) → opened ≤ t → i.own_deadline ≡ own_deadline_by p.exact asked
+    → may_join (has_own i) bucket opened t ≡ true → MayStand p.exact t asked (bucket_deadline bucket opened)
+appended_gets p t bucket opened i asked waits of_bucket was own joins =
+    stands_appended p.exact t asked (bucket_deadline bucket opened) waits
+    (shared_before t bucket opened asked waits of_bucket was)
+    (λ none. (let z = eq-eqb i.own_deadline 0 (own ∙ none) in let open_now : not (is_sealed bucket opened t) ≡ true = rw z at joins in
+    deadline_may t bucket opened asked waits of_bucket was (not-true (is_sealed bucket opened t) open_now)))
+
 -- a deadline that an entry may get at a moment hasn't come at that moment
 pub may_wait : (t : ℕ) (asked given : Option ℕ) → MayLive t asked given → has_arrived given t ≡ false
 may_wait t None None h = refl
@@ -232,7 +263,7 @@ put_deadline p after bucket t i asked place past pool added own waits of_bucket 
     let x = in_segment p bucket t i after place pool past added in
     let was = le_trans x.was (opening_le p.eviction bucket t) in
     let shared : Option ℕ = bucket_deadline bucket x.used.opened in
-    let may : MayLive t asked shared = deadline_may t bucket x.used.opened asked waits of_bucket was x.takes in
+    let gets : MayStand p.exact t asked shared = appended_gets p t bucket x.used.opened i asked waits of_bucket was own x.takes in
     let there : shared_at after place ≡ shared =
     ap deadline_in x.is_at ∙ ap (λ b. bucket_deadline b x.used.opened) x.of_bucket in
     let here = appended_here p after bucket t i place a in
@@ -241,12 +272,12 @@ put_deadline p after bucket t i asked place past pool added own waits of_bucket 
     ∙ ap (λ (n : ℕ). own_or_shared n shared) own in
     record {
       deadline = own_or_shared (own_deadline_by p.exact asked) shared;
-      may_live = own_may p.exact t asked shared waits may;
-      exactly = exactly_given p.exact t asked shared waits may;
+      may_live = gets.may_live;
+      exactly = gets.exactly;
       entry_is = entry_is after place i here ∙ ap (λ (d : Option ℕ). kept_entry d i) deadline;
       past = past_put p bucket t i after place pool past added x
           (subst (λ (d : Option ℕ). IsDatedIn p.exact d i) (sym there)
-          (own_dated p.exact asked shared i own (may_before t asked shared may)));
+          (own_dated p.exact asked shared i own gets.precedes.before));
       exact_is = x.dates;
     }
 

@@ -18,7 +18,9 @@ use Rattle.segments.specs.Pools.{PoolState, IsPool, Plan, Used, Liveness, segmen
 use Rattle.segments.specs.Changes.{HasNoRoom, IsGivenBack, IsAddedToTail, IsAddedToFree, dead_segments}
 use Rattle.proto.specs.declared.eviction.Eviction.{Eviction}
 use Rattle.proto.specs.declared.eviction.Eviction.TheVariants.{Oldest, LeastRead}
-use Rattle.segments.specs.Merges.{most_merged, IsVictimBy, Evicts, NoneQualifies, merged_into, merged_segments, front}
+use Rattle.segments.specs.Merges.{Evicts, NoneQualifies, merged_into, merged_segments}
+use Rattle.segments.specs.Rules.{most_merged, IsVictimBy}
+use Rattle.segments.specs.Chains.{front}
 use Rattle.segments.proofs.FrontLemmas.{most_two}
 use Rattle.segments.specs.Places.{AgreeIn}
 use Rattle.segments.proofs.AgreeingTests.{same_live_items, same_live_standing, same_dead, same_given}

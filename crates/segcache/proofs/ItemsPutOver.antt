@@ -13,7 +13,8 @@ use Rattle.engine.specs.Written.{IsWritten}
 use Rattle.segments.specs.declared.place.Place.{Place}
 use Rattle.segments.specs.Items.{Item, IsStorable, fits_over}
 use Rattle.segments.specs.Pools.{PoolState, IsPool, item_in, lasting}
-use Rattle.segments.specs.Changes.{with_item_at, goes_over_by}
+use Rattle.segments.specs.Changes.{with_item_at}
+use Rattle.segments.specs.Rules.{goes_over_by}
 use Rattle.segments.proofs.ItemChanges.{KeepsSize, keeps_over}
 use Rattle.index.specs.Table.{Places}
 use Rattle.segcache.specs.Shown.{current, shown_entries, live_entries, entry_at, kept_entry}

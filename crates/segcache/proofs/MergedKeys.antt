@@ -12,7 +12,9 @@ use Rattle.segments.specs.Items.{size_of_item}
 use Rattle.segments.specs.Pools.{PoolState, IsPool, Plan, Standing, segment_at, standing}
 use Rattle.segments.specs.Changes.{without_segment}
 use Rattle.segments.specs.Places.{moved_by}
-use Rattle.segments.specs.Merges.{most_merged, IsVictim, Judged, NoneQualifies, moves_into, front, merged_segments, first_of_list, live_items, carried_items}
+use Rattle.segments.specs.Merges.{IsVictim, Judged, NoneQualifies, moves_into, merged_segments, first_of_list, live_items, carried_items}
+use Rattle.segments.specs.Rules.{most_merged}
+use Rattle.segments.specs.Chains.{front}
 use Rattle.segments.proofs.FrontLemmas.{most_two}
 use Rattle.segments.proofs.PlanLemmas.{standing_in, plan_after}
 use Rattle.segments.specs.Marks.{Marks, is_marked, lives_by}

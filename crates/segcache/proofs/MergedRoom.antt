@@ -15,9 +15,12 @@ use Rattle.segments.specs.declared.place.Move.{Move}
 use Rattle.segments.specs.Items.{Item, with_reads_halved}
 use Rattle.segments.specs.Changes.{with_items}
 use Rattle.proto.specs.Counts.{times}
-use Rattle.segments.specs.Pools.{PoolState, Plan, IsPool, Used, opening_moment, Standing, segment_at, item_in, place_deadline, standing, live_standing}
+use Rattle.segments.specs.Pools.{PoolState, Plan, IsPool, Used, Standing, segment_at, item_in, place_deadline, standing, live_standing}
+use Rattle.segments.specs.Rules.{opening_moment}
 use Rattle.segments.specs.Places.{same_place, moved_by}
-use Rattle.segments.specs.Merges.{qualifies, most_merged, front, merged_segments, merged_into, live_items, contains_number, carried_out, carried_items}
+use Rattle.segments.specs.Merges.{merged_segments, merged_into, live_items, contains_number, carried_out, carried_items}
+use Rattle.segments.specs.Chains.{qualifies, front}
+use Rattle.segments.specs.Rules.{most_merged}
 use Rattle.segments.proofs.MovedPlaces.{moved_other, moved_live, live_source, sources_live, same_place_is, merged_front, merged_in_chain, merged_segment}
 use Rattle.segments.specs.Filling.{IsInTimeOrder}
 use Rattle.segments.proofs.InTimeLemmas.{order_of_merged}

@@ -7,12 +7,14 @@ use Rattle.std.proofs.lemmas.List.Elements.{All-nil, All-cons}
 use Rattle.std.proofs.lemmas.Bool.{cases_Bool}
 use Rattle.std.proofs.lemmas.Option.{none-some}
 use Rattle.segments.specs.declared.place.Place.{Place}
-use Rattle.segments.specs.Pools.{PoolState, IsPool, Used, Liveness, segment_at, has_live, opening_moment, lasting}
+use Rattle.segments.specs.Pools.{PoolState, IsPool, Used, Liveness, segment_at, has_live, lasting}
+use Rattle.segments.specs.Rules.{opening_moment}
 use Rattle.segments.specs.Items.{Item}
 use Rattle.segments.specs.Changes.{with_change, with_segment_hit, change_in, without_segment, IsGivenBack}
-use Rattle.segments.specs.Merges.{opened_at}
+use Rattle.segments.specs.Chains.{opened_at}
 use Rattle.proto.specs.declared.eviction.Eviction.{Eviction}
-use Rattle.segments.specs.Filling.{IsInTime, IsOpenedBy, bucket_in}
+use Rattle.segments.specs.Filling.{IsInTime, IsOpenedBy}
+use Rattle.segments.specs.Chains.{bucket_in}
 use Rattle.segments.proofs.OpeningLemmas.{opening_later}
 use Rattle.segments.proofs.Places.{changed_segment, cleared_segment}
 use Rattle.segments.proofs.SeriesLemmas.{AreUsed, order_used}

@@ -166,6 +166,39 @@ own_lives exact t (Some d) shared e near h p =
       exactly = λ f g. is;
     }
 
+-- an item that has none of its own has the segment's, if that may be given; where it has its own, the segment's may be any that
+-- comes no later
+pub stands_appended : (exact : Bool) (t : ℕ) (asked shared : Option ℕ) → has_arrived asked t ≡ false
+    → ((d : ℕ) → asked ≡ Some d → has_arrived shared d ≡ true)
+    → (own_deadline_by exact asked ≡ 0 → MayLive t asked shared) → MayStand exact t asked shared
+stands_appended exact t asked shared waits before may = by exact asked waits before may
+  where
+    given : (exact : Bool) (asked : Option ℕ) → has_arrived asked t ≡ false → MayLive t asked shared
+        → MayStand exact t asked shared
+    given exact asked waits may =
+        record {
+          precedes = record { asked_waits = waits; before = may_before t asked shared may };
+          may_live = own_may exact t asked shared waits may;
+          exactly = exactly_given exact t asked shared waits may;
+        }
+
+    by : (exact : Bool) (asked : Option ℕ) → has_arrived asked t ≡ false
+        → ((d : ℕ) → asked ≡ Some d → has_arrived shared d ≡ true)
+        → (own_deadline_by exact asked ≡ 0 → MayLive t asked shared) → MayStand exact t asked shared
+    by false asked waits before may = given false asked waits (may refl)
+    by true None waits before may = given true None waits (may refl)
+    by true (Some d) waits before may =
+        elim (cases_Bool (nat_lt d 281474976710656)) [
+          | inl y ↦
+              let is = own_exactly true t d shared waits refl y in
+              record {
+                precedes = record { asked_waits = waits; before = before };
+                may_live = subst (MayLive t (Some d)) (sym is) (may_be_exact t (Some d) waits);
+                exactly = λ f g. is;
+              }
+          | inr n ↦ (let none : own_deadline_by true (Some d) ≡ 0 = rw n refl in given true (Some d) waits (may none))
+        ]
+
 pub stands : (exact : Bool) (t : ℕ) (asked shared : Option ℕ) → may_share_segment exact t asked shared ≡ true
     → MayStand exact t asked shared
 stands exact t asked shared h =

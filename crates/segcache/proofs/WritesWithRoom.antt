@@ -14,7 +14,8 @@ use Rattle.proto.specs.Stored.{StoredItem, written, spread}
 use Rattle.proto.proofs.CacheLemmas.{without-nil}
 use Rattle.segments.specs.declared.place.Place.{Place}
 use Rattle.segments.specs.Items.{Item, size_of_item, IsStorable}
-use Rattle.segments.specs.Pools.{PoolState, IsPool, Used, Liveness, segment_at, opening_moment, lasting}
+use Rattle.segments.specs.Pools.{PoolState, IsPool, Used, Liveness, segment_at, lasting}
+use Rattle.segments.specs.Rules.{opening_moment}
 use Rattle.segments.specs.Changes.{HasNoRoom, IsAddedToTail, IsAddedToFree}
 use Rattle.segments.specs.Filling.{IsFilled, HoldsLittle, held_size, Series, series_for, series_of, same_series, series_among, series_with}
 use Rattle.segments.proofs.FilledLemmas.{keeps_append}

@@ -5,7 +5,8 @@ use Rattle.proto.specs.History.{max_moment}
 use Rattle.proto.specs.Cache.{has_arrived}
 use Rattle.segments.specs.declared.place.Place.{Place}
 use Rattle.segments.specs.Items.{Item}
-use Rattle.segments.specs.Pools.{PoolState, Used, segment_at, item_in, shared_at, opening_moment}
+use Rattle.segments.specs.Pools.{PoolState, Used, segment_at, item_in, shared_at}
+use Rattle.segments.specs.Rules.{opening_moment}
 use Rattle.segments.specs.Filling.{IsInTimeOrder}
 use Rattle.segments.specs.Marks.{Marks, KnowsPool, is_marked}
 use Rattle.index.specs.Layouts.{IsLayoutOf}

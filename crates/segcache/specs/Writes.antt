@@ -11,7 +11,8 @@ use Rattle.segments.specs.Items.{Item, IsStorable, fits_over, item_deadline}
 use Rattle.segments.specs.Pools.{key_at, item_in, place_deadline, shared_at}
 use Rattle.index.specs.declared.index.Entry.{Entry as Found}
 use Rattle.index.specs.Searches.{IsEntryOf}
-use Rattle.segments.specs.Changes.{with_read, with_item_at, with_segment_hit, goes_over_by}
+use Rattle.segments.specs.Changes.{with_read, with_item_at, with_segment_hit}
+use Rattle.segments.specs.Rules.{goes_over_by}
 use Rattle.segcache.specs.State.{MapState, IsSegmentedMap}
 use Rattle.segcache.specs.Shown.{current, entry_at, kept_entry, shown_entries}
 use Rattle.segcache.specs.LiveItems.{live_others}

@@ -1,4 +1,5 @@
-//! What a map counts for `stats`: no clause speaks of it. After the greatest number a count goes on from 0.
+//! What a map counts for `stats`: no clause speaks of it. After the greatest number a count goes on
+//! from 0.
 
 use segments::{Move, Place, Pool};
 
@@ -41,8 +42,8 @@ impl StoreCounts {
         self.merged_keys.wrapping_add(self.cleared_keys)
     }
 
-    /// Counts what was done, besides forgetting, since these counts, to make a segment free: so many keys have gone, and so many
-    /// segments are free. None was before.
+    /// Counts what was done, besides forgetting, since these counts, to make a segment free: so
+    /// many keys have gone, and so many segments are free. None was before.
     pub(crate) fn freed(&mut self, before: StoreCounts, keys: u64, free: u64) {
         let forgotten = self.evicted_keys().wrapping_sub(before.evicted_keys());
         self.expired_keys = self

@@ -1,5 +1,6 @@
-//! How a segment becomes free if none is: segments without a live item are given back, or else a merge makes room, or
-//! a segment is cleared: the one that was opened first, or of those looked at the one with the fewest hits.
+//! How a segment becomes free if none is: segments without a live item are given back, or else a
+//! merge makes room, or a segment is cleared: the one that was opened first, or of those looked at
+//! the one with the fewest hits.
 
 ghost use Rattle.std.specs.Prelude.{◌≡◌, ℕ};
 ghost use Rattle.segments.specs.Items.{Item};
@@ -45,8 +46,8 @@ impl SegmentMap {
         }
     }
 
-    /// Forgets what has to be forgotten if each segment has a live item: what a merge doesn't keep, or, if nothing
-    /// can be merged, a segment's items. What was forgotten is counted.
+    /// Forgets what has to be forgotten if each segment has a live item: what a merge doesn't keep,
+    /// or, if nothing can be merged, a segment's items. What was forgotten is counted.
     fn forget_some(&mut self)
         requires full { IsPoolFull self.old.pool }
         requires crowded { IsCrowded self.old.pool self.old.index self.old.moment }
@@ -82,8 +83,8 @@ impl SegmentMap {
         }
     }
 
-    /// Makes a segment free: gives back those without a live item, and if there are none forgets something. What was done is
-    /// counted.
+    /// Makes a segment free: gives back those without a live item, and if there are none forgets
+    /// something. What was done is counted.
     pub fn free_segment(&mut self)
         requires full { IsPoolFull self.old.pool }
         ensures made { IsRoomMade self.old.pool self.old.index self.old.moment self.new.pool self.new.index }

@@ -1,5 +1,6 @@
-//! The segmented store: the engine over entries in segments. A segment has items of one range of times to live. Segments are
-//! given back whole, or merged if room is needed; an index finds the entries.
+//! The segmented store: the engine over entries in segments. A segment has items of one range of
+//! times to live. Segments are given back whole, or merged if room is needed; an index finds the
+//! entries.
 #![tactic(auto)]
 
 mod counts;

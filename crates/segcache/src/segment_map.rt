@@ -2,7 +2,7 @@
 
 ghost use Rattle.std.specs.Prelude.{◌≡◌, ◌≤◌, false, IfOk, IsSome, Some};
 ghost use Rattle.std.specs.FinMap as map;
-ghost use Rattle.proto.specs.Buckets.{time_to_live, life_width};
+ghost use Rattle.proto.specs.Buckets.{time_to_live};
 ghost use Rattle.segments.specs.Items.{Item};
 ghost use Rattle.segments.specs.Shown.{item_of};
 ghost use Rattle.segments.specs.Pools.{IsPool, item_in, place_deadline};
@@ -18,7 +18,7 @@ use crate::counts::StoreCounts;
 use engine::{EntryRef, LiveMap, StoreMap, has_arrived};
 use index::{Entry, Index, layout_for, slots_for};
 use proto::{Eviction, Gauge, Gauges, Geometry, NoMemory};
-use segments::{ItemRef, LiveMarks, Place, Pool, bucket_of};
+use segments::{ItemRef, LONGEST_LIFE, LiveMarks, Place, Pool, bucket_of, life_width};
 use std::alloc::Global;
 use std::hash::FoldHasher;
 use std::marker::Model;
@@ -59,27 +59,13 @@ fn time_to_live(deadline: Option<u64>, now: u64) -> Option<u64>
     Some(deadline.saturating_sub(now).max(1))
 }
 
-/// How wide the bucket of a life is in seconds.
-fn life_width(life: u64) -> u64
-    ensures { result ≡ life_width life }
-{
-    if life < 2048 {
-        8
-    } else if life < 32_768 {
-        128
-    } else if life < 524_288 {
-        2048
-    } else {
-        32_768
-    }
-}
-
-/// Whether a life, of which what is above 8,388,608 seconds doesn't count, loses less than two widths of its bucket.
+/// Whether a life, of which what is above the longest one doesn't count, loses less than two widths
+/// of its bucket.
 fn loses_little(now: u64, asked: u64, given: u64) -> bool
     requires { now ≤ asked }
     ensures { result ≡ loses_little now asked given }
 {
-    let most = asked.min(now.saturating_add(8_388_608));
+    let most = asked.min(now.saturating_add(LONGEST_LIFE));
     most.saturating_sub(given) < 2 * life_width(asked - now)
 }
 
@@ -136,8 +122,8 @@ fn is_same(one: Option<u64>, other: Option<u64>) -> bool
     }
 }
 
-/// Whether an item with the first deadline of its own, which hasn't come, goes into a segment with the second one: that is
-/// the same or little earlier, and may have come.
+/// Whether an item with the first deadline of its own, which hasn't come, goes into a segment with
+/// the second one: that is the same or little earlier, and may have come.
 fn suits_segment(now: u64, own: Option<u64>, shared: Option<u64>) -> bool
     ensures { result ≡ suits_segment now own shared }
 {
@@ -152,8 +138,8 @@ fn suits_segment(now: u64, own: Option<u64>, shared: Option<u64>) -> bool
     }
 }
 
-/// Whether an item that asks for the one deadline may stand in a segment with the other one: a write may give that, or the
-/// item has its own, which goes in there.
+/// Whether an item that asks for the one deadline may stand in a segment with the other one: a
+/// write may give that, or the item has its own, which goes in there.
 pub(crate) fn may_share_segment(
     exact: bool,
     now: u64,
@@ -166,8 +152,8 @@ pub(crate) fn may_share_segment(
         || (exact && is_storable_deadline(asked) && suits_segment(now, asked, shared))
 }
 
-/// Whether an entry with this deadline may stay if another one is asked for at the moment: it may be one that a write gives, or at
-/// most an eighth of the life asked for is missing.
+/// Whether an entry with this deadline may stay if another one is asked for at the moment: it may
+/// be one that a write gives, or at most an eighth of the life asked for is missing.
 fn stays_as(now: u64, asked: Option<u64>, given: Option<u64>) -> bool
     ensures { result ≡ stays_as now asked given }
 {
@@ -182,8 +168,8 @@ fn stays_as(now: u64, asked: Option<u64>, given: Option<u64>) -> bool
     }
 }
 
-/// Whether an entry with this deadline is left if another one is asked for: if it may stay; and where items have their own
-/// deadlines, if it is that one, as far as an item can have it.
+/// Whether an entry with this deadline is left if another one is asked for: if it may stay; and
+/// where items have their own deadlines, if it is that one, as far as an item can have it.
 fn touch_leaves_by(exact: bool, now: u64, asked: Option<u64>, given: Option<u64>) -> bool
     ensures { result ≡ touch_leaves_by exact now asked given }
 {
@@ -340,7 +326,7 @@ impl LiveMap for SegmentMap {
     }
 
     fn count_read(&mut self, _key: &[u8], place: Place) {
-        self.pool.touch(place);
+        self.pool.count_read(place);
     }
 
     fn count_touch(&mut self, _key: &[u8], place: Place) {

@@ -1,4 +1,5 @@
-//! Takes items out of the index, with their marks: one, those of a segment, those whose deadline has come, and all.
+//! Takes items out of the index, with their marks: one, those of a segment, those whose deadline
+//! has come, and all.
 
 ghost use Rattle.std.specs.Prelude.{◌≡◌, ◌<◌, Some};
 ghost use Rattle.std.specs.FinMap as map;
@@ -15,7 +16,8 @@ use engine::has_arrived;
 use index::{Entry, Index};
 use segments::{LiveMarks, Place, Pool};
 
-/// Takes the current item of a key, which stands at the place, out. The key may be borrowed from the pool.
+/// Takes the current item of a key, which stands at the place, out. The key may be borrowed from
+/// the pool.
 fn unindex(pool: &Pool, index: &mut Index, marks: &mut LiveMarks, key: &[u8], place: Place)
     requires tied { IsTied pool.now index.old marks.old }
     requires there { map.get (current pool.now index.old) key.now ≡ Some place }
@@ -121,7 +123,8 @@ impl SegmentMap {
         }
     }
 
-    /// Takes the current items out whose deadline has come. A segment's comes no later than those of its items.
+    /// Takes the current items out whose deadline has come. A segment's comes no later than those
+    /// of its items.
     pub fn unindex_expired(&mut self)
         ensures left { HaveExpiredLeft self.old.pool self.old.moment (current self.old.pool self.old.index)
             (current self.new.pool self.new.index) }

@@ -1,4 +1,5 @@
-//! How an item is written: into its bucket's tail or a free segment, in place of the one that its key has.
+//! How an item is written: into its bucket's tail or a free segment, in place of the one that its
+//! key has.
 
 ghost use Rattle.std.specs.Prelude.{◌≡◌, ◌⊎◌, ◌<◌, None, false, IfSome, IsSome, IsTrue, MatchOption, MatchResult};
 ghost use Rattle.std.specs.FinMap as map;
@@ -40,8 +41,8 @@ fn mark_instead(marks: &mut LiveMarks, source: Option<Place>, place: Place)
 }
 
 impl SegmentMap {
-    /// The place of the item of its key over which an item goes, where the key's search found this; None if it is
-    /// written anew.
+    /// The place of the item of its key over which an item goes, where the key's search found this;
+    /// None if it is written anew.
     pub(crate) fn place_over(&self, item: ItemRef, found: Entry) -> Option<Place>
         requires found { FindsKey self.now item.key.now found }
         requires storable { IsStorable (item_limit self.now.pool.sizes) (item_of item) }
@@ -79,8 +80,8 @@ impl SegmentMap {
         self.pool.overwrite(place, ItemRef { reads, ..item });
     }
 
-    /// Puts an item, in place of the one that its key has, whose search found this, into its bucket's tail or a free
-    /// segment. NoRoom if the tail doesn't take it and no segment is free.
+    /// Puts an item, in place of the one that its key has, whose search found this, into its
+    /// bucket's tail or a free segment. NoRoom if the tail doesn't take it and no segment is free.
     fn append(&mut self, bucket: usize, item: ItemRef, found: Entry) -> Result<Place, NoRoom>
         requires found { FindsKey self.old item.key.now found }
         requires bucket { bucket < bucket_count }
@@ -105,8 +106,8 @@ impl SegmentMap {
         Ok(place)
     }
 
-    /// Makes a segment free, and puts an item there, of a key that has none. That moves keys to other slots, so the
-    /// key is searched for again.
+    /// Makes a segment free, and puts an item there, of a key that has none. That moves keys to
+    /// other slots, so the key is searched for again.
     fn append_to_freed(&mut self, bucket: usize, item: ItemRef)
         requires bucket { bucket < bucket_count }
         requires storable { IsStorable (item_limit self.old.pool.sizes) (item_of item) }
@@ -127,8 +128,9 @@ impl SegmentMap {
         let _ = self.append(bucket, item, found);
     }
 
-    /// Puts an item into the pool in place of the one that its key has, whose search found this. If that needs no free
-    /// segment, the index needs no other search; else the old one is taken out, and a segment made free.
+    /// Puts an item into the pool in place of the one that its key has, whose search found this. If
+    /// that needs no free segment, the index needs no other search; else the old one is taken out,
+    /// and a segment made free.
     pub fn write_item(&mut self, bucket: usize, item: ItemRef, found: Entry)
         requires found { FindsKey self.old item.key.now found }
         requires bucket { bucket < bucket_count }

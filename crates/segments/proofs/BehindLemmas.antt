@@ -15,8 +15,10 @@ use Rattle.segments.specs.declared.pool.Pool.TheInside.{Inside}
 use Rattle.segments.specs.Items.{Item}
 use Rattle.segments.specs.Inside.{shown_segments, pool_of, is_used_at, IsLinked, IsPoolKept}
 use Rattle.segments.specs.Pools.{PoolState, Used, lasting, in_bucket, chain_in}
-use Rattle.segments.specs.Merges.{opened_in, opened_at, go_together, front, front_of, chain_of, merged_segments, behind_front}
-use Rattle.segments.specs.Merges.{order_by, without_segments, most_merged}
+use Rattle.segments.specs.Merges.{merged_segments}
+use Rattle.segments.specs.Chains.{opened_in, opened_at, go_together, front, front_of, chain_of, behind_front}
+use Rattle.segments.specs.Merges.{without_segments}
+use Rattle.segments.specs.Rules.{order_by, most_merged}
 use Rattle.segments.proofs.LinkLemmas.{times-filter, times_at, without_at, in_chain, order_once}
 use Rattle.segments.proofs.FrontLemmas.{times-take, times-drop, most_two}
 use Rattle.segments.proofs.MateLemmas.{chain_with, chain_without}

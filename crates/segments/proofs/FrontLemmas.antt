@@ -11,7 +11,9 @@ use Rattle.proto.specs.Counts.{times}
 use Rattle.segments.specs.Pools.{Used, lasting, in_bucket, chain_in}
 use Rattle.proto.specs.declared.eviction.Eviction.{Eviction}
 use Rattle.proto.specs.declared.eviction.Eviction.TheVariants.{Oldest, LeastRead}
-use Rattle.segments.specs.Merges.{opened_in, front_of, merged_in, most_merged}
+use Rattle.segments.specs.Merges.{merged_in}
+use Rattle.segments.specs.Chains.{opened_in, front_of}
+use Rattle.segments.specs.Rules.{most_merged}
 
 -- a slice up to the end is all that follows its start
 pub rest_from : (n : ℕ) (xs : List ℕ) → take (length xs - n) (drop n xs) ≡ drop n xs

@@ -6,6 +6,7 @@ use Rattle.std.specs.Prelude.{filter, is_some, not, option_map, take, min, slice
 use Rattle.std.specs.Option.{option_map_or}
 use Rattle.std.proofs.lemmas.Bool.{cases_Bool, eq-eqb, eqb-true, false≢true, le-ltb, not-true}
 use Rattle.std.proofs.lemmas.List.{length-take}
+use Rattle.std.proofs.lemmas.Option.{same_Some}
 use Rattle.std.proofs.Math.Nat.{le-min}
 use Rattle.std.proofs.lemmas.List.Elements.{All-nil, All-cons, All-head, All-tail}
 use Rattle.segments.specs.declared.merge.Choice.{Choice}
@@ -23,14 +24,20 @@ use Rattle.segments.proofs.MovedNumbers.{times_between, moved_filter, in_time_mo
 use Rattle.segments.proofs.BehindLemmas.{IsBehind, behind_is}
 use Rattle.segments.proofs.SeriesLemmas.{bucket_of_in}
 use Rattle.segments.specs.Hits.{HitCounts, IsFewest}
-use Rattle.segments.specs.Merges.{IsVictim, IsVictimBy, qualifies, merged_segments, merged_into, contains_number, opened_at}
-use Rattle.segments.specs.Merges.{look_count, candidates, quarter, chain_of, behind_front, order_by}
-use Rattle.segments.specs.Filling.{bucket_in, OpensNoLater, AreInTime, IsInTimeOrder, IsInTime}
+use Rattle.segments.specs.Merges.{IsVictim, merged_segments, merged_into, contains_number}
+use Rattle.segments.specs.Chains.{qualifies, opened_at}
+use Rattle.segments.specs.LeastReadRule.{look_count, candidates, third}
+use Rattle.segments.specs.Chains.{chain_of, behind_front}
+use Rattle.segments.specs.Rules.{order_by}
+use Rattle.segments.specs.Filling.{AreInTime, IsInTimeOrder, IsInTime}
+use Rattle.segments.specs.Chains.{bucket_in}
+use Rattle.segments.specs.Rules.{OpensNoLater}
 use Rattle.segments.proofs.LinkLemmas.{used_if, below_by}
 use Rattle.segments.proofs.Places.{cleared_segment}
 use Rattle.segments.proofs.MovedPlaces.{merged_front, merged_in_chain, merged_once, merged_segment}
 use Rattle.segments.proofs.FilledLemmas.{opened_new, not_free, same_all, alike_same, alike_all, alike_at}
 use Rattle.segments.proofs.FilledLemmas.{in_time_alike, in_order_by, in_time_new, in_time_tail, change_alike}
+use Rattle.segments.specs.Rules.{IsVictimOf, NoVictimOf}
 
 -- The segments of chains are some of those that were, with the opening moments that they had.
 pub record IsPart (p q : PoolState) : Type 0 where
@@ -261,37 +268,55 @@ fewest_stands h k order n f =
     let part = times-take n k order in
     omega arith
 
--- it is a segment, if there is one
-pub if_fewest : (p : PoolState) (none : Type 0) (k : ℕ) (o : Option ℕ) → IsPool p
-    → MatchOption o none (IsFewest p.hits (take k p.order)) → IfSome o (λ n. IsSome (segment_at p n))
-if_fewest p none k None pool m = tt
-if_fewest p none k (Some n) pool f =
-    used_if (segment_at p n) (times n p.order) (pool.named n) (fewest_stands p.hits k p.order n f)
+-- so does the segment that a rule evicts
+victim_stands : (e : Eviction) (k : ℕ) (order : List ℕ) (h : HitCounts) (n : ℕ) → IsVictimOf e k order h n
+    → 1 ≤ times n order
+victim_stands Oldest k [] h n v = absurd (false≢true (ap is_some v))
+victim_stands Oldest k (m ∷ order) h n v =
+    let z = eq-eqb m n (same_Some m n v) in
+    let here : times n (m ∷ order) ≡ 1 + times n order = rw z refl in
+    omega arith
+victim_stands LeastRead k order h n f = fewest_stands h k order n f
+
+-- what a rule finds to evict of a pool, if it finds a segment
+abbrev pub IsFoundBy : PoolState → Option ℕ → Type 0
+IsFoundBy p o = MatchOption o (NoVictimOf p.eviction (look_count p) p.order)
+    (IsVictimOf p.eviction (look_count p) p.order p.hits)
+
+-- it is a segment
+pub victim_in_chain : (p : PoolState) (o : Option ℕ) → IsPool p → IsFoundBy p o → IfSome o (λ n. IsSome (segment_at p n))
+victim_in_chain p None pool m = tt
+victim_in_chain p (Some n) pool v =
+    used_if (segment_at p n) (times n p.order) (pool.named n)
+    (victim_stands p.eviction (look_count p) p.order p.hits n v)
 
 -- what is less than both is less than the lesser
 lt-min : (k a b : ℕ) → k < a → k < b → k < min a b
 lt-min k a b x y = let h : k + 1 ≤ min a b = le-min (omega arith) (omega arith) in omega (arith, h)
 
 -- where no segment is looked at, none is in a chain
-looked_none : (p : PoolState) (order : List ℕ) → p.order ≡ order → 0 < quarter p → candidates p ≡ [] → order ≡ []
+looked_none : (p : PoolState) (order : List ℕ) → p.order ≡ order → 0 < third p → candidates p ≡ [] → order ≡ []
 looked_none p [] is q e = refl
 looked_none p (x ∷ xs) is q e =
     let count : length p.order ≡ length (x ∷ xs) = ap length is in
     let some : 0 < length p.order = omega (arith, count, add-one (length xs)) in
-    let looked = lt-min 0 (quarter p) (length p.order) q some in
+    let looked = lt-min 0 (third p) (length p.order) q some in
     let t = length-take (look_count p) p.order in
     let l = ap length e in
     absurd (omega (arith, t, l, looked, some))
 
--- a quarter of a pool's segments is some
-quarter_some : (p : PoolState) → IsPool p → 0 < quarter p
-quarter_some p k = let few = k.geometry.fewest in omega (arith, few)
+-- a third of a pool's segments is some
+third_some : (p : PoolState) → IsPool p → 0 < third p
+third_some p k = let few = k.geometry.fewest in omega (arith, few)
 
--- of the segments looked at the one with the fewest hits is evicted, where the rule says so
-pub looked_victim : (p : PoolState) (o : Option ℕ) → IsPool p → p.eviction ≡ LeastRead
-    → MatchOption o (candidates p ≡ []) (IsFewest p.hits (candidates p)) → MatchOption o (p.order ≡ []) (IsVictim p)
-looked_victim p None k e none = looked_none p p.order refl (quarter_some p k) none
-looked_victim p (Some n) k e f = subst (λ x. IsVictimBy x p n) (sym e) f
+-- where a rule finds none to evict, none is in a chain
+no_victim : (e : Eviction) (p : PoolState) → IsPool p → NoVictimOf e (look_count p) p.order → p.order ≡ []
+no_victim Oldest p k none = none
+no_victim LeastRead p k none = looked_none p p.order refl (third_some p k) none
+
+pub victim_found : (p : PoolState) (o : Option ℕ) → IsPool p → IsFoundBy p o → MatchOption o (p.order ≡ []) (IsVictim p)
+victim_found p None k none = no_victim p.eviction p k none
+victim_found p (Some n) k v = v
 
 -- ---- what a write and a read leave
 

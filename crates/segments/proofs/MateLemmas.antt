@@ -12,14 +12,16 @@ use Rattle.proto.specs.declared.eviction.Eviction.TheVariants.{Oldest, LeastRead
 use Rattle.segments.specs.declared.segment.Segment.{Segment}
 use Rattle.segments.specs.declared.segment.Opening.{Opening}
 use Rattle.segments.specs.declared.merge.Choice.{Choice}
-use Rattle.segments.specs.declared.merge.Rest.{Rest}
-use Rattle.segments.specs.declared.merge.Rest.TheVariants.{Nothing}
-use Rattle.segments.specs.declared.merge.Start.TheVariants.{One, Apart, Mergeable}
+use Rattle.segments.specs.declared.rules.least_read.Rest.{Rest}
+use Rattle.segments.specs.declared.rules.least_read.Rest.TheVariants.{Nothing}
+use Rattle.segments.specs.declared.rules.oldest.Start.TheVariants.{One, Apart, Mergeable}
 use Rattle.segments.specs.Pools.{Used, bucket_count, in_bucket, chain_in}
 use Rattle.segments.specs.Inside.{shown_segments}
-use Rattle.segments.specs.Merges.{opened_in, front_of, front_in, go_together, qualifies_in, HasNoMate, NoneBetween}
-use Rattle.segments.specs.Merges.{IsFirstBetween, IsNextBy}
-use Rattle.segments.specs.Starts.{rest_of, with_front, has_mate, AreRests}
+use Rattle.segments.specs.Chains.{opened_in, front_of, front_in, go_together, qualifies_in}
+use Rattle.segments.specs.LeastReadRule.{HasNoMate, NoneBetween}
+use Rattle.segments.specs.LeastReadRule.{IsFirstBetween}
+use Rattle.segments.specs.Rules.{IsNextBy}
+use Rattle.segments.specs.LeastReadRule.{rest_of, with_front, has_mate, AreRests}
 use Rattle.segments.proofs.LinkLemmas.{of_opened, of_free}
 use Rattle.segments.proofs.FrontLemmas.{front_short}
 use Rattle.segments.proofs.StartLemmas.{opened_is, can_merge, cannot_merge, together_if, not_pair}

@@ -12,8 +12,10 @@ use Rattle.proto.specs.declared.eviction.Eviction.{Eviction}
 use Rattle.proto.specs.declared.eviction.Eviction.TheVariants.{Oldest, LeastRead}
 use Rattle.segments.specs.Pools.{PoolState, Used, in_bucket}
 use Rattle.segments.specs.Inside.{IsLinked}
-use Rattle.segments.specs.Merges.{put_before, moved_before, order_by}
-use Rattle.segments.specs.Filling.{OpensNoLater, AreInTime}
+use Rattle.segments.specs.LeastReadRule.{put_before, moved_before}
+use Rattle.segments.specs.Rules.{order_by}
+use Rattle.segments.specs.Filling.{AreInTime}
+use Rattle.segments.specs.Rules.{OpensNoLater}
 use Rattle.segments.proofs.LinkLemmas.{times-filter, same_length}
 use Rattle.segments.proofs.MergingLemmas.{last_any}
 

@@ -1,12 +1,13 @@
 -- Opening moments: how far they are rounded down, and that a segment that was just opened takes items.
-use Rattle.std.proofs.Common.{◌≡◌, ℕ, zero, suc, ◌+◌, ◌-◌, ◌*◌, ◌/◌, ◌%◌, ◌<◌, ◌≤◌, Bool, true, false, refl, arith, inl, inr}
-use Rattle.std.specs.Prelude.{◌==◌, ◌||◌, if◌then◌else◌, max, nat_le, nat_lt}
+use Rattle.std.proofs.Common.{◌≡◌, ℕ, zero, suc, ◌+◌, ◌-◌, ◌*◌, ◌/◌, ◌%◌, ◌<◌, ◌≤◌, Bool, true, false, refl, ap, arith, inl, inr}
+use Rattle.std.specs.Prelude.{◌==◌, ◌||◌, not, if◌then◌else◌, max, nat_le, nat_lt}
 use Rattle.std.proofs.lemmas.Bool.{cases_Bool, or_from, or_parts, lt-leb, eqb-false}
 use Rattle.std.proofs.lemmas.Nat.{div-add-mod', le-div, mul-le}
 use Rattle.proto.specs.Buckets.{width_of, lower_end}
 use Rattle.proto.specs.declared.eviction.Eviction.{Eviction}
 use Rattle.proto.specs.declared.eviction.Eviction.TheVariants.{Oldest, LeastRead}
-use Rattle.segments.specs.Pools.{is_sealed, lasting, opening_moment}
+use Rattle.segments.specs.Pools.{is_sealed, lasting}
+use Rattle.segments.specs.Rules.{opening_moment}
 
 -- a segment that was opened less than a life and a width ago isn't closed
 closed_by : (l : Bool) (o life width t : ℕ) → t < o + life → t < o + width
@@ -107,3 +108,8 @@ opening_open Oldest bucket t =
     let some = (grain bucket).some in
     closed_by (bucket == lasting) t (max 1 (lower_end bucket)) (width_of bucket) t (omega arith) (omega arith)
 opening_open LeastRead bucket t = if_open ((bucket == lasting) || (lower_end bucket == 0)) bucket t refl
+
+-- any item may go into a tail that is open
+pub open_joins : (own sealed : Bool) → sealed ≡ false → own || not sealed ≡ true
+open_joins true sealed e = refl
+open_joins false sealed e = ap not e

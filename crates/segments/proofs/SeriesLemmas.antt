@@ -1,7 +1,7 @@
 -- The series of segments, each those of one bucket and one opening moment, and that all segments are in chains.
 use Rattle.std.proofs.Common.{◌≡◌, ℕ, suc, ◌+◌, ◌*◌, ◌<◌, ◌≤◌, Bool, true, false, eqb, List, [], ◌∷◌, ◌++◌, length}
 use Rattle.std.proofs.Common.{map, Option, Some, None, refl, sym, ap, subst, ◌∙◌, arith, inl, inr, add-one}
-use Rattle.std.specs.Prelude.{nat_lt, nat_le, not, ◌==◌, ◌&&◌, ◌||◌, if◌then◌else◌, IsTrue, All, is_some, filter, option_and_then}
+use Rattle.std.specs.Prelude.{nat_lt, nat_le, ◌==◌, ◌&&◌, ◌||◌, if◌then◌else◌, IsTrue, All, is_some, filter, option_and_then}
 use Rattle.std.specs.List.{list_any, last_or, range_with_len}
 use Rattle.std.specs.Option.{option_map_or}
 use Rattle.std.proofs.lemmas.List.{get_or_past}
@@ -12,16 +12,19 @@ use Rattle.std.proofs.lemmas.Bool.{cases_lt, cases_Bool, cases_eq, eq-eqb, ne_eq
 use Rattle.std.proofs.lemmas.Bool.{false≢true, and_parts, and_from, le-ltb, or_cases, or_left, or_right, or_parts}
 use Rattle.segments.specs.Items.{Item, size_of_item, size_of_all, IsStorable}
 use Rattle.proto.specs.Counts.{times}
-use Rattle.segments.specs.Pools.{PoolState, IsPool, Used, segment_at, in_bucket, tail, items_of, is_sealed, lasting, opening_moment}
+use Rattle.segments.specs.Pools.{PoolState, IsPool, Used, segment_at, in_bucket, tail, items_of, is_sealed, lasting}
+use Rattle.segments.specs.Rules.{opening_moment}
 use Rattle.proto.specs.declared.eviction.Eviction.{Eviction}
 use Rattle.proto.specs.declared.eviction.Eviction.TheVariants.{Oldest, LeastRead}
-use Rattle.segments.specs.Changes.{takes, if_takes, open_tail, IsPoolFull, HasNoRoom}
-use Rattle.segments.specs.Merges.{opened_at}
-use Rattle.segments.specs.Filling.{bucket_in, OpensNoLater, IsOpenedBy}
+use Rattle.segments.specs.Changes.{has_own, may_join, takes, if_takes, open_tail, IsPoolFull, HasNoRoom}
+use Rattle.segments.specs.Chains.{opened_at}
+use Rattle.segments.specs.Filling.{IsOpenedBy}
+use Rattle.segments.specs.Chains.{bucket_in}
+use Rattle.segments.specs.Rules.{OpensNoLater}
 use Rattle.segments.specs.Filling.{goes_with, AreFilled, IsFilled, AreInTime, IsInTime, Series, series_for, series_of, same_series}
 use Rattle.segments.specs.Filling.{series_among, held_in, held_among, held_size, series_with, filled_size, HoldsLittle}
 use Rattle.proto.specs.Sizes.{item_limit}
-use Rattle.segments.proofs.OpeningLemmas.{opening_open}
+use Rattle.segments.proofs.OpeningLemmas.{opening_open, open_joins}
 use Rattle.segments.proofs.LinkLemmas.{times_range, length_range, same_length, used_if}
 
 -- ---- counting series
@@ -233,32 +236,33 @@ closed_by false b k t e f o h = ap (λ x. is_sealed b x t) (eqb-true o k h) ∙ 
 
 -- a tail that is open and doesn't take an item is filled
 tail_filled : (p : PoolState) (b t n : ℕ) (u : Used) (i : Item) → IsStorable (item_limit p.sizes) i → tail p b ≡ Some n
-    → open_tail p b t (size_of_item i) ≡ None → segment_at p n ≡ Some u → u.bucket ≡ b
+    → open_tail p b t (has_own i) (size_of_item i) ≡ None → segment_at p n ≡ Some u → u.bucket ≡ b
     → ((b == lasting) || (u.opened == opening_moment p.eviction b t)) ≡ true → filled_size p < held_in p n
 tail_filled p b t n u i s tail_is none e same moment =
     let small = s.small in
     let open_now : is_sealed u.bucket u.opened t ≡ false = ap (λ x. is_sealed x u.opened t) same
     ∙ closed_by (b == lasting) b (opening_moment p.eviction b t) t refl (opening_open p.eviction b t) u.opened moment in
-    let passes : if_takes p t (size_of_item i) n ≡ None =
-    ap (option_and_then (if_takes p t (size_of_item i))) (sym tail_is) ∙ none in
-    let full : option_map_or (takes p.sizes t (size_of_item i)) (segment_at p n) false ≡ false =
-    elim (cases_Bool (option_map_or (takes p.sizes t (size_of_item i)) (segment_at p n) false)) [
-      | inl y ↦ (let got : if_takes p t (size_of_item i) n ≡ Some n = ap (λ (x : Bool). if x then Some n else None) y in
+    let passes : if_takes p t (has_own i) (size_of_item i) n ≡ None =
+    ap (option_and_then (if_takes p t (has_own i) (size_of_item i))) (sym tail_is) ∙ none in
+    let full : option_map_or (takes p.sizes t (has_own i) (size_of_item i)) (segment_at p n) false ≡ false =
+    elim (cases_Bool (option_map_or (takes p.sizes t (has_own i) (size_of_item i)) (segment_at p n) false)) [
+      | inl y ↦ (let got : if_takes p t (has_own i) (size_of_item i) n ≡ Some n = ap (λ (x : Bool). if x then Some n else None) y in
           absurd (none-some n (sym passes ∙ got)))
       | inr f ↦ f
     ] in
-    let test : (not (is_sealed u.bucket u.opened t)
+    let joins : may_join (has_own i) u.bucket u.opened t ≡ true = open_joins (has_own i) _ open_now in
+    let test : (may_join (has_own i) u.bucket u.opened t
     && nat_le (size_of_all u.items + size_of_item i) p.sizes.segment_size) ≡ false =
-    ap (λ o. option_map_or (takes p.sizes t (size_of_item i)) o false) (sym e) ∙ full in
+    ap (λ o. option_map_or (takes p.sizes t (has_own i) (size_of_item i)) o false) (sym e) ∙ full in
     let no_room : nat_le (size_of_all u.items + size_of_item i) p.sizes.segment_size ≡ false =
-    ap (λ x. not x && nat_le (size_of_all u.items + size_of_item i) p.sizes.segment_size) (sym open_now) ∙ test in
+    ap (λ x. x && nat_le (size_of_all u.items + size_of_item i) p.sizes.segment_size) (sym joins) ∙ test in
     let over = leb-false (size_of_all u.items + size_of_item i) p.sizes.segment_size no_room in
     let held : held_in p n ≡ size_of_all u.items = ap (λ o. size_of_all (items_of o)) e in
     omega arith
 
 -- a segment of the item's series holds so much: one that goes with it is after it, or it is the tail
 pub series_filled : (p : PoolState) (b t n : ℕ) (u : Used) (later : List ℕ) (o : Option ℕ) (i : Item)
-    → IsStorable (item_limit p.sizes) i → open_tail p b t (size_of_item i) ≡ None
+    → IsStorable (item_limit p.sizes) i → open_tail p b t (has_own i) (size_of_item i) ≡ None
     → last_or o (filter (in_bucket p.segments b) (n ∷ later)) ≡ tail p b → segment_at p n ≡ Some u → u.bucket ≡ b
     → ((b == lasting) || (u.opened == opening_moment p.eviction b t)) ≡ true
     → AreUsed p later → All (OpensNoLater p.eviction p n) later → All (IsOpenedBy p.eviction p t) later
@@ -319,7 +323,7 @@ series_moment p b t n u e h =
 
 -- where no tail takes an item, each segment is full or the last of its series, the item's own series among them
 full_by : (p : PoolState) (b t : ℕ) (i : Item) (numbers : List ℕ) (o : Option ℕ) → IsStorable (item_limit p.sizes) i
-    → open_tail p b t (size_of_item i) ≡ None
+    → open_tail p b t (has_own i) (size_of_item i) ≡ None
     → last_or o (filter (in_bucket p.segments b) numbers) ≡ tail p b → AreUsed p numbers
     → AreInTime p.eviction p numbers → All (IsOpenedBy p.eviction p t) numbers → AreFilled p numbers
     → AreFull (filled_size p) (with_new p numbers (series_for b (opening_moment p.eviction b t)))

@@ -1,4 +1,5 @@
-//! Which items are live: the test that a merge asks, and marks at the places of items, in all segments of a pool.
+//! Which items are live: the test that a merge asks, and marks at the places of items, in all
+//! segments of a pool.
 
 ghost use Rattle.std.specs.Prelude.{◌≡◌, ℕ, ◌<◌, Bool, true, false, All, Option, IfOk, IfSome};
 ghost use Rattle.segments.specs.declared.place.Place.{Place as Spot};

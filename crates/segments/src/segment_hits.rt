@@ -7,8 +7,8 @@ use proto::NoMemory;
 use std::alloc::Global;
 use std::marker::Model;
 
-/// The hits of each segment by its number. They are halved each time half as many segments were opened as there are,
-/// so that old hits count less.
+/// The hits of each segment by its number. They are halved each time half as many segments were
+/// opened as there are, so that old hits count less.
 #[derive(Drop)]
 pub struct SegmentHits {
     counts: Vec<u32>,

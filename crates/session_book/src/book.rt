@@ -201,14 +201,14 @@ impl Book {
             return Settled::Stranger;
         }
         self.unsettled.pop_front();
+        let keys = key_count(&answered.request);
         let Some(place) = find(&self.sessions, session, &mut self.upkeep.ready.place) else {
-            self.upkeep.settled(answered, 0);
+            self.upkeep.settled(answered, keys, 0);
             return Settled::Dropped;
         };
         let (_, open) = self.sessions.pair_mut(place);
-        let keys = key_count(&answered.request);
         let kept = open.settle(session, keys, &mut answered.reply, &mut self.upkeep);
-        self.upkeep.settled(answered, kept.unwrap_or(0));
+        self.upkeep.settled(answered, keys, kept.unwrap_or(0));
         match kept {
             Ok(_) => Settled::Kept,
             Err(NoMemory) => {

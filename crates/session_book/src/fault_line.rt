@@ -1,5 +1,6 @@
 //! The lines for which sessions are ended, as an operator is shown them.
 
+use crate::input::Input;
 use bytes::Bytes;
 use proto::{FatalKind, Message};
 use std::alloc::Global;
@@ -19,8 +20,8 @@ pub struct FaultLine {
 }
 
 impl FaultLine {
-    /// That of the message that the bytes begin with. None if it isn't fatal, or if memory is missing.
-    pub(crate) fn copied(alloc: Global, message: &Message, bytes: &[u8]) -> Option<FaultLine> {
+    /// That of the message that the input begins with. None if it isn't fatal, or if memory is missing.
+    pub(crate) fn copied(alloc: Global, message: &Message, input: &Input) -> Option<FaultLine> {
         let Message::Fatal(kind) = message else {
             return None;
         };
@@ -28,7 +29,7 @@ impl FaultLine {
             FatalKind::Binary => BINARY_HEADER,
             _ => SHOWN,
         };
-        let line = Bytes::copy_from_slice(alloc, first_line(bytes, most)).ok()?;
+        let line = Bytes::copy_from_slice(alloc, first_line(input.kept(), most)).ok()?;
         Some(FaultLine { kind: *kind, line })
     }
 }

@@ -77,12 +77,12 @@ pub(crate) struct Input {
     key: Option<ByteString>,
     /// Whether it has `noreply`.
     noreply: bool,
-    /// The message that was found and is held, and how many bytes spell it.
-    held: Option<(Message, usize)>,
+    /// The message that was found and is held, and how many bytes spell it. Few sessions hold one.
+    held: Option<Box<(Message, usize)>>,
 }
 
 impl Model for Input {
-    ghost use Rattle.std.specs.Prelude.{◌≡◌, ◌++◌, length};
+    ghost use Rattle.std.specs.Prelude.{◌≡◌, ◌++◌, length, option_map};
     ghost use Rattle.proto.specs.Lines.{IsSearched};
     ghost use Rattle.proto.specs.Needs.{NeedsMore};
     ghost use Rattle.proto.specs.Grammar.{refused_by};
@@ -94,7 +94,7 @@ impl Model for Input {
 
     ghost invariant = { λ a. (length a.gone.items ≡ a.dropped)
         × NeedsMore a.dialect (a.gone.items ++ a.kept) a.need
-        × (IsSearched a.kept a.searched × HoldsMessage a.dialect (a.gone.items ++ a.kept) a.held)
+        × (IsSearched a.kept a.searched × HoldsMessage a.dialect (a.gone.items ++ a.kept) (option_map (λ held. held.value) a.held))
         × MayDrop a.dialect a.gone.items a.kept a.need (refused_by a.key a.noreply) };
 }
 
@@ -194,7 +194,8 @@ impl Input {
         requires { self.old.need ≤ length self.old.unread }
         ensures { Finds self.old result self.new }
     {
-        if let Some((message, length)) = self.held.take() {
+        if let Some(held) = self.held.take() {
+            let (message, length) = Box::into_inner(held);
             return Ok(Found::Copied(message, length));
         }
         if self.need > self.dialect.most_kept() {
@@ -258,12 +259,12 @@ impl Input {
         Found::Nothing
     }
 
-    /// Holds the message that was found, which is found again.
-    pub fn hold(&mut self, message: Message, n: usize)
+    /// Holds the message that was found, which is found again. Without memory for that it is read anew.
+    pub fn hold(&mut self, alloc: Global, message: Message, n: usize)
         requires { Begins self.old message n }
         ensures { self.new ≡ self.old }
     {
-        self.held = Some((message, n));
+        self.held = Box::new(alloc, (message, n)).ok();
     }
 
     /// Takes away the bytes of the message that was found.

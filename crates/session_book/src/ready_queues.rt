@@ -85,6 +85,8 @@ impl Tickets {
 pub(crate) struct ReadyQueues {
     /// By their tasks. The memory for a session is reserved when it is opened.
     queues: [ReadyQueue; TASKS],
+    /// How many sessions stand in all of them.
+    members: usize,
     /// Where the session that was found last, or taken out of a queue, stands in the table.
     pub(crate) place: usize,
     /// How many sessions were taken out to be asked while another one waited for its turn.
@@ -106,6 +108,7 @@ impl ReadyQueues {
                 ReadyQueue::new(alloc),
                 ReadyQueue::new(alloc),
             ],
+            members: 0,
             place: 0,
             passed: 0,
             let_in: None,
@@ -145,7 +148,10 @@ impl ReadyQueues {
         }
         let queue = &mut self.queues[task as usize];
         let number = match queue.sessions.push_back((session, self.place)) {
-            Ok(()) => queue.left.saturating_add(queue.sessions.len() as u64),
+            Ok(()) => {
+                self.members = self.members.saturating_add(1);
+                queue.left.saturating_add(queue.sessions.len() as u64)
+            }
             Err(_) => 0,
         };
         *ticket = Ticket { task, number };
@@ -153,9 +159,10 @@ impl ReadyQueues {
 
     /// The session, which was resumed, is to be paused again: it still waits for room for its large message.
     pub(crate) fn pause_again(&mut self, session: u64) {
-        let _ = self.queues[Task::Pause as usize]
-            .sessions
-            .push_back((session, self.place));
+        let queue = &mut self.queues[Task::Pause as usize];
+        if queue.sessions.push_back((session, self.place)).is_ok() {
+            self.members = self.members.saturating_add(1);
+        }
     }
 
     /// Takes out the next session that is to be taken up for the task.
@@ -163,6 +170,7 @@ impl ReadyQueues {
         let queue = &mut self.queues[task as usize];
         let (session, place) = queue.sessions.pop_front()?;
         queue.left = queue.left.saturating_add(1);
+        self.members = self.members.saturating_sub(1);
         self.place = place;
         Some(session)
     }
@@ -220,7 +228,7 @@ impl ReadyQueues {
 
     /// No session has anything to do.
     pub(crate) fn are_empty(&self) -> bool {
-        self.queues.iter().all(|queue| queue.sessions.is_empty())
+        self.members == 0
     }
 
     /// No session has anything to do, but for those that wait for room or for their clients.
@@ -229,10 +237,6 @@ impl ReadyQueues {
             .count(Task::AskForRoom)
             .saturating_add(self.count(Task::RetryWrite))
             .saturating_add(self.count(Task::ReadOn));
-        let all = self.queues.iter().fold(
-            0usize,
-            |sum, queue| sum.saturating_add(queue.sessions.len()),
-        );
-        all == waiting
+        self.members == waiting
     }
 }

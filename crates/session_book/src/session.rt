@@ -195,11 +195,11 @@ impl Session {
             Found::Copied(message, length) => {
                 self.waiting = waiting_of(&message, self.key_bytes, upkeep);
                 if self.waiting.is_some() {
-                    self.input.hold(message, length);
+                    self.input.hold(self.alloc, message, length);
                     return Err(Unasked::Waits);
                 }
                 put_behind(&mut self.queue, &mut self.output, &message, upkeep)?;
-                upkeep.fault = FaultLine::copied(self.alloc, &message, self.input.kept());
+                upkeep.fault = FaultLine::copied(self.alloc, &message, &self.input);
                 self.input.take(length, &mut upkeep.spares);
                 let reserved = mem::take(&mut self.reserved);
                 upkeep.load.read(&message, length, reserved);

@@ -100,25 +100,27 @@ impl Upkeep {
     pub(crate) fn asked(&mut self, request: &mut Request, number: u64, own: KeyBytes)
         ensures { request.new ≡ request.old }
     {
-        let keys = key_count(request);
-        self.load.asked(number, keys, self.load.likely(keys, own));
-        if let Some(keys) = shown_keys(request) {
-            let mut hits = Vec::new(keys.allocator());
-            self.spares.lend(Use::Hits, &mut hits);
-            let _ = request.lend_buffer(SpareBuffer::from_vec(hits));
-        }
+        let Some(keys) = shown_keys(request) else {
+            self.load.asked(number, 0, 0);
+            return;
+        };
+        let count = keys.len();
+        let mut hits = Vec::new(keys.allocator());
+        self.load.asked(number, count, self.load.likely(count, own));
+        self.spares.lend(Use::Hits, &mut hits);
+        let _ = request.lend_buffer(SpareBuffer::from_vec(hits));
     }
 
-    /// Uncounts the keys of a `get` that was settled with so many bytes of output, and keeps the memory of its hits for another
-    /// one. That of a large value is kept for input.
-    pub(crate) fn settled(&mut self, answered: Answered, length: usize) {
+    /// Uncounts so many keys of a request that was settled with so many bytes of output, and keeps the memory of its hits for a
+    /// `get`. That of a large value is kept for input.
+    pub(crate) fn settled(&mut self, answered: Answered, keys: usize, length: usize) {
         let Answered {
             number,
             request,
             reply,
             ..
         } = answered;
-        self.load.settled(number, key_count(&request), length);
+        self.load.settled(number, keys, length);
         if matches!(reply, Reply::TooLarge) {
             self.load.refused_item();
         }

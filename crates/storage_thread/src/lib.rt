@@ -9,4 +9,4 @@ mod stats;
 
 pub use serving::{StorageReport, next_moment, run_storage};
 pub use sharing::{LockId, Serve, SharedSide, SharedStorage};
-pub use side::{Origin, Served, StorageSide};
+pub use side::{Origin, Served, StorageSide, Turn};

@@ -121,10 +121,9 @@ impl<'a, S: StorageEngine + Drop, C: Clock, J: LockId> SharedSide<'a, S, C, J> {
 
 impl<S: StorageEngine, C: Clock, J: LockId> Serve for SharedSide<'_, S, C, J> {
     fn serve_turn<R: time::Clock>(&mut self, rt: &R, signals: &StorageSignals, own: usize) -> bool {
-        let since = Instant::now(rt).ok();
-        let may_leave = self.side.serve_turn(rt, signals, own);
-        self.note_held(rt, signals, since);
-        may_leave
+        let turn = self.side.serve_turn(rt, signals, own);
+        self.note_held(rt, signals, turn.since);
+        turn.may_leave
     }
 
     fn serve_until_idle<R: Wait + time::Clock>(
@@ -176,7 +175,10 @@ impl<T: Serve> SharedStorage<T> {
     /// The side, unless another thread holds it, which then looks at the lanes once more.
     fn try_hold(&self) -> Option<MutexGuard<'_, T>> {
         let held = self.try_twice()?;
-        self.wanted.store(0, Ordering::SeqCst);
+        // (a store takes much longer than a load)
+        if self.is_wanted() {
+            self.wanted.store(0, Ordering::SeqCst);
+        }
         Some(held)
     }
 

@@ -13,7 +13,7 @@ use exchange::{StorageBatch, StorageEnd, StorageSignals, Taken, Waits};
 use proto::{AskedClock, Counts, WINDOW};
 use std::marker::Model;
 use std::snapshot::Snapshot;
-use std::time;
+use std::time::{self, Instant};
 
 /// The most requests of others that a worker executes in a turn.
 const OTHERS_A_TURN: u64 = 64;
@@ -47,6 +47,15 @@ impl Served {
             _ => None,
         }
     }
+}
+
+/// A turn of a worker.
+#[derive(Clone, Copy)]
+pub struct Turn {
+    /// Whether it stopped before all was executed, so that messages may be left.
+    pub may_leave: bool,
+    /// When the clock was read for its first request; None if it had none.
+    pub since: Option<Instant>,
 }
 
 /// What a storage side began with, for clauses alone. It has no bytes.
@@ -215,24 +224,47 @@ impl<S: StorageEngine, C: Clock> StorageSide<S, C> {
         tell_workers(&mut self.state.end, signals);
     }
 
+    /// Whether all was executed that can have been posted, in a turn of the only worker.
+    fn is_spent(&self) -> bool {
+        let (_, _, seen) = self.state.end.seen();
+        self.state.end.workers() == 1 && seen == 0
+    }
+
+    /// When the clock was read for what was served last, if that is a request.
+    fn read_at(&self, served: Served) -> Option<Instant> {
+        match served {
+            Served::Request { .. } => self.state.clock.at(),
+            Served::Bye => None,
+        }
+    }
+
     /// Executes what stands in the lanes, for the worker of this number: of others no more requests
-    /// and bytes of answers than a turn has. True if it stopped there, so that messages may be
-    /// left. The workers have been told of all answers.
+    /// and bytes of answers than a turn has. The workers have been told of all answers.
     pub fn serve_turn<R: time::Clock>(
         &mut self,
         rt: &R,
         signals: &StorageSignals,
         own: usize,
-    ) -> bool
+    ) -> Turn
         ensures origin { self.new.origin ≡ self.old.origin }
         ensures told { self.new.end.told ≡ self.new.end.end.history }
     {
+        let mut turn = Turn {
+            may_leave: true,
+            since: None,
+        };
         let mut requests = 0u64;
         let mut bytes = 0usize;
         for _ in 0..MESSAGES_A_TURN {
             let Some(served) = self.serve_next(rt, signals, None) else {
-                return false;
+                turn.may_leave = false;
+                return turn;
             };
+            turn.since = turn.since.or(self.read_at(served));
+            if self.is_spent() {
+                turn.may_leave = false;
+                break;
+            }
             if let Some(more) = served.bytes_of_others(own) {
                 requests = requests.saturating_add(1);
                 bytes = bytes.saturating_add(more);
@@ -242,7 +274,7 @@ impl<S: StorageEngine, C: Clock> StorageSide<S, C> {
             }
         }
         self.tell(signals);
-        true
+        turn
     }
 }
 

@@ -99,11 +99,13 @@ fn take_events<P: Port, G: Gate, E: Executor, R: Clock>(
         count = taken;
         pieces = pieces.saturating_add(came / MAX_PIECE);
         ask_sessions(worker, gate, storage);
-        pause_sessions(worker);
-        if worker.state.book.ready(Task::Ask) > 0 {
-            worker.flush(executor, false);
-            if taken >= EVENTS_WHILE_BUSY || worker.state.book.has_little_output() {
-                break;
+        if !worker.state.book.is_idle() {
+            pause_sessions(worker);
+            if worker.state.book.ready(Task::Ask) > 0 {
+                worker.flush(executor, false);
+                if taken >= EVENTS_WHILE_BUSY || worker.state.book.has_little_output() {
+                    break;
+                }
             }
         }
         if (pieces >= PIECES_A_TURN) | !worker.state.port.may_know_event() {
@@ -167,6 +169,9 @@ fn ask_sessions<P: Port, G: Gate>(
         };
         ask_session(worker, session, gate, storage);
         moved = true;
+        if worker.state.book.is_idle() {
+            break;
+        }
     }
     moved
 }
@@ -180,6 +185,9 @@ fn feed_and_ask<P: Port, G: Gate>(
 ) -> bool
     ensures { Continues P.told P.leads_to worker.old worker.new }
 {
+    if worker.state.book.is_idle() {
+        return false;
+    }
     let fed = feed_pieces(worker);
     if events > 0 && !fed {
         return false;
@@ -317,6 +325,24 @@ fn share_memory<P: Port, R: Clock>(
     shut | paused | resumed
 }
 
+/// Offers output again that clients didn't take, and has sessions wait for memory, or go on. True if something was done.
+fn serve_waiting<P: Port, R: Clock>(
+    rt: &R,
+    worker: &mut Worker<P>,
+    pauses: &mut Pauses,
+    storage: &StorageSignals,
+) -> bool
+    ensures { Continues P.told P.leads_to worker.old worker.new }
+{
+    if worker.state.book.is_idle() {
+        pauses.seconds.stop();
+        return false;
+    }
+    let given = retry_output(worker, &mut pauses.retries);
+    let shared = share_memory(rt, worker, &mut pauses.seconds, storage);
+    given | shared
+}
+
 /// One turn. True if something was done. It puts the held request, then what has come and what fits by now. Storage knows of
 /// all of it before the answers are looked for, so nothing is kept back while the worker waits.
 fn take_turn<P: Port, G: Gate, E: Executor, R: Clock>(
@@ -335,9 +361,8 @@ fn take_turn<P: Port, G: Gate, E: Executor, R: Clock>(
     worker.flush(executor, came == EVENTS_A_TURN);
     let settled = settle_answers(worker, gate);
     let given = give_new_output(worker);
-    let given_again = retry_output(worker, &mut pauses.retries);
-    let shared = share_memory(rt, worker, &mut pauses.seconds, storage);
-    held || came > 0 || asked || settled || given || given_again || shared
+    let waited = serve_waiting(rt, worker, pauses, storage);
+    held || came > 0 || asked || settled || given || waited
 }
 
 /// Whether all is done: the port has ended, nothing is held or outstanding, and no open session has input or output left. One

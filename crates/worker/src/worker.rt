@@ -154,12 +154,16 @@ impl<P: Port> WorkerState<P> {
         }
     }
 
-    /// Leaves for storage what it needs for a request that is put now: a hint of its key, or, for a `stats`, the gauges.
+    /// Leaves for storage what it needs for a request that is put now: a hint of its key, if others stand before it, or, for a
+    /// `stats`, the gauges.
     fn prepare(&self, posted: &Posted, storage: &StorageSignals)
         requires { 0 < posted.now.number }
     {
         if matches!(posted.request, Request::Stats) {
             self.set_gauges(storage);
+        }
+        if !storage.has_hints() || self.batch.outstanding() == 0 {
+            return;
         }
         if let Some(key) = posted.request.first_key() {
             storage.leave_hint(self.batch.worker(), posted.number - 1, key);

@@ -119,7 +119,7 @@ impl Stock {
     /// Counts a read of the item at a place, if one stands there.
     pub fn read(&mut self, place: Place) {
         if has_item(&self.pool, self.geometry, place) {
-            self.pool.touch(place);
+            self.pool.count_read(place);
         }
     }
 

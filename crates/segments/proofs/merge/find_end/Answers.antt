@@ -4,7 +4,7 @@ use Rattle.std.proofs.lemmas.Bool.{eq-eqb, ne_eqb, or_left, or_right}
 use Rattle.std.proofs.lemmas.List.{drop_all}
 use Rattle.segments.specs.Pools.{lasting}
 use Rattle.segments.specs.Inside.{shown_segments}
-use Rattle.segments.specs.Merges.{opened_in, go_together}
+use Rattle.segments.specs.Chains.{opened_in, go_together}
 use Rattle.segments.proofs.BehindLemmas.{IsWalking, walks_past, walks_first, walks_on, walk_ends, walk_over}
 use Rattle.segments.proofs.merge.find_end.Goals as goal
 use Rattle.segments.proofs.merge.find_end.Goals.{then-is_in+in-Some+else-bucket-ne-LASTING, then-is_in+in_default, else-is_in}

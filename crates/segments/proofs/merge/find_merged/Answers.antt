@@ -3,7 +3,8 @@ use Rattle.std.specs.Prelude.{if◌then◌else◌}
 use Rattle.std.proofs.lemmas.Bool.{ne_eqb}
 use Rattle.segments.specs.Inside.{shown_segments}
 use Rattle.segments.specs.Pools.{chain_in, lasting}
-use Rattle.segments.specs.Merges.{most_merged, merged_in}
+use Rattle.segments.specs.Merges.{merged_in}
+use Rattle.segments.specs.Rules.{most_merged}
 use Rattle.segments.proofs.FrontLemmas.{first_most, same_opening, front_cut, rest_from}
 use Rattle.segments.proofs.merge.find_merged.Goals as goal
 

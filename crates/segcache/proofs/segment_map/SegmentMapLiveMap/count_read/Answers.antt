@@ -14,8 +14,8 @@ use Rattle.segcache.proofs.OpeningMoments.{past_changed}
 use Rattle.segcache.proofs.segment_map.SegmentMapLiveMap.count_read.Goals as goal
 use Rattle.segments.specs.Pools.{item_in}
 
-pub touch-requires : goal.touch-requires
-touch-requires c =
+pub count_read-requires : goal.count_read-requires
+count_read-requires c =
     let a = c.self.inside in
     let there : finite.get (current a.pool a.index) c.args._key.now ≡ Some c.args.place =
     (let h = c.requires in rw (← c.self.view_is) at h) in
@@ -28,9 +28,9 @@ invariant_of-self c =
     (let h = c.requires in rw (← c.self.view_is) at h) in
     let some = current_some a.pool a.index c.args._key.now c.args.place there in
     record {
-      tied = (tied_changed read_again a.pool c.touch.new.self a.index a.marks c.args.place c.self.invariant.tied
-          (record { sized = keeps_read _ some; key = λ i _. refl }) c.touch.ensures.pool c.touch.ensures.touched).0;
-      past = subst (λ (q : PoolState). IsPast q a.moment) (sym c.touch.ensures.touched)
+      tied = (tied_changed read_again a.pool c.count_read.new.self a.index a.marks c.args.place c.self.invariant.tied
+          (record { sized = keeps_read _ some; key = λ i _. refl }) c.count_read.ensures.pool c.count_read.ensures.counted).0;
+      past = subst (λ (q : PoolState). IsPast q a.moment) (sym c.count_read.ensures.counted)
           (past_changed read_again a.pool a.moment c.args.place c.self.invariant.past
           (keeps_read (item_in a.pool c.args.place) some)
           (λ i here. c.self.invariant.past.dated c.args.place i here));
@@ -42,11 +42,11 @@ returns-clause-entries c =
     let there : finite.get (current a.pool a.index) c.args._key.now ≡ Some c.args.place =
     (let h = c.requires in rw (← c.self.view_is) at h) in
     let some = current_some a.pool a.index c.args._key.now c.args.place there in
-    let same = (tied_changed read_again a.pool c.touch.new.self a.index a.marks c.args.place c.self.invariant.tied
-    (record { sized = keeps_read _ some; key = λ i _. refl }) c.touch.ensures.pool c.touch.ensures.touched).1 in
+    let same = (tied_changed read_again a.pool c.count_read.new.self a.index a.marks c.args.place c.self.invariant.tied
+    (record { sized = keeps_read _ some; key = λ i _. refl }) c.count_read.ensures.pool c.count_read.ensures.counted).1 in
     rw (← c.self.view_is)
-    (ap (λ (m : Places). live_entries c.touch.new.self m a.moment) same
-    ∙ ap (λ (q : PoolState). live_entries q (current a.pool a.index) a.moment) c.touch.ensures.touched
+    (ap (λ (m : Places). live_entries c.count_read.new.self m a.moment) same
+    ∙ ap (λ (q : PoolState). live_entries q (current a.pool a.index) a.moment) c.count_read.ensures.counted
     ∙ shown_same a.pool _ (current a.pool a.index) a.moment (λ q r h. touched_entry a.pool c.args.place r some))
 
 pub returns-clause-counted : goal.returns-clause-counted
@@ -57,7 +57,7 @@ returns-clause-counted c =
       stands = c.requires;
       new_is = rw (← c.self.view_is) (ap
           (λ (q : PoolState). record { pool = q; index = a.index; marks = a.marks; moment = a.moment })
-          c.touch.ensures.touched);
+          c.count_read.ensures.counted);
     }
 
 pub returns-clause-kept : goal.returns-clause-kept
@@ -66,10 +66,10 @@ returns-clause-kept c =
     let there : finite.get (current a.pool a.index) c.args._key.now ≡ Some c.args.place =
     (let h = c.requires in rw (← c.self.view_is) at h) in
     let some = current_some a.pool a.index c.args._key.now c.args.place there in
-    let new : MapState = record { pool = c.touch.new.self; index = a.index; marks = a.marks; moment = a.moment } in
+    let new : MapState = record { pool = c.count_read.new.self; index = a.index; marks = a.marks; moment = a.moment } in
     rw (← c.self.view_is)
     (keeps_changed read_again (record { pool = a.pool; index = a.index; marks = a.marks; moment = a.moment }) new c.args.place
-    (keeps_read _ some) c.touch.ensures.touched)
+    (keeps_read _ some) c.count_read.ensures.counted)
 
 pub returns-clause-stands : goal.returns-clause-stands
 returns-clause-stands c =
@@ -77,6 +77,6 @@ returns-clause-stands c =
     let there : finite.get (current a.pool a.index) c.args._key.now ≡ Some c.args.place =
     (let h = c.requires in rw (← c.self.view_is) at h) in
     let some = current_some a.pool a.index c.args._key.now c.args.place there in
-    let same = (tied_changed read_again a.pool c.touch.new.self a.index a.marks c.args.place c.self.invariant.tied
-    (record { sized = keeps_read _ some; key = λ i _. refl }) c.touch.ensures.pool c.touch.ensures.touched).1 in
+    let same = (tied_changed read_again a.pool c.count_read.new.self a.index a.marks c.args.place c.self.invariant.tied
+    (record { sized = keeps_read _ some; key = λ i _. refl }) c.count_read.ensures.pool c.count_read.ensures.counted).1 in
     rw (← c.self.view_is) (λ key place h. ap (λ (m : Places). finite.get m key) same ∙ h)

@@ -35,7 +35,7 @@ invariant_of-self-2 c =
       (
         subst (λ (k : List ℕ). IsSearched k i.searched) (sym c.in_ok-append.ensures.ok)
             (searched_behind i.kept c.split_at.result.1.now i.searched c.self.invariant.2.0),
-        rw whole (holds_behind i.dialect (i.gone.items ++ i.kept) c.args.piece.now i.held c.self.invariant.2.1),
+        rw whole (holds_behind i.dialect (i.gone.items ++ i.kept) c.args.piece.now _ c.self.invariant.2.1),
       ),
       inl (subst (λ (y : List ℕ × List ℕ). IsDropping i.dialect y.0 y.1 i.need (refused_by i.key i.noreply))
           (λ j. (sym c.note.ensures j, sym c.in_ok-append.ensures.ok j))

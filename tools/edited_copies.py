@@ -28,6 +28,8 @@ HEAD = re.compile(rf"^(?P<indent> *){PUB}(?:(?:const|unsafe|final) )*fn (?P<name
 BLOCK = re.compile(rf"^(?P<indent> *){PUB}(?:unsafe )?(?:impl|trait)\b(?P<rest>.*)")
 TYPE = re.compile(rf"^ *{PUB}(?:struct|enum|union|trait) (\w+)", re.MULTILINE)
 WORD = re.compile(r"[A-Za-z_]\w*")
+# What a text names nothing by.
+KEYWORDS = frozenset("let mut ref if else match for in return as _".split())
 
 
 class Function(NamedTuple):
@@ -239,7 +241,7 @@ class Crate:
         if not chosen:
             named = {it.name for it in self.functions}
             for _, old, new in (pair for it in edits for pair in it.pairs):
-                named.update(WORD.findall(f"{old} {new}"))
+                named.update(set(WORD.findall(f"{old} {new}")) - KEYWORDS)
             # (A law, whose body is empty, may have a long proof.)
             chosen = {it for it in self.functions if self.can_copy(it) and it.first < it.last
                       and not named & self.words_of(it)}

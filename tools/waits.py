@@ -164,13 +164,13 @@ HIDDEN = {"before": b"x\r\n", "answered": ERROR}
 HOSTILE = [
     Load(8, 131_000, "read", 64, most=LARGE_READ, **HIDDEN),
     Load(8, 131_000, "read", 64, 5, most=LARGE_READ, **HIDDEN),
-    Load(8, 64_000, "send malformed lines and then", streams=16),
+    Load(8, 64_000, "send malformed lines and then", streams=16, most=(0.100, 0.150)),
     Load(8, 100_000, "ask for and don't read", 64, 25),
 ]
 # (a line has 2,048 bytes strictly, so an answer 134 MB)
 STRICT = [Load(1, 131_000, "read", 1021, most=(0.180, 0.250))]
 # As many connections read values of 1 MB, one at a time, as write them.
-MEGABYTES = [Load(4, 1_000_000, "read and write", streams=5, most=(0.010, 0.060))]
+MEGABYTES = [Load(4, 1_000_000, "read and write", streams=5, most=LARGE_READ)]
 OF_MEGABYTES = *OF_THE_PACKAGE, "--workers", "1"
 # By the server's words. With two workers the clients are on both of them in turn.
 LOADS = {

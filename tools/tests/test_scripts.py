@@ -13,7 +13,7 @@ from asking import SET_AND_GET, SET_AND_GET_ANSWER, wire
 from replays import ended, printed
 
 LARGEST = 16_777_216
-SECONDS, MEGABYTES = 30, 520
+SECONDS, MEGABYTES = 30, 750
 
 
 def fault(text):

@@ -12,10 +12,10 @@ use std::marker::Model;
 use std::snapshot::Snapshot;
 use std::sync::Arc;
 
-/// What a worker puts its requests with, sends all that it put, and takes the answers back. One
-/// thread at a time uses it.
+/// What a worker puts its requests with, sends all that it put, and takes the answers back. One thread at a time
+/// uses it.
 #[derive(Drop)]
-pub struct WorkerLane {
+pub struct WorkerBatch {
     lane_table: Arc<LaneTable, Global>,
     seat: LaneSeat,
     worker: usize,
@@ -28,22 +28,22 @@ pub struct WorkerLane {
     said_bye: bool,
 }
 
-impl Model for WorkerLane {
+impl Model for WorkerBatch {
     ghost use Rattle.std.specs.Prelude.{◌≡◌, ℕ, ◌+◌, ◌*◌, ◌<◌, ◌≤◌};
     ghost use Rattle.std.specs.Arc.{arc_value};
-    ghost use Rattle.exchange.specs.Ends.{WorkerLaneView};
-    ghost use Rattle.exchange.specs.Seats.{WorkerAgrees, IsLane, worker_lane_view, worker_at};
+    ghost use Rattle.exchange.specs.Ends.{WorkerBatchView};
+    ghost use Rattle.exchange.specs.Seats.{WorkerAgrees, IsLane, worker_batch_view, worker_at};
 
-    ghost Value = { WorkerLaneView };
+    ghost Value = { WorkerBatchView };
 
-    ghost view = { λ inside. worker_lane_view inside.seat.table_id (worker_at inside.seat.me) };
+    ghost view = { λ inside. worker_batch_view inside.seat.table_id (worker_at inside.seat.me) };
 
     ghost invariant = { λ inside. (inside.seat.table_id ≡ (arc_value inside.lane_table).shared.table_id)
         × IsLane inside.seat.table_id inside.worker
         × WorkerAgrees inside.seat.me inside.worker inside.sent inside.put inside.back inside.known inside.said_bye };
 }
 
-impl WorkerLane {
+impl WorkerBatch {
     ghost use Rattle.std.specs.Prelude.{◌≡◌, ℕ, ◌+◌, ◌*◌, ◌^◌, ◌<◌, ◌≤◌, ◌++◌, ◌∷◌, [], length, true, false};
     ghost use Rattle.std.specs.Prelude.{◌↔◌, MatchResult, IfSome};
     ghost use Rattle.std.specs.Arc.{arc_value};
@@ -60,13 +60,13 @@ impl WorkerLane {
         lane_table: Arc<LaneTable, Global>,
         seat: LaneSeat,
         worker: usize,
-    ) -> WorkerLane
+    ) -> WorkerBatch
         requires table { (seat.table_id ≡ (arc_value lane_table).shared.table_id) × IsLane seat.table_id worker }
         requires fresh { (terms : Terms) × (seat.me ≡ (Worker (first_worker_state terms worker), [])) }
         ensures { (terms : Terms) → seat.me ≡ (Worker (first_worker_state terms worker), [])
             → result ≡ record { end = new_worker_view seat.table_id terms worker; put = [] } }
     {
-        WorkerLane {
+        WorkerBatch {
             lane_table,
             seat,
             worker,
@@ -85,7 +85,7 @@ impl WorkerLane {
         ensures lane { IsLane result.0.table_id self.end.worker }
         ensures counts { (result.1 ≡ length self.end.sent) × (result.2 ≡ length self.end.back) }
     {
-        let WorkerLane {
+        let WorkerBatch {
             seat,
             sent,
             back,
@@ -110,8 +110,8 @@ impl WorkerLane {
         self.sent + self.put - self.back
     }
 
-    /// Puts a request into its slot, or hands it back unchanged. Storage isn't told of it before
-    /// the next `flush`. Waits for nobody and takes no memory.
+    /// Puts a request into its slot, or hands it back unchanged. Storage isn't told of it before the next `flush`.
+    /// Waits for nobody and takes no memory.
     pub fn put(&mut self, posted: Posted) -> Result<(), Posted>
         requires { posted.number ≡ length self.old.end.sent + length self.old.put + 1 }
         ensures { MatchResult result
@@ -126,8 +126,7 @@ impl WorkerLane {
         let slot = slot_at(self.worker, number);
         let request = LaneMessage::Ask(posted);
         let lanes = &self.lane_table.shared;
-        // These load the worker's own word, which no other thread writes. The slot was empty, so
-        // what comes out is None.
+        // These load the worker's own word, which no other thread writes. The slot was empty, so what comes out is None.
         lanes.load::<Begins>(&mut self.seat, posted_word);
         drop(lanes.exchange(&mut self.seat, slot, Some(request)));
         lanes.load::<PutsRequest>(&mut self.seat, posted_word);
@@ -135,8 +134,8 @@ impl WorkerLane {
         Ok(())
     }
 
-    /// Sends all requests that were put, in their order, in one step. It tells whether there were
-    /// any. Waits for nobody and takes no memory.
+    /// Sends all requests that were put, in their order, in one step. It tells whether there were any. Waits for nobody and
+    /// takes no memory.
     pub fn flush(&mut self) -> bool
         ensures sent { self.new ≡ with_put_sent self.old }
         ensures none { (result ≡ false) ↔ (self.old.put ≡ []) }
@@ -176,8 +175,8 @@ impl WorkerLane {
         answer
     }
 
-    /// The next answer of this worker among those that were done at its last `take`. It doesn't
-    /// look for further ones. Waits for nobody and takes no memory.
+    /// The next answer of this worker among those that were done at its last `take`. It doesn't look for further
+    /// ones. Waits for nobody and takes no memory.
     pub fn take_seen(&mut self) -> Option<Answered>
         ensures taken { TakesSeen self.old.end result self.new.end }
         ensures put { self.new.put ≡ self.old.put }
@@ -203,8 +202,7 @@ impl WorkerLane {
         self.said_bye = true;
     }
 
-    /// The history that the worker was told of last, to be kept. It is a load of a word that is
-    /// never stored.
+    /// The history that the worker was told of last, to be kept. It is a load of a word that is never stored.
     pub fn told(&mut self) -> ToldHistory
         ensures same { self.new ≡ self.old }
         ensures told { result ≡ record { exchange = self.old.end.exchange; items = self.old.end.seen } }
@@ -216,10 +214,9 @@ impl WorkerLane {
         )
     }
 
-    /// What any worker was told of, at whatever moment before, has no request of this worker that
-    /// it hasn't sent by now. It and what this worker was told of are of one history. Call it
-    /// before a later history is told: what the worker sends after the call may stand there. The
-    /// history is handed back, so that `compare` can take it and the later one. A law: the server
+    /// What any worker was told of, at whatever moment before, has no request of this worker that it hasn't sent by now. It and
+    /// what this worker was told of are of one history. Call it before a later history is told: what the worker sends after the
+    /// call may stand there. The history is handed back, so that `compare` can take it and the later one. A law: the server
     /// doesn't call it.
     pub fn check(&mut self, told: ToldHistory) -> ToldHistory
         requires { told.exchange ≡ self.old.end.exchange }
@@ -236,8 +233,8 @@ impl WorkerLane {
         ToldHistory::of(kept)
     }
 
-    /// Two histories that workers were told of, at whatever moments: one begins with the other. A
-    /// law: the server doesn't call it.
+    /// Two histories that workers were told of, at whatever moments: one begins with the other. A law: the server doesn't call
+    /// it.
     pub fn compare(&self, told: ToldHistory, other: ToldHistory) -> ToldHistory
         requires { (told.exchange ≡ self.now.end.exchange) × (other.exchange ≡ self.now.end.exchange) }
         ensures same { result ≡ told }
@@ -262,12 +259,12 @@ impl WorkerLane {
 
 /// What a worker posts its requests with, and takes the answers back. One thread at a time uses it.
 ///
-/// A worker of the server uses the batch, and this end only for `bye`. `post` and `take`, and
-/// `sent`, `outstanding` and `said_bye`, by which their callers know what they may do, are the same
-/// calls a message at a time: only tests and measurements use them.
+/// A worker of the server uses the batch, and this end only for `bye`. `post` and `take`, and `sent`, `outstanding` and
+/// `said_bye`, by which their callers know what they may do, are the same calls a message at a time: only tests and
+/// measurements use them.
 #[derive(Drop)]
 pub struct WorkerEnd {
-    batch: WorkerLane,
+    batch: WorkerBatch,
 }
 
 impl Model for WorkerEnd {
@@ -289,7 +286,7 @@ impl WorkerEnd {
     ghost use Rattle.exchange.specs.Ends.{max_posts, CanPost, TakesAnswer, IsToNextSent};
 
     /// The same end, for a worker that tells storage of several requests at once.
-    pub fn batched(self) -> WorkerLane
+    pub fn batched(self) -> WorkerBatch
         ensures { result ≡ record { end = self; put = [] } }
     {
         self.batch

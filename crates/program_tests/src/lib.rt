@@ -1,5 +1,4 @@
-//! Tests of what the program calls: its words, the replay, and ports and the listener over real
-//! sockets.
+//! Tests of what the program calls: its words, the replay, and ports and the listener over real sockets.
 #![tactic(auto)]
 
 #[cfg(test)]

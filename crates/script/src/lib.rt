@@ -1,5 +1,4 @@
-//! Scripts: what the peers of a run do, as lines of text; and the clock and the port that play one
-//! to a group.
+//! Scripts: what the peers of a run do, as lines of text; and the clock and the port that play one to a group.
 #![tactic(auto)]
 
 mod clock;

@@ -164,7 +164,7 @@ HIDDEN = {"before": b"x\r\n", "answered": ERROR}
 HOSTILE = [
     Load(8, 131_000, "read", 64, most=LARGE_READ, **HIDDEN),
     Load(8, 131_000, "read", 64, 5, most=LARGE_READ, **HIDDEN),
-    Load(8, 64_000, "send malformed lines and then", streams=16, most=(0.100, 0.150)),
+    Load(8, 64_000, "send malformed lines and then", streams=16),
     Load(8, 100_000, "ask for and don't read", 64, 25),
 ]
 # (a line has 2,048 bytes strictly, so an answer 134 MB)

@@ -225,9 +225,9 @@ def shut(server):
     return stream
 
 
-def test_each_of_eighty_that_quit_and_stay_gets_its_answer_and_nothing_more(serve):
-    """A worker drops what still comes from 64 of them at a time; the others are closed at once."""
-    streams = opened(serve("--workers", "1"), 80, b"get a\r\nquit\r\n", END)
+def test_each_of_three_hundred_that_quit_and_stay_gets_its_answer_and_nothing_more(serve):
+    """A worker drops what still comes from 256 of them at a time; the others are closed at once."""
+    streams = opened(serve("--workers", "1"), 300, b"get a\r\nquit\r\n", END)
     for stream in streams:
         # (one that was closed already may be told so)
         with contextlib.suppress(OSError):
@@ -312,10 +312,11 @@ def most_held(server, clients):
     return most if time.monotonic() - began < LINGERING else None
 
 
-def test_at_most_64_sessions_that_were_shut_are_read(serve):
-    """Of more the oldest one is closed at once. (The last one may count beside 64 for a moment.)"""
-    attempts = (most_held(serve("--workers", "1"), 100) for _ in range(10))
-    assert next(it for it in attempts if it is not None) in (64, 65)
+def test_at_most_256_sessions_that_were_shut_are_read(serve):
+    """Of more the oldest one is closed at once. (The last one may count beside 256 for a
+    moment.)"""
+    attempts = (most_held(serve("--workers", "1"), 300) for _ in range(10))
+    assert next(it for it in attempts if it is not None) in (256, 257)
 
 
 def come_and_go(port, count, at_once=40):

@@ -1,7 +1,7 @@
 //! Streams that were shut, and are read a little longer. A stream that is closed while input waits unread is reset, and its
 //! peer may lose the last answer; so its sending half is ended first, and what still comes is dropped.
 
-use crate::interval::have_passed;
+use crate::interval::{Interval, have_passed};
 use crate::sockets::EndedStream;
 use std::alloc::{AllocError, Global};
 use std::collections::VecDeque;
@@ -9,15 +9,18 @@ use std::io::ErrorKind;
 use std::time::{Clock, Instant};
 
 /// The most such streams of a port; of more the oldest is closed.
-const MOST_LINGERING: usize = 64;
+const MOST_LINGERING: usize = 256;
 
 /// How long a stream is read, in milliseconds, and how many bytes of it at most.
 const LINGER_MILLIS: u64 = 2000;
 
 const LINGER_BYTES: usize = 16 * 1024 * 1024;
 
-/// The most reads of all of them between two polls.
+/// The most reads of all of them at a time, if they are no more.
 const READS: usize = 64;
+
+/// The time between two reads of a stream, in milliseconds. A peer that sends on waits as long, and leaves the processors to others.
+const DRAIN_MILLIS: u64 = 4;
 
 #[derive(Drop)]
 pub(crate) struct LingeringStream {
@@ -59,6 +62,7 @@ pub(crate) struct LingeringStreams {
     pub(crate) streams: VecDeque<LingeringStream>,
     /// Something may have come of one.
     pub(crate) is_ready: bool,
+    reading: Interval,
 }
 
 impl LingeringStreams {
@@ -66,6 +70,7 @@ impl LingeringStreams {
         Ok(LingeringStreams {
             streams: VecDeque::with_capacity(alloc, MOST_LINGERING)?,
             is_ready: false,
+            reading: Interval::of_millis(DRAIN_MILLIS),
         })
     }
 
@@ -85,9 +90,11 @@ impl LingeringStreams {
         self.is_ready = true;
     }
 
-    /// Drops some of what came, as much of one stream as of another, and closes those that have
-    /// ended or expired.
+    /// If it is time, drops some of what came, as much of one stream as of another, and closes those that have ended or expired.
     pub(crate) fn drain<R: Clock>(&mut self, rt: &R, scratch: &mut [u8]) {
+        if self.streams.is_empty() || !self.reading.take(rt) {
+            return;
+        }
         let was_ready = self.is_ready;
         self.is_ready = false;
         let reads_each = (READS / self.streams.len().max(1)).max(1);

@@ -13,7 +13,8 @@ use Rattle.command_line.specs.declared.options.Job.TheVariants.{Help, Replay, Se
 abbrev pub IsInRange : NumberOption → ℕ → Type 0
 IsInRange option n = (option.least ≤ n) × (n ≤ option.most)
 
--- so many bytes of output are 4,194,304 for each of so many workers at least, and 1,099,511,627,776 at most
+-- so many bytes of output are 4,194,304 for each of so many workers at least, and 1,099,511,627,776
+-- at most
 abbrev pub IsEnoughOutput : ℕ → ℕ → Type 0
 IsEnoughOutput workers n = (4194304 * workers ≤ n) × (n ≤ 1099511627776)
 
@@ -21,8 +22,8 @@ IsEnoughOutput workers n = (4194304 * workers ≤ n) × (n ≤ 1099511627776)
 abbrev pub KeepsBlocks : Dialect → ℕ → Option ℕ → Type 0
 KeepsBlocks d size largest = (limit : ℕ) → d ≡ Lenient limit → limit ≡ (sizes_asked size 0 largest).largest_item
 
--- 1 to 8 workers, segments of 4,096 to 1,048,576 bytes, 8 to 65,536 of them, a largest item of 512 to 1,048,512 bytes, if one is
--- given, and at most 65,536 bytes accepted at once
+-- 1 to 8 workers, segments of 4,096 to 1,048,576 bytes, 8 to 65,536 of them, a largest item of 512
+-- to 1,048,512 bytes, if one is given, and at most 65,536 bytes accepted at once
 pub record IsReplayInRange (o : Options) : Type 0 where
   pub workers : (1 ≤ o.workers) × (o.workers ≤ 8)
   pub segment_size : (4096 ≤ o.segment_size) × (o.segment_size ≤ 1048576)
@@ -31,8 +32,9 @@ pub record IsReplayInRange (o : Options) : Type 0 where
   pub accept : o.accept ≤ 65536
   pub blocks : KeepsBlocks o.dialect o.segment_size o.max_item_size
 
--- the same of workers, segments and the largest item; and if they are given, 1 to 65,536 connections, output that is enough for the
--- workers, at least one session, 1 to 4,294,967,295 seconds of silence, and at most 1,000,000 microseconds; and a mode of nine bits
+-- the same of workers, segments and the largest item; and if they are given, 1 to 65,536
+-- connections, output that is enough for the workers, at least one session, 1 to 4,294,967,295
+-- seconds of silence, and at most 1,000,000 microseconds; and a mode of nine bits
 pub record IsServeInRange (o : ServeOptions) : Type 0 where
   pub workers : (1 ≤ o.workers) × (o.workers ≤ 8)
   pub segment_size : (4096 ≤ o.segment_size) × (o.segment_size ≤ 1048576)

@@ -144,7 +144,8 @@ pub(crate) const SPIN: NumberOption = NumberOption {
     default: &[],
 };
 
-/// The options of a replay beside its workers: the segments, the clock, and the faults of the ports.
+/// The options of a replay beside its workers: the segments, the clock, and the faults of the
+/// ports.
 pub(crate) static REPLAY_OPTIONS: [NumberOption; 7] = [
     SEGMENT_SIZE,
     SEGMENTS,

@@ -5,8 +5,8 @@ ghost use Rattle.command_line.specs.OneLine.{shown_char, one_line};
 
 use std::alloc::{AllocError, Global};
 
-/// The text on one line: its line feeds and carriage returns are shown as in Rust's strings. Fails only if memory is
-/// missing.
+/// The text on one line: its line feeds and carriage returns are shown as in Rust's strings. Fails
+/// only if memory is missing.
 pub fn on_one_line(alloc: Global, text: &str) -> Result<String, AllocError>
     ensures { IfOk result (λ line. string_bytes line ≡ one_line text.now) }
 {

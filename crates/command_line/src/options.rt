@@ -13,8 +13,8 @@ pub struct Options {
     pub segment_size: u64,
     /// The number of segments, 8 to 65,536.
     pub segments: u64,
-    /// The bytes of the largest item, 512 to 1,048,512; None is an eighth of a segment. Whether a segment is large enough is
-    /// tested later.
+    /// The bytes of the largest item, 512 to 1,048,512; None is an eighth of a segment. Whether a
+    /// segment is large enough is tested later.
     pub max_item_size: Option<u64>,
     /// The clock's first answer, in seconds.
     pub now: u64,
@@ -51,11 +51,12 @@ pub struct ServeOptions {
     pub sessions: Option<u64>,
     /// After how many seconds a silent connection is closed, 1 to 4,294,967,295; None is never.
     pub idle: Option<u64>,
-    /// The bytes of output that all workers together may keep for clients that don't read, 4,194,304 to 1,099,511,627,776 and at least
-    /// 4,194,304 for each worker; None is 67,108,864 for each.
+    /// The bytes of output that all workers together may keep for clients that don't read,
+    /// 4,194,304 to 1,099,511,627,776 and at least 4,194,304 for each worker; None is 67,108,864
+    /// for each.
     pub output_memory: Option<u64>,
-    /// For how many microseconds a thread looks for work before it sleeps, 0 to 1,000,000; None leaves it to each
-    /// thread. It does nothing if workers execute requests.
+    /// For how many microseconds a thread looks for work before it sleeps, 0 to 1,000,000; None
+    /// leaves it to each thread. It does nothing if workers execute requests.
     pub spin: Option<u32>,
     /// Whether no line is written for connections that are closed.
     pub quiet: bool,
@@ -63,8 +64,8 @@ pub struct ServeOptions {
     pub segment_size: u64,
     /// The number of segments, 8 to 65,536.
     pub segments: u64,
-    /// The bytes of the largest item, 512 to 1,048,512; None is an eighth of a segment. Whether a segment is large enough is
-    /// tested later.
+    /// The bytes of the largest item, 512 to 1,048,512; None is an eighth of a segment. Whether a
+    /// segment is large enough is tested later.
     pub max_item_size: Option<u64>,
     pub dialect: Dialect,
     /// Whether `incr`, `decr`, `append` and `prepend` change a value where it stands.

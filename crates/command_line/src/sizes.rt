@@ -18,7 +18,8 @@ pub enum BadSizes {
     LargestItem,
 }
 
-/// The sizes of a cache with this many segments of this many bytes, and of the largest item, if one is asked for.
+/// The sizes of a cache with this many segments of this many bytes, and of the largest item, if one
+/// is asked for.
 pub fn geometry_of(
     segment_size: u64,
     segments: u64,

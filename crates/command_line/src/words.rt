@@ -85,8 +85,8 @@ fn number(alloc: Global, matches: &ArgMatches<'_>, option: &NumberOption) -> Res
     )
 }
 
-/// The dialect of the lines. Leniently data blocks are kept that have no more bytes than the largest item, which an item of any
-/// key and value has.
+/// The dialect of the lines. Leniently data blocks are kept that have no more bytes than the
+/// largest item, which an item of any key and value has.
 fn dialect(matches: &ArgMatches<'_>, segment_size: u64, largest_item: Option<u64>) -> Dialect
     requires size { segment_size ≤ 1048576 }
     requires item { IfSome largest_item (λ n. n ≤ 1048512) }
@@ -263,8 +263,8 @@ fn job_of(alloc: Global, matches: &ArgMatches<'_>) -> Result<Job, WordsFault>
 ///
 /// # Errors
 ///
-/// BadWords, with the text to print, if the words ask for no job or give an option a value that it can't have; NoMemory if
-/// memory is missing.
+/// BadWords, with the text to print, if the words ask for no job or give an option a value that it
+/// can't have; NoMemory if memory is missing.
 pub fn parse_words(alloc: Global, words: &[String]) -> Result<Job, WordsFault>
     ensures { IfOk result IsJob }
 {

@@ -66,7 +66,8 @@ handled_by m old found t q reply new cache same at option dialect alike kept lea
 
 -- ---- what a step asks of the entries
 
--- the entries are those asked for, but that the stored one has a deadline that it may get, and some may have been forgotten
+-- the entries are those asked for, but that the stored one has a deadline that it may get, and some
+-- may have been forgotten
 record IsReached (sizes : Sizes) (t : ℕ) (reply : Reply) (asked : Entries) (stored : Option (List ℕ)) (new : Entries) : Type 0 where
   dated : Entries
   is_dated : IsDated t reply asked stored dated

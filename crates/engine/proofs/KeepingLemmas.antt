@@ -1,4 +1,5 @@
--- While little is stored, and nothing with a deadline, an engine forgets nothing that its map keeps.
+-- While little is stored, and nothing with a deadline, an engine forgets nothing that its map
+-- keeps.
 use Rattle.std.proofs.Common.{◌≡◌, ℕ, List, [], ◌++◌, Option, Some, None, refl, sym, ap, subst, ◌∙◌, inl, inr, append-nil}
 use Rattle.std.specs.Prelude.{if◌then◌else◌}
 use Rattle.std.specs.FinMap as map

@@ -14,8 +14,8 @@ abbrev pub is_storable_deadline : Option ℕ → Bool
 is_storable_deadline None = true
 is_storable_deadline (Some deadline) = nat_lt deadline 281474976710656
 
--- The entry that a request stores is there then as it asks to be, with the very deadline that it asks for, if a store can keep
--- that.
+-- The entry that a request stores is there then as it asks to be, with the very deadline that it
+-- asks for, if a store can keep that.
 abbrev pub StoresAsAsked : Sizes → Cache → ℕ → Request → Reply → Cache → Type 0
 StoresAsAsked sizes before t q reply after =
     let done = outcome_at sizes before t q in
@@ -31,7 +31,8 @@ abbrev pub IsKeepingStep : Bool → Sizes → ℕ → Cache → Request → Repl
 IsKeepingStep exact sizes t before q reply after =
     Step sizes t before q reply after × (exact ≡ true → StoresAsAsked sizes before t q reply after)
 
--- A store that keeps deadlines to the second goes on so, and another one too. Where it does, the request stores its entry as it asks.
+-- A store that keeps deadlines to the second goes on so, and another one too. Where it does, the
+-- request stores its entry as it asks.
 abbrev pub KeepsDeadlines : {E : Type 0} → (E → Sizes) → (E → Cache) → (E → Bool) → E → ℕ → Request → Reply → E → Type 0
 KeepsDeadlines sizes cache exact old t q reply new =
     (exact new ≡ exact old) × (exact old ≡ true → StoresAsAsked (sizes old) (cache old) t q reply (cache new))

@@ -30,7 +30,8 @@ pub record IsNewEngine {M P S : Type 0} (m : MapOf M P S) (geometry : Sizes) (la
   pub keeps : m.keeps engine.map []
   pub dialect_is : engine.dialect ≡ dialect
 
--- how an entry is stored: written anew, changed where it stands, or left there if only its deadline is to change
+-- how an entry is stored: written anew, changed where it stands, or left there if only its deadline
+-- is to change
 pub data Way : Type 0 where
   as_written : Way
   as_changed : Way
@@ -50,8 +51,8 @@ way_of (Decr key amount) in_place = change_way in_place
 way_of (Touch asked) in_place = as_touched
 way_of _ _ = as_written
 
--- the map left the entry of the key as it is, whose deadline may stand for that of the entry asked for, and counted the
--- touch
+-- the map left the entry of the key as it is, whose deadline may stand for that of the entry asked
+-- for, and counted the touch
 pub record IsLeftAs {M P S : Type 0} (m : MapOf M P S) (old : M) (key : List ℕ) (entry : Entry) (reply : Reply)
     (new : M) : Type 0 where
   pub deadline : Option ℕ

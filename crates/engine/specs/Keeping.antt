@@ -11,8 +11,8 @@ use Rattle.proto.specs.Commands.{SetsNoDeadline}
 use Rattle.proto.specs.Stored.{StoredItem, stored_item_of, item_stored, is_no_memory, written, spread}
 use Rattle.engine.specs.Outcomes.{outcome_at}
 
--- Few enough bytes that all segments but one for each bucket hold them, where each of these has no room left for
--- a largest item.
+-- Few enough bytes that all segments but one for each bucket hold them, where each of these has no
+-- room left for a largest item.
 abbrev pub IsWithinBound : Sizes → List StoredItem → Type 0
 IsWithinBound sizes items = written items ≤ (sizes.segments - spread items) * (sizes.segment_size - item_limit sizes)
 
@@ -24,8 +24,8 @@ StaysKept keeps old new = (items : List StoredItem) → keeps old items → keep
 abbrev pub AddsNoDeadline : Entries → List ℕ → Entry → Type 0
 AddsNoDeadline old key entry = (entry.deadline ≡ None) ⊎ (entry.deadline ≡ deadline_at old key)
 
--- Where items were kept, and are within the bound together with the entry that is written, it is kept with them, and
--- nothing is forgotten.
+-- Where items were kept, and are within the bound together with the entry that is written, it is
+-- kept with them, and nothing is forgotten.
 abbrev pub KeepsEntry : {M : Type 0} → (M → Sizes) → (M → Entries) → (M → ℕ) → (M → List StoredItem → Type 0) → M
     → List ℕ → Entry → M → Type 0
 KeepsEntry sizes entries moment keeps old key entry new =
@@ -45,8 +45,8 @@ ForgetsNone sizes before t q reply after =
     let done = outcome_at sizes before t q in
     (reply ≡ NoMemory) ⊎ IsDated t done.reply done.entries done.stored after.entries
 
--- Where items were kept, the request sets no deadline, and they are within the bound together with the item that it
--- stores, nothing is forgotten, and that item is kept with them.
+-- Where items were kept, the request sets no deadline, and they are within the bound together with
+-- the item that it stores, nothing is forgotten, and that item is kept with them.
 abbrev pub KeepsAll : {E : Type 0} → (E → Sizes) → (E → Cache) → (E → List StoredItem → Type 0) → E → ℕ → Request
     → Reply → E → Type 0
 KeepsAll sizes cache keeps old t q reply new =

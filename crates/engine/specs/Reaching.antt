@@ -7,8 +7,8 @@ use Rattle.proto.specs.Steps.{Step}
 use Rattle.proto.specs.Tallies.{no_counts, CountsFrom}
 use Rattle.proto.specs.History.{max_moment, MomentsFrom, Chain, NumbersFrom, worker_share}
 
--- the moments of requests: each is the clock's answer, up to the greatest moment, or the moment before where that is
--- greater
+-- the moments of requests: each is the clock's answer, up to the greatest moment, or the moment
+-- before where that is greater
 abbrev pub moments_after : ℕ → List ℕ → List ℕ
 moments_after last [] = []
 moments_after last (answer ∷ answers) =

@@ -10,8 +10,8 @@ use Rattle.engine.specs.Members.{MapOf}
 use Rattle.engine.specs.Keeping.{StaysKept}
 use Rattle.engine.specs.Counting.{CountsEach, keys_of}
 
--- What was written are the hits of the keys, without room that is left; a read of each was counted, one after the
--- other, and the map has what it had.
+-- What was written are the hits of the keys, without room that is left; a read of each was counted,
+-- one after the other, and the map has what it had.
 pub record HasShown {M P S : Type 0} (m : MapOf M P S) (with_cas : Bool) (old : M) (keys : List (List ℕ)) (new : M)
     (written : Writing) : Type 0 where
   pub hits : written.hits ≡ hits_of with_cas (m.entries old) keys
@@ -22,8 +22,8 @@ pub record HasShown {M P S : Type 0} (m : MapOf M P S) (with_cas : Bool) (old : 
   pub moment : m.moment new ≡ m.moment old
   pub kept : StaysKept m.keeps old new
 
--- The hits of the keys were shown, which an answer of the dialect may; or none, and the map stays: they take too many bytes, or
--- memory was refused, and only if there are some.
+-- The hits of the keys were shown, which an answer of the dialect may; or none, and the map stays:
+-- they take too many bytes, or memory was refused, and only if there are some.
 pub record ShowsOrRefuses {M P S : Type 0} (m : MapOf M P S) (with_cas : Bool) (dialect : Dialect) (old : M) (keys : List (List ℕ))
     (new : M) (result : Result Writing Unshown) : Type 0 where
   pub ok : IfOk result (λ written. HasShown m with_cas old keys new written)

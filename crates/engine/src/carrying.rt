@@ -30,7 +30,8 @@ fn with_answer(shown: Reply, answered: &Reply) -> Reply
     }
 }
 
-/// Touches each of the keys, one after the other. The reply stays, but it is NoMemory once a touch is.
+/// Touches each of the keys, one after the other. The reply stays, but it is NoMemory once a touch
+/// is.
 fn touch_each<S: StorageEngine>(
     store: &mut S,
     now: u64,
@@ -54,7 +55,8 @@ fn touch_each<S: StorageEngine>(
     shown
 }
 
-/// The keys that a request touches behind its step, which was answered so, and by which exptime, if it touches some.
+/// The keys that a request touches behind its step, which was answered so, and by which exptime, if
+/// it touches some.
 fn touched<'a>(request: &'a Request, shown: &Reply) -> Option<(&'a Keys, i64)>
     ensures { MatchOption result (touched_by request.now shown.now ≡ [])
         (λ t. (touched_by request.now shown.now ≡ map (λ key. record { key = key; exptime = t.1 }) t.0.now)
@@ -84,9 +86,11 @@ pub fn carry_out<S: StorageEngine>(store: &mut S, now: u64, request: &mut Reques
     ensures told { request.old ≡ Request.Stats → result ≢ Reply.NoMemory }
     ensures kept { KeepsAll S.sizes S.cache S.keeps store.old now request.old result store.new }
 
-    // a store that keeps deadlines to the second goes on so, and each step stores its entry as it asks
+    // a store that keeps deadlines to the second goes on so, and each step stores its entry as it
+    // asks
     ensures exact { S.is_exact store.new ≡ S.is_exact store.old }
-    ensures deadlines { S.is_exact store.old ≡ true → IsCarriedOut (IsExactStep (S.sizes store.old) now) (S.cache store.old)
+    ensures deadlines { S.is_exact store.old ≡ true
+        → IsCarriedOut (IsExactStep (S.sizes store.old) now) (S.cache store.old)
         request.old result (S.cache store.new) }
 {
     let shown = store.handle(now, request);

@@ -26,7 +26,8 @@ pub struct Engine<M> {
     pub(crate) map: M,
     pub(crate) last_cas: u64,
     pub(crate) pending: Option<u64>,
-    /// Whether `incr`, `decr`, `append` and `prepend` change an entry where it stands, if its map can.
+    /// Whether `incr`, `decr`, `append` and `prepend` change an entry where it stands, if its map
+    /// can.
     pub(crate) in_place: bool,
     /// Whose limit answers keep.
     pub(crate) dialect: Dialect,
@@ -51,10 +52,10 @@ fn is_joined_too_large(limit: u32, key: &[u8], first: usize, second: usize) -> b
 impl<M: LiveMap> Engine<M> {
     ghost use Rattle.engine.specs.Engines.{cache_in, Leaves, LeavesExecuted, change_way, as_written};
 
-    /// Stores what the scratch has as the value of the key's entry, with the next cas number: where it stands, if entries are
-    /// changed in place and it fits there. A search for the key found the spot; the entry stands at the place, and has these
-    /// flags and this deadline. It gives this reply, NoCas if the greatest number was given out, or NoMemory if memory is
-    /// refused.
+    /// Stores what the scratch has as the value of the key's entry, with the next cas number: where
+    /// it stands, if entries are changed in place and it fits there. A search for the key found the
+    /// spot; the entry stands at the place, and has these flags and this deadline. It gives this
+    /// reply, NoCas if the greatest number was given out, or NoMemory if memory is refused.
     fn store_scratch(
         &mut self,
         key: &[u8],
@@ -97,8 +98,9 @@ impl<M: LiveMap> Engine<M> {
         }
     }
 
-    /// Stores the entry of a put, for whose key the spot was found, with the next cas number, or takes its key out if its
-    /// deadline has come already. It gives NoCas and NoMemory as `store_scratch` does.
+    /// Stores the entry of a put, for whose key the spot was found, with the next cas number, or
+    /// takes its key out if its deadline has come already. It gives NoCas and NoMemory as
+    /// `store_scratch` does.
     fn put(&mut self, item: &Put, spot: M::Spot) -> Reply
         requires found { M.finds self.old.map item.now.key spot }
         requires in_range { M.moment self.old.map ≤ max_moment }
@@ -128,8 +130,9 @@ impl<M: LiveMap> Engine<M> {
         Reply::Stored
     }
 
-    /// Joins the value with that of the entry of the key, behind it or before it, with the next cas number. It gives NotStored
-    /// if the key has no entry, TooLarge, and NoCas and NoMemory as `store_scratch` does.
+    /// Joins the value with that of the entry of the key, behind it or before it, with the next cas
+    /// number. It gives NotStored if the key has no entry, TooLarge, and NoCas and NoMemory as
+    /// `store_scratch` does.
     fn join(&mut self, item: &Put, behind: bool) -> Reply
         ensures { Leaves M.LiveMap (change_way self.old.in_place) self.old self.new
             (join (joined_by behind item.now.value) (map.get (M.entries self.old.map) item.now.key)
@@ -150,8 +153,8 @@ impl<M: LiveMap> Engine<M> {
         self.store_scratch(key, spot, place, flags, deadline, Reply::Stored)
     }
 
-    /// Gives the entry of the key another deadline, or takes it out if that has come already. NotFound if the key has no entry,
-    /// and NoMemory if memory is refused.
+    /// Gives the entry of the key another deadline, or takes it out if that has come already.
+    /// NotFound if the key has no entry, and NoMemory if memory is refused.
     pub(crate) fn touch(&mut self, key: &[u8], exptime: i64) -> Reply
         requires { M.moment self.old.map ≤ max_moment }
         ensures { LeavesExecuted M.LiveMap self.old (Request.Touch (record { key = key.now; exptime = exptime })) result
@@ -194,7 +197,8 @@ impl<M: LiveMap> Engine<M> {
         Reply::Deleted
     }
 
-    /// Changes the number at the key. NotFound if it has no entry, NotNumber if its value is no number.
+    /// Changes the number at the key. NotFound if it has no entry, NotNumber if its value is no
+    /// number.
     fn change(&mut self, key: &[u8], by: Change) -> Reply
         ensures { Leaves M.LiveMap (change_way self.old.in_place) self.old self.new
             (change (changed_by by) (map.get (M.entries self.old.map) key.now)
@@ -255,8 +259,9 @@ impl<M: LiveMap> Engine<M> {
         is_joined_too_large(self.map.item_limit(), item.key.as_slice(), 0, second)
     }
 
-    /// Shows the entries at the keys, in the buffer that the keys were lent if that is large enough, and counts a read
-    /// of each. NoMemory if they take more bytes than one answer may show, and then no read is counted.
+    /// Shows the entries at the keys, in the buffer that the keys were lent if that is large
+    /// enough, and counts a read of each. NoMemory if they take more bytes than one answer may
+    /// show, and then no read is counted.
     fn get(&mut self, keys: &mut Keys, with_cas: bool) -> Reply
         ensures limit { IsTrue (is_too_long self.old.dialect
             (shown_size (hits_of with_cas (M.entries self.old.map) keys.old))) → result ≡ Reply.NoMemory }
@@ -296,7 +301,8 @@ impl<M: LiveMap> Engine<M> {
         Reply::TooLarge
     }
 
-    /// Stores the entry of a put where its key has an entry, or where it has none. NotStored if it is the other way round.
+    /// Stores the entry of a put where its key has an entry, or where it has none. NotStored if it
+    /// is the other way round.
     fn put_where(&mut self, item: &Put, there: bool) -> Reply
         requires { M.moment self.old.map ≤ max_moment }
         ensures add { there ≡ false → LeavesExecuted M.LiveMap self.old (Request.Add item.now) result self.new }

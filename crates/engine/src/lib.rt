@@ -1,4 +1,5 @@
-//! The commands of the cache, over any map of live entries; what the storage thread asks of a store and of a clock.
+//! The commands of the cache, over any map of live entries; what the storage thread asks of a store
+//! and of a clock.
 #![tactic(auto)]
 
 mod carrying;

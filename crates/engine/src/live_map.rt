@@ -32,7 +32,8 @@ pub trait LiveMap {
     /// Where an entry stands, as long as the map stays as it is.
     type Place: Copy;
 
-    /// What a search finds for a key, as long as the map stays as it is: where its entry stands, or where one would go.
+    /// What a search finds for a key, as long as the map stays as it is: where its entry stands, or
+    /// where one would go.
     type Spot: Copy;
 
     /// The sizes that it was made for.
@@ -65,15 +66,16 @@ pub trait LiveMap {
     /// What counting a touch that leaves the entry at the key does to this map.
     ghost touches: { Self → List ℕ → Self → Type 0 };
 
-    /// Whether an entry keeps its deadline at a moment when it is asked to have another one: the moment, the one asked
-    /// for, and the one that it has.
+    /// Whether an entry keeps its deadline at a moment when it is asked to have another one: the
+    /// moment, the one asked for, and the one that it has.
     ghost stays: { Self → ℕ → Option ℕ → Option ℕ → Bool };
 
-    /// The other map may differ from this one only by entries that expired or were removed: everything else is where it
-    /// was.
+    /// The other map may differ from this one only by entries that expired or were removed:
+    /// everything else is where it was.
     ghost alike: { Self → Self → Type 0 };
 
-    /// These items were stored so far, none with a deadline, and no item was forgotten to make room.
+    /// These items were stored so far, none with a deadline, and no item was forgotten to make
+    /// room.
     ghost keeps: { Self → List StoredItem → Type 0 };
 
     /// The largest size of an item.
@@ -87,8 +89,8 @@ pub trait LiveMap {
     /// What hashes the keys for `prefetch`.
     fn key_hasher(&self) -> FoldHasher;
 
-    /// Reads what the searches for keys with these hashes will read, for all at once, so that it is in the processor's
-    /// cache. No clause speaks of what it reads.
+    /// Reads what the searches for keys with these hashes will read, for all at once, so that it is
+    /// in the processor's cache. No clause speaks of what it reads.
     fn prefetch(&self, hashes: &[u64]);
 
     /// Sets the gauges that it knows, for `stats`. No clause speaks of it.
@@ -111,7 +113,8 @@ pub trait LiveMap {
     fn find(&self, key: &[u8]) -> Self::Spot
         ensures { finds self.now key.now result };
 
-    /// The entry at the key, whose search found the spot, and where it stands; None if the key has none.
+    /// The entry at the key, whose search found the spot, and where it stands; None if the key has
+    /// none.
     fn entry_found<'a>(
         &'a self,
         key: &[u8],
@@ -147,7 +150,8 @@ pub trait LiveMap {
         self.entry_found(key, spot).is_some()
     }
 
-    /// Counts a read of the entry at the key, which stands at the place. All entries stand where they stood.
+    /// Counts a read of the entry at the key, which stands at the place. All entries stand where
+    /// they stood.
     fn count_read(&mut self, key: &[u8], place: Self::Place)
         requires { stands self.old key.now place }
         ensures counted { reads self.old key.now self.new }
@@ -167,8 +171,8 @@ pub trait LiveMap {
         ensures moment { moment self.new ≡ moment self.old }
         ensures kept { StaysKept keeps self.old self.new };
 
-    /// Copies the entry into the map, in place of what the key has, whose search found the spot. NoMemory if out of
-    /// memory; then no entry changes.
+    /// Copies the entry into the map, in place of what the key has, whose search found the spot.
+    /// NoMemory if out of memory; then no entry changes.
     fn write(&mut self, key: &[u8], spot: Self::Spot, entry: EntryRef) -> Result<(), NoMemory>
         requires found { finds self.old key.now spot }
         requires waits { has_arrived entry.deadline (moment self.old) ≡ false }
@@ -176,8 +180,9 @@ pub trait LiveMap {
         ensures { WritesOrRefuses sizes entries moment alike keeps may_refuse writes self.old key.now
             (entry_of entry.entry) result self.new };
 
-    /// Writes an entry that differs from the one of the key only by its value and its cas number. The key's search found
-    /// the spot, and its entry stands at the place: a map may change it there. NoMemory as for `write`.
+    /// Writes an entry that differs from the one of the key only by its value and its cas number.
+    /// The key's search found the spot, and its entry stands at the place: a map may change it
+    /// there. NoMemory as for `write`.
     fn rewrite(
         &mut self,
         key: &[u8],
@@ -193,7 +198,8 @@ pub trait LiveMap {
         ensures { WritesOrRefuses sizes entries moment alike keeps may_refuse changes self.old key.now
             (entry_of entry.entry) result self.new };
 
-    /// Whether the entry of the key, which stands at the place, may be left as it is if it is asked to have this deadline.
+    /// Whether the entry of the key, which stands at the place, may be left as it is if it is asked
+    /// to have this deadline.
     fn may_stay(&self, key: &[u8], place: Self::Place, deadline: Option<u64>) -> bool
         requires stands { stands self.now key.now place }
         requires there { IsSome (map.get (entries self.now) key.now) }

@@ -7,8 +7,8 @@ ghost use Rattle.engine.specs.Change.{changed_by};
 /// The longest value that is read as a number, in bytes.
 pub const MAX_DIGITS: usize = 20;
 
-/// The number that the value writes in 1 to 20 digits, also with leading zeros. None if it is 2^64 or more, or the
-/// value is no number.
+/// The number that the value writes in 1 to 20 digits, also with leading zeros. None if it is 2^64
+/// or more, or the value is no number.
 pub fn number_of(value: &[u8]) -> Option<u64>
     ensures { result ≡ number_of value.now }
 {

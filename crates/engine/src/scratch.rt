@@ -7,7 +7,8 @@ use proto::{MAX_VALUE, NoMemory};
 use std::alloc::Global;
 use std::marker::Model;
 
-/// The bytes of a value, in memory that the largest value of any geometry fits into. All of it is taken at first.
+/// The bytes of a value, in memory that the largest value of any geometry fits into. All of it is
+/// taken at first.
 #[derive(Drop)]
 pub struct Scratch {
     bytes: Vec<u8>,

@@ -67,8 +67,8 @@ pub fn left_after(left: usize, hit: HitRef) -> Option<usize>
         .checked_sub(hit.value.len())
 }
 
-/// A hit of these parts of an entry, which shows its cas number or doesn't. Its room is enough for the bytes that show
-/// it.
+/// A hit of these parts of an entry, which shows its cas number or doesn't. Its room is enough for
+/// the bytes that show it.
 fn hit_with<'a>(key: &'a [u8], value: &'a [u8], flags: u32, cas: u64, with_cas: bool) -> HitRef<'a>
     requires { length value.now < 2 ^ 64 }
     ensures hit { seen_hit result
@@ -90,7 +90,8 @@ struct Found<'k, P> {
     place: P,
 }
 
-/// Adds a key that is there, with the place of its entry. With the first one the list takes memory for so many.
+/// Adds a key that is there, with the place of its entry. With the first one the list takes memory
+/// for so many.
 fn add_found<'k, P: Copy>(
     found: &mut Vec<Found<'k, P>>,
     key: &'k [u8],
@@ -106,8 +107,8 @@ fn add_found<'k, P: Copy>(
     Ok(())
 }
 
-/// Looks each key up, and lists those that are there, in a list that is empty. It gives the room that their hits take.
-/// NoMemory if out of memory, or the room is more than memory can have.
+/// Looks each key up, and lists those that are there, in a list that is empty. It gives the room
+/// that their hits take. NoMemory if out of memory, or the room is more than memory can have.
 fn list_found<'k, M: LiveMap>(
     found: &mut Vec<Found<'k, M::Place>>,
     map: &M,
@@ -133,7 +134,8 @@ fn list_found<'k, M: LiveMap>(
     Ok(room)
 }
 
-/// Whether the hits of keys that were found take more bytes than one answer of the dialect may show.
+/// Whether the hits of keys that were found take more bytes than one answer of the dialect may
+/// show.
 fn are_too_long<M: LiveMap>(
     map: &M,
     found: &[Found<M::Place>],
@@ -159,7 +161,8 @@ fn are_too_long<M: LiveMap>(
     false
 }
 
-/// Writes the hits of keys that were found, for which there is room, and counts a read of each. The writer is new.
+/// Writes the hits of keys that were found, for which there is room, and counts a read of each. The
+/// writer is new.
 fn hits_found<M: LiveMap>(
     map: &mut M,
     found: &[Found<M::Place>],
@@ -184,7 +187,8 @@ fn hits_found<M: LiveMap>(
 ///
 /// # Errors
 ///
-/// TooLong if the hit takes more bytes than an answer of the dialect may show; NoMemory if out of memory.
+/// TooLong if the hit takes more bytes than an answer of the dialect may show; NoMemory if out of
+/// memory.
 pub fn hit_of_only<M: LiveMap>(
     map: &mut M,
     only: &[u8],
@@ -229,12 +233,14 @@ fn read_ahead<M: LiveMap>(map: &M, keys: &Keys) {
     map.prefetch(&hashes[..count]);
 }
 
-/// Writes the hits of the keys, each of which is looked up once, and counts a read of each. Memory is taken in two
-/// steps: for the list of the keys that are there, and then for all their hits. The writer is new.
+/// Writes the hits of the keys, each of which is looked up once, and counts a read of each. Memory
+/// is taken in two steps: for the list of the keys that are there, and then for all their hits. The
+/// writer is new.
 ///
 /// # Errors
 ///
-/// TooLong if the hits take more bytes than an answer of the dialect may show; NoMemory if out of memory.
+/// TooLong if the hits take more bytes than an answer of the dialect may show; NoMemory if out of
+/// memory.
 pub fn hits_of_keys<M: LiveMap>(
     map: &mut M,
     keys: &Keys,

@@ -16,8 +16,8 @@ use std::hash::FoldHasher;
 /// The greatest moment in seconds.
 pub const MAX_MOMENT: u64 = 4_611_686_018_427_387_904;
 
-/// A cache that executes one request at a time. However it stores its entries, each request is a step
-/// of the cache's definition.
+/// A cache that executes one request at a time. However it stores its entries, each request is a
+/// step of the cache's definition.
 pub trait StorageEngine {
     /// The sizes that the cache was made for.
     ghost sizes: { Self → Sizes };
@@ -28,10 +28,12 @@ pub trait StorageEngine {
     /// The moment of the last request, 0 before the first one.
     ghost moment: { Self → ℕ };
 
-    /// Whether a request that stores an item may be refused memory. One that shows a hit may always be.
+    /// Whether a request that stores an item may be refused memory. One that shows a hit may always
+    /// be.
     ghost may_refuse: { Bool };
 
-    /// These items were stored so far, none with a deadline, and no item was forgotten to make room.
+    /// These items were stored so far, none with a deadline, and no item was forgotten to make
+    /// room.
     ghost keeps: { Self → List StoredItem → Type 0 };
 
     /// Whether it keeps deadlines to the second, those below 2^48.
@@ -44,8 +46,8 @@ pub trait StorageEngine {
     /// What hashes the keys for `prefetch`.
     fn key_hasher(&self) -> FoldHasher;
 
-    /// Reads what requests with keys of these hashes will look up, for all at once, so that it is in the processor's cache.
-    /// No clause speaks of what it reads.
+    /// Reads what requests with keys of these hashes will look up, for all at once, so that it is
+    /// in the processor's cache. No clause speaks of what it reads.
     fn prefetch(&self, hashes: &[u64]);
 
     /// Sets the gauges that it knows, for `stats`. No clause speaks of it.
@@ -54,8 +56,9 @@ pub trait StorageEngine {
     /// How often room was made so far by forgetting something. No clause speaks of it.
     fn evictions(&self) -> u64;
 
-    /// Executes the first step of the request at this moment in seconds, which is at most `MAX_MOMENT`: all of it, unless it
-    /// is a `gat` (`carry_out`). Hits may take the buffer that the keys were lent; no clause speaks of that.
+    /// Executes the first step of the request at this moment in seconds, which is at most
+    /// `MAX_MOMENT`: all of it, unless it is a `gat` (`carry_out`). Hits may take the buffer that
+    /// the keys were lent; no clause speaks of that.
     fn handle(&mut self, now: u64, request: &mut Request) -> Reply
         requires not_before { moment self.old ≤ now }
         requires in_range { now ≤ max_moment }
@@ -64,7 +67,8 @@ pub trait StorageEngine {
         ensures sizes { sizes self.new ≡ sizes self.old }
         ensures moment { moment self.new ≡ now }
 
-        // NoMemory is answered only if a hit would be shown, or an item be stored by a store that may refuse it
+        // NoMemory is answered only if a hit would be shown, or an item be stored by a store that
+        // may refuse it
         ensures succeeds { needs_memory may_refuse (outcome_at (sizes self.old) (cache self.old) now request.old)
             ≡ false → result ≢ Reply.NoMemory }
 
@@ -74,11 +78,13 @@ pub trait StorageEngine {
         // where deadlines are kept to the second, what is stored has the one asked for
         ensures deadlines { KeepsDeadlines sizes cache is_exact self.old now request.old result self.new };
 
-    /// Gives the entry of the key another deadline, as a `touch` at this moment does: the same holds of it as of `handle`.
+    /// Gives the entry of the key another deadline, as a `touch` at this moment does: the same
+    /// holds of it as of `handle`.
     fn touch(&mut self, now: u64, key: &[u8], exptime: i64) -> Reply
         requires not_before { moment self.old ≤ now }
         requires in_range { now ≤ max_moment }
-        ensures step { Step (sizes self.old) now (cache self.old) (Request.Touch (record { key = key.now; exptime = exptime }))
+        ensures step { Step (sizes self.old) now (cache self.old)
+            (Request.Touch (record { key = key.now; exptime = exptime }))
             result (cache self.new) }
         ensures sizes { sizes self.new ≡ sizes self.old }
         ensures moment { moment self.new ≡ now }

@@ -1,4 +1,5 @@
-//! An engine as a store: what it asks of its map beyond the commands, how it is made, and how it handles requests.
+//! An engine as a store: what it asks of its map beyond the commands, how it is made, and how it
+//! handles requests.
 
 ghost use Rattle.std.specs.Prelude.{◌≡◌, ◌≢◌, ℕ, ◌≤◌, [], IfOk, IsTrue, Bool, false};
 ghost use Rattle.proto.specs.declared.dialect.Dialect.TheVariants.{Strict};
@@ -29,8 +30,8 @@ const SEED: u64 = 0x9e37_79b9_7f4a_7c15;
 
 /// A map over which an engine is a store: it can be made, and says what a request leaves of it.
 pub trait StoreMap: LiveMap {
-    /// What a new map of these sizes and this seed is, which evicts by this rule, and keeps deadlines to the second or
-    /// not, beyond what any is.
+    /// What a new map of these sizes and this seed is, which evicts by this rule, and keeps
+    /// deadlines to the second or not, beyond what any is.
     ghost made: { Sizes → ℕ → Eviction → Bool → Self → Type 0 };
 
     /// What a request leaves of this map, beyond what one leaves of any.
@@ -39,8 +40,9 @@ pub trait StoreMap: LiveMap {
     /// Whether it keeps deadlines to the second, those below 2^48.
     ghost is_exact: { Self → Bool };
 
-    /// No entry, at the moment 0. A map that hashes keys hashes the seed before each, and one that evicts does it by
-    /// this rule; one that can keeps deadlines to the second or not. NoMemory if out of memory.
+    /// No entry, at the moment 0. A map that hashes keys hashes the seed before each, and one that
+    /// evicts does it by this rule; one that can keeps deadlines to the second or not. NoMemory if
+    /// out of memory.
     fn seeded(
         alloc: Global,
         geometry: Geometry,
@@ -54,8 +56,8 @@ pub trait StoreMap: LiveMap {
         ensures keeps { IfOk result (λ m. Self.keeps m []) }
         ensures made { IfOk result (λ m. made geometry seed eviction exact m) };
 
-    /// A law, which each map proves: whatever an engine over it handles is as the map promises, and keeps deadlines if
-    /// the map says so. There is nothing to run.
+    /// A law, which each map proves: whatever an engine over it handles is as the map promises, and
+    /// keeps deadlines if the map says so. There is nothing to run.
     fn keep_promises()
         ensures promised { (old : Engine Self) (t : ℕ) (q : Request) (reply : Reply) (new : Engine Self)
             → IsHandled Self.LiveMap old t q reply new → promises old t q reply new }
@@ -74,8 +76,9 @@ impl<M: StoreMap> Engine<M> {
         Engine::starting(alloc, geometry, 0)
     }
 
-    /// An empty cache for this dialect, at the moment 0, that changes entries in place or writes them anew, evicts by this
-    /// rule, and keeps deadlines to the second or not. NoMemory if out of memory.
+    /// An empty cache for this dialect, at the moment 0, that changes entries in place or writes
+    /// them anew, evicts by this rule, and keeps deadlines to the second or not. NoMemory if out of
+    /// memory.
     pub fn evicting(
         alloc: Global,
         geometry: Geometry,
@@ -91,7 +94,8 @@ impl<M: StoreMap> Engine<M> {
         Engine::seeded(alloc, geometry, 0, SEED, in_place, dialect, eviction, exact)
     }
 
-    /// An empty cache for the strict dialect that has given out this cas number last. NoMemory if out of memory.
+    /// An empty cache for the strict dialect that has given out this cas number last. NoMemory if
+    /// out of memory.
     pub fn starting(alloc: Global, geometry: Geometry, last_cas: u64) -> Result<Self, NoMemory>
         ensures new { IfOk result (IsNewEngine M.LiveMap geometry last_cas Strict) }
         ensures made { IfOk result (λ s. M.made geometry SEED Oldest false s.map) }
@@ -103,9 +107,10 @@ impl<M: StoreMap> Engine<M> {
         )
     }
 
-    /// An empty cache that has given out this cas number last, and hashes the seed before each key. `incr`, `decr`, `append` and
-    /// `prepend` change entries in place, if their map can, or write them anew. Answers keep the limit of the dialect, and the map
-    /// evicts by this rule, and keeps deadlines to the second or not. NoMemory if out of memory.
+    /// An empty cache that has given out this cas number last, and hashes the seed before each key.
+    /// `incr`, `decr`, `append` and `prepend` change entries in place, if their map can, or write
+    /// them anew. Answers keep the limit of the dialect, and the map evicts by this rule, and keeps
+    /// deadlines to the second or not. NoMemory if out of memory.
     pub fn seeded(
         alloc: Global,
         geometry: Geometry,
@@ -178,14 +183,16 @@ impl<M: StoreMap> StorageEngine for Engine<M> {
         self.map.evictions()
     }
 
-    /// Executes the request at this moment, in seconds. The hits of a `get` stand in the buffer that its keys were
-    /// lent. NoMemory if out of memory, or the hits take more bytes than one answer may show.
+    /// Executes the request at this moment, in seconds. The hits of a `get` stand in the buffer
+    /// that its keys were lent. NoMemory if out of memory, or the hits take more bytes than one
+    /// answer may show.
     fn handle(&mut self, now: u64, request: &mut Request) -> Reply
         requires not_before { M.moment self.old.map ≤ now }
         requires in_range { now ≤ max_moment }
         ensures request { request.new ≡ request.old }
 
-        // what the map does beyond what any map does: step by step, and as the map promises it of whole requests
+        // what the map does beyond what any map does: step by step, and as the map promises it of
+        // whole requests
         ensures handled { IsHandled M.LiveMap self.old now request.old result self.new }
         ensures promised { M.promises self.old now request.old result self.new }
         ensures step { Step (M.sizes self.old.map) now (cache_in M.entries self.old) request.old result
@@ -193,8 +200,8 @@ impl<M: StoreMap> StorageEngine for Engine<M> {
         ensures sizes { M.sizes self.new.map ≡ M.sizes self.old.map }
         ensures moment { M.moment self.new.map ≡ now }
 
-        // if out of memory, what was found stays; and only what shows something needs any, or stores, where
-        // the map may refuse
+        // if out of memory, what was found stays; and only what shows something needs any, or
+        // stores, where the map may refuse
         ensures refused { result ≡ Reply.NoMemory
             → cache_in M.entries self.new ≡ found_at (cache_in M.entries self.old) now }
         ensures succeeds { needs_memory M.may_refuse
@@ -223,7 +230,8 @@ impl<M: StoreMap> StorageEngine for Engine<M> {
     fn touch(&mut self, now: u64, key: &[u8], exptime: i64) -> Reply
         requires not_before { M.moment self.old.map ≤ now }
         requires in_range { now ≤ max_moment }
-        ensures handled { IsHandled M.LiveMap self.old now (Request.Touch (record { key = key.now; exptime = exptime })) result
+        ensures handled { IsHandled M.LiveMap self.old now
+            (Request.Touch (record { key = key.now; exptime = exptime })) result
             self.new }
         ensures promised { M.promises self.old now (Request.Touch (record { key = key.now; exptime = exptime })) result
             self.new }

@@ -32,7 +32,7 @@ use Rattle.exchange.specs.declared.messages.LaneMessage.TheVariants.{Ask, Bye, A
 use Rattle.std.specs.Prelude.{option_map}
 use Rattle.exchange.specs.Seats.{open_in, worker_state_in, StateWasTold, WorkerAgrees, StateTakes, worker_view, storage_state_in, StorageAgrees}
 use Rattle.exchange.specs.Seats.{HasUntold, IsNamed}
-use Rattle.exchange.specs.Ends.{WorkerView, WorkerBatchView, max_posts, with_put_sent, IsToldHistory, IsDoneHistory, WasTold, TakesAnswer}
+use Rattle.exchange.specs.Ends.{WorkerView, WorkerLaneView, max_posts, with_put_sent, IsToldHistory, IsDoneHistory, WasTold, TakesAnswer}
 use Rattle.exchange.specs.Ends.{new_worker_view, new_storage_view, AreNew}
 use Rattle.exchange.specs.Ends.{AreMade}
 use Rattle.exchange.specs.Ends.{StorageView}
@@ -285,7 +285,7 @@ new_agrees me g w is = subst (λ (z : SeatState). WorkerAgrees z w 0 0 0 0 false
 }
 
 -- nothing put, nothing sent
-pub none_flushed : (v : WorkerBatchView) → length v.put ≡ 0 → v ≡ with_put_sent v
+pub none_flushed : (v : WorkerLaneView) → length v.put ≡ 0 → v ≡ with_put_sent v
 none_flushed v none_put = let e = none_of v.put none_put in
     let s : v.end.sent ≡ v.end.sent ++ v.put = sym (append-nil v.end.sent)
     ∙ ap (λ (l : List Posted). v.end.sent ++ l) (sym e) in

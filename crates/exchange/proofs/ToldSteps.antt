@@ -1,4 +1,5 @@
--- A history that a worker was told of: how its seat is made, and what it finds where it meets a worker or another one.
+-- A history that a worker was told of: how its seat is made, and what it finds where it meets a
+-- worker or another one.
 use Rattle.std.proofs.Common.{◌≡◌, ⊎_elim, ℕ, ◌<◌, List, ◌++◌, length, take, set, refl, sym, ap, ◌∙◌, subst, arith}
 use mathlib.Core.Option.{none, some, some-ne-none}
 use lib.ListN.{get_elem?}
@@ -143,8 +144,8 @@ module _ (key : LaneKey) where
         ),
       )
 
--- A history in which a worker has more requests than in another one of the same exchange begins with that one, and the further
--- requests stand behind it.
+-- A history in which a worker has more requests than in another one of the same exchange begins
+-- with that one, and the further requests stand behind it.
 pub behind : (earlier later : List Answered) (w : ℕ) → AreOfOne earlier later
     → length (worker_share earlier w) < length (worker_share later w)
     → (rest : List Answered) × (later ≡ earlier ++ rest)

@@ -15,9 +15,9 @@ use Rattle.exchange.specs.declared.messages.Taken.TheVariants.{Asked, Bye}
 use Rattle.proto.specs.Counts.{times}
 use Rattle.exchange.specs.Beginnings.{StartsWith, posted_of}
 
--- What a worker knows: the exchange that its end belongs to, the terms by which histories are legal, the
--- requests that it sent, whether it said bye, the answers that it took back, the history that it was told
--- of last, and the counts of done messages that it read, one a `take`.
+-- What a worker knows: the exchange that its end belongs to, the terms by which histories are
+-- legal, the requests that it sent, whether it said bye, the answers that it took back, the history
+-- that it was told of last, and the counts of done messages that it read, one a `take`.
 pub record WorkerView : Type 0 where
   pub exchange : TableId
   pub worker : ℕ
@@ -28,10 +28,11 @@ pub record WorkerView : Type 0 where
   pub seen : List Answered
   pub loads : List ℕ
 
--- What storage knows: the exchange, its number of workers, the terms by which histories are legal, the
--- requests that it took, each with its worker, the one of them that isn't answered yet, the history of
--- those that are, the workers whose bye was taken, the newest first, the lanes that it looked at, each with
--- the count of posted messages that it read there, and the lane that it took from last.
+-- What storage knows: the exchange, its number of workers, the terms by which histories are legal,
+-- the requests that it took, each with its worker, the one of them that isn't answered yet, the
+-- history of those that are, the workers whose bye was taken, the newest first, the lanes that it
+-- looked at, each with the count of posted messages that it read there, and the lane that it took
+-- from last.
 pub record StorageView : Type 0 where
   pub exchange : TableId
   pub workers : ℕ
@@ -43,15 +44,15 @@ pub record StorageView : Type 0 where
   pub looks : List (ℕ × ℕ)
   pub last : ℕ
 
--- What a worker knows whose end sends its requests in batches: the same, and the requests that it put and
--- hasn't sent.
-pub record WorkerBatchView : Type 0 where
+-- What a worker knows whose end sends its requests in batches: the same, and the requests that it
+-- put and hasn't sent.
+pub record WorkerLaneView : Type 0 where
   pub end : WorkerView
   pub put : List Posted
 
--- What storage knows that tells the workers of its answers in batches: the same, where the history has all that it
--- answered, and the first entries of it that the workers can be told of.
-pub record StorageBatchView : Type 0 where
+-- What storage knows that tells the workers of its answers in batches: the same, where the history
+-- has all that it answered, and the first entries of it that the workers can be told of.
+pub record StorageLanesView : Type 0 where
   pub end : StorageView
   pub told : List Answered
 
@@ -110,21 +111,23 @@ IsCount workers = (1 ≤ workers) × (workers ≤ 8)
 abbrev pub max_posts : ℕ
 max_posts = 2 ^ 62
 
--- fewer than WINDOW requests are outstanding, the worker hasn't said bye, and it hasn't sent its last request
+-- fewer than WINDOW requests are outstanding, the worker hasn't said bye, and it hasn't sent its
+-- last request
 abbrev pub CanPost : WorkerView → Type 0
 CanPost view = (length view.sent < length view.back + WINDOW) × (view.said_bye ≡ false) × (length view.sent < max_posts)
 
--- A history that a worker was told of: it is legal, the worker's requests there are the first `count` of those that it
--- sent, and the answers that it took back are the first of its entries there.
+-- A history that a worker was told of: it is legal, the worker's requests there are the first
+-- `count` of those that it sent, and the answers that it took back are the first of its entries
+-- there.
 pub record IsToldHistory (terms : Terms) (worker : ℕ) (sent : List Posted) (taken told : List Answered)
     (count : ℕ) : Type 0 where
   pub legal : LegalBy terms told
   pub asked : asked_posted (worker_share told worker) ≡ take count sent
   pub back : StartsWith (worker_share told worker) taken
 
--- What a worker is told if it reads how many of its messages are done: a history that begins with the one that it had
--- seen, in which its requests are the first `done` of those that it sent, or all of them if its bye is one of the
--- messages that are done.
+-- What a worker is told if it reads how many of its messages are done: a history that begins with
+-- the one that it had seen, in which its requests are the first `done` of those that it sent, or
+-- all of them if its bye is one of the messages that are done.
 pub record IsDoneHistory (terms : Terms) (worker : ℕ) (sent : List Posted) (said_bye : Bool)
     (taken seen told : List Answered) (done : ℕ) : Type 0 where
   pub history : IsToldHistory terms worker sent taken told done
@@ -144,8 +147,8 @@ with_history view done told = record view { seen = told; loads = view.loads ++ d
 abbrev pub with_history_and_answer : WorkerView → ℕ → List Answered → Answered → WorkerView
 with_history_and_answer view done told answered = record (with_history view done told) { back = view.back ++ answered ∷ [] }
 
--- A `take` tells the worker a history. An answer is the next one of its entries there; none comes exactly where it
--- took all of them back before.
+-- A `take` tells the worker a history. An answer is the next one of its entries there; none comes
+-- exactly where it took all of them back before.
 abbrev pub TakesAnswer : WorkerView → Option Answered → WorkerView → Type 0
 TakesAnswer old result new = (done : ℕ) × (told : List Answered) × IsToldDone old done told × MatchOption result
     ((old.back ≡ worker_share told old.worker) × (new ≡ with_history old done told))
@@ -157,8 +160,8 @@ abbrev pub WasTold : WorkerView → Type 0
 WasTold view = IsToldHistory view.terms view.worker view.sent view.back view.seen
     (length (worker_share view.seen view.worker))
 
--- What a `take_seen` tells: an answer is the next one of the worker's entries in the history that it was told of
--- last; none comes exactly where it took all of them back before.
+-- What a `take_seen` tells: an answer is the next one of the worker's entries in the history that
+-- it was told of last; none comes exactly where it took all of them back before.
 abbrev pub TakesSeen : WorkerView → Option Answered → WorkerView → Type 0
 TakesSeen old result new = WasTold old × MatchOption result
     ((old.back ≡ worker_share old.seen old.worker) × (new ≡ old))
@@ -170,13 +173,14 @@ abbrev pub IsToNextSent : WorkerView → Option Answered → Type 0
 IsToNextSent view result = IfSome result (λ a. (a.worker ≡ view.worker)
     × (get_elem? view.sent (length view.back) ≡ some (posted_of a)))
 
--- fewer than WINDOW requests are outstanding or put, the worker hasn't said bye, and it hasn't put its last request
-abbrev pub CanPut : WorkerBatchView → Type 0
+-- fewer than WINDOW requests are outstanding or put, the worker hasn't said bye, and it hasn't put
+-- its last request
+abbrev pub CanPut : WorkerLaneView → Type 0
 CanPut view = (length view.end.sent + length view.put < length view.end.back + WINDOW) × (view.end.said_bye ≡ false)
     × (length view.end.sent + length view.put < max_posts)
 
 -- with all that was put sent, in order
-abbrev pub with_put_sent : WorkerBatchView → WorkerBatchView
+abbrev pub with_put_sent : WorkerLaneView → WorkerLaneView
 with_put_sent view = record { end = record view.end { sent = view.end.sent ++ view.put }; put = [] }
 
 -- Storage's calls
@@ -185,7 +189,8 @@ with_put_sent view = record { end = record view.end { sent = view.end.sent ++ vi
 abbrev pub settled_count : List Answered → List ℕ → ℕ → ℕ
 settled_count history byes lane = length (worker_share history lane) + times lane byes
 
--- the lanes in turn: those after the one that was taken from last, then those from the first one up to it
+-- the lanes in turn: those after the one that was taken from last, then those from the first one up
+-- to it
 abbrev pub lanes_in_turn : ℕ → ℕ → List ℕ
 lanes_in_turn workers last = range_with_len (last + 1) (workers - (last + 1)) ++ range_with_len 0 (last + 1)
 
@@ -206,8 +211,8 @@ abbrev pub LookedOnce : StorageView → StorageView → ℕ → Type 0
 LookedOnce old new lane = (count : ℕ) × (count ≤ settled_count old.history old.byes lane)
     × (looks_of_lane new.looks lane ≡ looks_of_lane old.looks lane ++ count ∷ [])
 
--- The next message of this lane: no bye of it came before, and a request has the number after that of the
--- worker's last entry.
+-- The next message of this lane: no bye of it came before, and a request has the number after that
+-- of the worker's last entry.
 abbrev pub IsNextMessage : StorageView → ℕ → Taken → Type 0
 IsNextMessage view lane (Asked worker posted) =
     (worker ≡ lane) × (times lane view.byes ≡ 0) × (posted.number ≡ length (worker_share view.history lane) + 1)
@@ -234,7 +239,8 @@ abbrev pub FindsNone : StorageView → StorageView → Type 0
 FindsNone old new = (looks : List (ℕ × ℕ)) × (lanes_of looks ≡ lanes_in_turn old.workers old.last) × FoundNone old looks
     × (new ≡ record old { looks = old.looks ++ looks })
 
--- Else it looked at the lanes in turn up to the first one with a message that isn't done, and takes that one.
+-- Else it looked at the lanes in turn up to the first one with a message that isn't done, and takes
+-- that one.
 pub record FindsOne (old new : StorageView) (message : Taken) : Type 0 where
   pub lane : ℕ
   pub posted : ℕ
@@ -250,8 +256,8 @@ pub record FindsOne (old new : StorageView) (message : Taken) : Type 0 where
 abbrev pub LastLook : List (ℕ × ℕ) → ℕ → ℕ → Type 0
 LastLook looks lane count = (before : List (ℕ × ℕ)) × (looks ≡ before ++ (lane, count) ∷ [])
 
--- What a `next_seen` tells: it takes the next message of the lane that was looked at last; none comes exactly where
--- the count that was found there names no message that isn't done.
+-- What a `next_seen` tells: it takes the next message of the lane that was looked at last; none
+-- comes exactly where the count that was found there names no message that isn't done.
 abbrev pub SeesNext : StorageView → Option Taken → StorageView → Type 0
 SeesNext old result new = MatchOption result
     (((lane count : ℕ) → LastLook old.looks lane count → count ≤ settled_count old.history old.byes lane) × (new ≡ old))
@@ -264,7 +270,7 @@ abbrev pub with_answer : StorageView → Answered → StorageView
 with_answer view answered = record view { history = view.history ++ answered ∷ []; open_request = None }
 
 -- this worker, and no other, has answers that it wasn't told of
-abbrev pub IsUntold : StorageBatchView → ℕ → Type 0
+abbrev pub IsUntold : StorageLanesView → ℕ → Type 0
 IsUntold view worker = (length (worker_share view.told worker) < length (worker_share view.end.history worker))
     × ((other : ℕ) → other ≢ worker → worker_share view.end.history other ≡ worker_share view.told other)
 
@@ -282,8 +288,8 @@ abbrev pub open_of : Option (ℕ × Posted) → ℕ → List Posted
 open_of None worker = []
 open_of (Some open_now) worker = if open_now.0 == worker then open_now.1 ∷ [] else []
 
--- What storage and a worker find where their ends come together. A bye that storage took of the worker, the
--- worker said.
+-- What storage and a worker find where their ends come together. A bye that storage took of the
+-- worker, the worker said.
 pub record AreCompared (storage : StorageView) (view : WorkerView) : Type 0 where
   pub inside : view.worker < storage.workers
   pub terms : view.terms ≡ storage.terms

@@ -1,6 +1,6 @@
--- The rule of the lanes, and what each step tells.
--- A lane has the words 16 * lane + 8 (posted) and 16 * lane + 16 (done), and the slots from WINDOW * lane on. These words,
--- and word 0, which is never stored, lie 64 bytes apart, so that no two share a cache line. A message uses the slot
+-- The rule of the lanes, and what each step tells. A lane has the words 16 * lane + 8 (posted) and
+-- 16 * lane + 16 (done), and the slots from WINDOW * lane on. These words, and word 0, which is
+-- never stored, lie 64 bytes apart, so that no two share a cache line. A message uses the slot
 -- WINDOW * lane + number % WINDOW, where the numbers begin at 0.
 use Rattle.std.specs.Prelude.{◌≡◌, ◌≢◌, ℕ, suc, ◌+◌, ◌*◌, ◌%◌, ◌<◌, ◌≤◌, List, [], ◌∷◌, ◌++◌, map, length, take, slice_index, Option, Some, None, Bool}
 use Rattle.std.specs.Prelude.{true, false, ◌==◌, if◌then◌else◌}
@@ -27,8 +27,9 @@ use Rattle.proto.specs.History.{worker_share, asked_posted, LegalBy}
 abbrev pub UnheldSlots : Type 0
 UnheldSlots = List (maybe.Option (Option LaneMessage))
 
--- What a seat knows, and the slots that it holds, each with what stands there. It stays a pair, since the rules of
--- atomic_table, which the rule of the lanes is given to, speak of seats by this type of theirs.
+-- What a seat knows, and the slots that it holds, each with what stands there. It stays a pair,
+-- since the rules of atomic_table, which the rule of the lanes is given to, speak of seats by this
+-- type of theirs.
 abbrev pub SeatState : Type 0
 SeatState = Me (Option LaneMessage) LaneView
 
@@ -71,13 +72,14 @@ SlotContents = ℕ → maybe.Option (maybe.Option (Option LaneMessage))
 abbrev pub at_home : UnheldSlots → ℕ → SlotContents
 at_home homes lane = λ number. get_elem? homes (lane_slot lane number)
 
--- One lane at any moment, over what the worker knows, its share of what was answered, the first of that share that
--- it can know of, how many byes of it were taken, the message that storage holds of it, its two words, and what
--- stands in its slots. Posted counts the worker's messages, done the entries that it can know of and the bye, and at
--- most WINDOW lie between. The entries are the first of the requests, and the answers that were taken back are the first
--- of the entries. The answers that weren't taken back stand in their slots, and so do the messages that storage
--- hasn't taken, and after the messages the requests that the worker put and hasn't sent. All other slots of the
--- window are empty, but for the one that the worker holds.
+-- One lane at any moment, over what the worker knows, its share of what was answered, the first of
+-- that share that it can know of, how many byes of it were taken, the message that storage holds of
+-- it, its two words, and what stands in its slots. Posted counts the worker's messages, done the
+-- entries that it can know of and the bye, and at most WINDOW lie between. The entries are the
+-- first of the requests, and the answers that were taken back are the first of the entries. The
+-- answers that weren't taken back stand in their slots, and so do the messages that storage hasn't
+-- taken, and after the messages the requests that the worker put and hasn't sent. All other slots
+-- of the window are empty, but for the one that the worker holds.
 pub record IsLaneConsistent (worker : WorkerState) (mine told : List Answered) (byes : ℕ) (held : maybe.Option LaneMessage)
     (posted done : ℕ) (at : SlotContents) : Type 0 where
   pub posted_is : posted ≡ length (messages worker)
@@ -116,8 +118,8 @@ IsLaneOfTable words homes storage worker lane =
     (open_at storage.holding lane) (slice_index words (16 * lane + 8)) (slice_index words (16 * lane + 16))
     (at_home homes lane)
 
--- What storage and a worker find where their ends come together. `AreCompared` says what follows of their views, in which
--- the request that storage holds is the open one.
+-- What storage and a worker find where their ends come together. `AreCompared` says what follows of
+-- their views, in which the request that storage holds is the open one.
 pub record EndsAgree (storage : StorageState) (worker : WorkerState) : Type 0 where
   pub legal : LegalBy storage.terms storage.history
   pub same_terms : worker.terms ≡ storage.terms
@@ -131,8 +133,8 @@ pub record EndsAgree (storage : StorageState) (worker : WorkerState) : Type 0 wh
   pub all_back : worker.said_bye ≡ true → length worker.back ≡ length worker.sent
   pub leaves : 0 < times worker.worker storage.byes → worker.said_bye ≡ true
 
--- The view of each seat is what the states say: the first seat is storage's. The history of a seat that knows no more
--- than one begins what was told.
+-- The view of each seat is what the states say: the first seat is storage's. The history of a seat
+-- that knows no more than one begins what was told.
 module _ (key : LaneKey) (states : ℕ → WorkerState) (storage_state : StorageState) where
   abbrev pub IsViewOf : ℕ → LaneView → Type 0
   IsViewOf seat Nobody = Unit {0}
@@ -188,8 +190,9 @@ storage_state_with terms made = record {
   looks = [];
 }
 
--- The rule, at every moment and over all words, slots and views: the history is legal, each lane is in order,
--- each worker has seen a beginning of the history, and the views are what was counted here.
+-- The rule, at every moment and over all words, slots and views: the history is legal, each lane is
+-- in order, each worker has seen a beginning of the history, and the views are what was counted
+-- here.
 pub record LanesHold (key : LaneKey) (table : State (Option LaneMessage) LaneView) : Type 0 where
   pub states : ℕ → WorkerState
   pub storage_state : StorageState

@@ -22,7 +22,7 @@ use Rattle.exchange.specs.declared.rule.LaneView.TheVariants.{Nobody, Worker, St
 use Rattle.exchange.specs.Lanes.{SeatState, known_by, slots_of, lane_slot, first_worker_state, storage_state_with}
 use Rattle.exchange.specs.Steps.{placed_count, with_history, with_history_and_answer, Learnt}
 use Rattle.exchange.specs.Steps.{lane_request}
-use Rattle.exchange.specs.Ends.{WorkerView, WorkerBatchView, StorageView, StorageBatchView, ToldView}
+use Rattle.exchange.specs.Ends.{WorkerView, WorkerLaneView, StorageView, StorageLanesView, ToldView}
 use Rattle.exchange.specs.Ends.{IsToldHistory, max_posts, settled_count, LastLook}
 
 -- The views
@@ -42,8 +42,8 @@ worker_view table worker =
     }
 
 -- what a contract sees of a worker's end that sends in batches
-abbrev pub worker_batch_view : TableId → WorkerState → WorkerBatchView
-worker_batch_view table worker = record { end = worker_view table worker; put = worker.put }
+abbrev pub worker_lane_view : TableId → WorkerState → WorkerLaneView
+worker_lane_view table worker = record { end = worker_view table worker; put = worker.put }
 
 -- the request that storage holds
 abbrev pub open_in : Option (ℕ × LaneMessage) → Option (ℕ × Posted)
@@ -66,8 +66,8 @@ storage_view table workers last storage =
     }
 
 -- what a contract sees of storage's end that tells of its answers in batches
-abbrev pub storage_batch_view : TableId → ℕ → ℕ → StorageState → StorageBatchView
-storage_batch_view table workers last storage = record {
+abbrev pub storage_lanes_view : TableId → ℕ → ℕ → StorageState → StorageLanesView
+storage_lanes_view table workers last storage = record {
   end = storage_view table workers last storage;
   told = storage.told;
 }
@@ -189,14 +189,15 @@ HasSeen me worker back = (me ≡ (Worker (worker_at me), [])) × ((worker_at me)
     × (length (worker_at me).back
     < length (worker_share (worker_at me).seen (worker_at me).worker))
 
--- the seat is this worker's, has sent `sent` requests and taken back `back` answers, and holds no slot
+-- the seat is this worker's, has sent `sent` requests and taken back `back` answers, and holds no
+-- slot
 abbrev pub MayTake : SeatState → ℕ → ℕ → ℕ → Type 0
 MayTake me worker sent back = (me ≡ (Worker (worker_at me), [])) × ((worker_at me).worker ≡ worker)
     × (length (worker_at me).sent ≡ sent)
     × (length (worker_at me).back ≡ back) × ((worker_at me).slot_held ≡ 0)
 
--- What a take tells: it read the done word and was told of a history. An answer is the next one of that history.
--- There is none where all answers there were taken before
+-- What a take tells: it read the done word and was told of a history. An answer is the next one of
+-- that history. There is none where all answers there were taken before
 abbrev pub StateTakes : WorkerState → ℕ → Option Answered → WorkerState → Type 0
 StateTakes worker done result after = (told : List Answered) × Learnt worker done told
     × MatchOption result ((worker.back ≡ worker_share told worker.worker) × (after ≡ with_history worker done told))
@@ -205,8 +206,8 @@ StateTakes worker done result after = (told : List Answered) × Learnt worker do
 
 -- Storage's end
 
--- storage's seat holds no slot, has settled `count` messages of the lane, and an earlier look at the lane named a
--- message that isn't settled
+-- storage's seat holds no slot, has settled `count` messages of the lane, and an earlier look at
+-- the lane named a message that isn't settled
 abbrev pub HasSeenMessage : SeatState → ℕ → ℕ → Type 0
 HasSeenMessage me lane count = (me ≡ (Storage (storage_at me), []))
     × (settled_count (storage_at me).history (storage_at me).byes lane ≡ count)
@@ -225,7 +226,8 @@ HoldsTaken me lane count message = (me ≡ (Storage (storage_at me), (lane_slot 
     × (settled_count (storage_at me).history (storage_at me).byes lane ≡ count)
     × ((storage_at me).holding ≡ Some (lane, message)) × (count + 1 < 2 ^ 64)
 
--- The answers that no worker was told of are all of this lane, and there are some exactly where `untold` says so
+-- The answers that no worker was told of are all of this lane, and there are some exactly where
+-- `untold` says so
 pub record HasUntold (storage : StorageState) (untold : Bool) (lane workers : ℕ) : Type 0 where
   pub none_untold : untold ≡ false → storage.told ≡ storage.history
   pub some_untold : untold ≡ true

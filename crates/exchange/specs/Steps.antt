@@ -59,7 +59,8 @@ with_slot_taken worker done told answer = record (with_history_and_answer worker
   slot_held = suc (length worker.back + WINDOW);
 }
 
--- holding the slot of the next answer of the history that it saw, which is a later message's slot too
+-- holding the slot of the next answer of the history that it saw, which is a later message's slot
+-- too
 abbrev pub with_seen_slot_taken : WorkerState → Answered → WorkerState
 with_seen_slot_taken worker answer = record worker {
   back = worker.back ++ answer ∷ [];
@@ -104,7 +105,8 @@ abbrev pub Learnt : WorkerState → ℕ → List Answered → Type 0
 Learnt worker done told =
     IsDoneHistory worker.terms worker.worker worker.sent worker.said_bye worker.back worker.seen told done
 
--- at the load of done: the next answer's slot is taken, or all answers of the history were taken before
+-- at the load of done: the next answer's slot is taken, or all answers of the history were taken
+-- before
 abbrev pub DoneTells : WorkerState → ℕ → List (ℕ × Option LaneMessage) → SeatState → List Answered → Type 0
 DoneTells worker done slots after told = Learnt worker done told
     × (length worker.back < done → length worker.back < length worker.sent
@@ -156,8 +158,8 @@ all_told storage = record storage { told = storage.history }
 abbrev pub bye_settled : StorageState → ℕ → StorageState
 bye_settled storage lane = record storage { byes = lane ∷ storage.byes; holding = None }
 
--- The message is the next one of this lane, of which no Bye was settled: a Bye, or a request whose number is 1 more than
--- that of the worker's last entry in the history.
+-- The message is the next one of this lane, of which no Bye was settled: a Bye, or a request whose
+-- number is 1 more than that of the worker's last entry in the history.
 abbrev pub IsNextOfLane : StorageState → ℕ → LaneMessage → Type 0
 IsNextOfLane storage lane message = (times lane storage.byes ≡ 0) × (((request : Posted) × (message ≡ Ask request)
     × (request.number ≡ suc (length (worker_share storage.history lane)))) ⊎ (message ≡ Bye))
@@ -175,7 +177,8 @@ abbrev pub posted_loaded : StepTells
 posted_loaded step before count after = (storage : StorageState) (lane : ℕ) → known_by before ≡ Storage storage
     → step.word ≡ 16 * lane + 8 → after ≡ (Storage (looked_at storage lane count), slots_of before)
 
--- a load of done, if a look at the lane named a message that isn't settled: the next message's slot is taken
+-- a load of done, if a look at the lane named a message that isn't settled: the next message's slot
+-- is taken
 abbrev pub seen_opened : StepTells
 seen_opened step before found after = (storage : StorageState) (lane place count : ℕ)
     → known_by before ≡ Storage storage → step.word ≡ 16 * lane + 16
@@ -243,8 +246,8 @@ tells_comparison step before found after = (storage : StorageState) (worker : Wo
 abbrev pub unchanged : LaneView → LaneView
 unchanged view = view
 
--- what a seat knows that is cut off a worker's: the history that the worker was told of last; one that is cut off a history's
--- knows that history
+-- what a seat knows that is cut off a worker's: the history that the worker was told of last; one
+-- that is cut off a history's knows that history
 abbrev pub noting : LaneView → LaneView
 noting Nobody = Nobody
 noting (Worker worker) = Told worker.seen
@@ -284,8 +287,9 @@ meeting (Told told) view = meeting_told told view
 meeting (TwoTold told other) view = TwoTold told other
 meeting (Checking worker told) view = Checking worker told
 
--- What a worker and a history that any worker was told of find: it has no request of this worker that wasn't sent yet,
--- and it and the history that this worker was told of last are of one history.
+-- What a worker and a history that any worker was told of find: it has no request of this worker
+-- that wasn't sent yet, and it and the history that this worker was told of last are of one
+-- history.
 pub record IsOfOneWith (worker : WorkerState) (told : List Answered) : Type 0 where
   pub asked : StartsWith worker.sent (asked_posted (worker_share told worker.worker))
   pub one : AreOfOne worker.seen told

@@ -11,10 +11,11 @@ const SPINS_PER_TURN: u32 = 4;
 /// How long a thread parks at most: one that was forgotten looks for work again then.
 const LONGEST_PARK_MILLIS: u64 = 100;
 
-/// Idle turns in a row: the thread spins in the first of them, and then parks until it is unparked. So an idle thread costs
-/// nothing. It doesn't yield before it parks: on a machine whose processors are all busy a thread that yields waits for its turn
-/// after all others, while one that was woken goes before them. Only a thread that spins for a time yields after these turns,
-/// so that it keeps no other thread from a processor.
+/// Idle turns in a row: the thread spins in the first of them, and then parks until it is unparked.
+/// So an idle thread costs nothing. It doesn't yield before it parks: on a machine whose processors
+/// are all busy a thread that yields waits for its turn after all others, while one that was woken
+/// goes before them. Only a thread that spins for a time yields after these turns, so that it keeps
+/// no other thread from a processor.
 #[derive(Drop)]
 pub struct IdleTurns {
     most: u32,
@@ -26,8 +27,9 @@ pub struct IdleTurns {
 }
 
 impl IdleTurns {
-    /// The thread parks after `most` turns that spin, or, with `spin`, once that many microseconds have passed since the
-    /// first idle turn of the row. Only with `spin` the clock is read, and only at idle turns.
+    /// The thread parks after `most` turns that spin, or, with `spin`, once that many microseconds
+    /// have passed since the first idle turn of the row. Only with `spin` the clock is read, and
+    /// only at idle turns.
     pub fn new(most: u32, spin: Option<u32>) -> IdleTurns {
         IdleTurns {
             most,
@@ -48,8 +50,8 @@ impl IdleTurns {
         self.since = None;
     }
 
-    /// One idle turn. Work is looked for between two turns, also between the one that announces a park and the one that
-    /// parks.
+    /// One idle turn. Work is looked for between two turns, also between the one that announces a
+    /// park and the one that parks.
     pub fn turn<R: Wait + Clock>(&mut self, rt: &R, parking: &ParkingWord) {
         if self.announced {
             parking.park(rt, Duration::from_millis(LONGEST_PARK_MILLIS));
@@ -79,7 +81,8 @@ impl IdleTurns {
         self.announced
     }
 
-    /// Whether the thread has spun often or long enough in this row. One that can't read the clock doesn't spin for a time.
+    /// Whether the thread has spun often or long enough in this row. One that can't read the clock
+    /// doesn't spin for a time.
     fn has_spun<R: Clock>(&mut self, rt: &R) -> bool {
         let Some(spin) = self.spin else {
             return self.turns >= self.most;

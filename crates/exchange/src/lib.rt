@@ -1,5 +1,5 @@
-//! Lanes between workers and one storage thread, without a lock; the word that a thread parks on; and the hints by which
-//! storage reads ahead.
+//! Lanes between workers and one storage thread, without a lock; the word that a thread parks on;
+//! and the hints by which storage reads ahead.
 #![tactic(auto)]
 
 mod idle_turns;
@@ -17,8 +17,8 @@ pub use idle_turns::IdleTurns;
 pub use messages::Taken;
 pub use opening::{Exchange, Gathered, MakeFault, gather, make};
 pub use proto::{Answered, MAX_POSTS, Posted, WINDOW};
-pub use signals::{ParkingWord, StorageSignals};
-pub use storage::{StorageBatch, StorageEnd};
+pub use signals::{GroupSignals, ParkingWord};
+pub use storage::{StorageEnd, StorageLanes};
 pub use told::{ExchangeName, ToldHistory};
 pub use waits::Waits;
-pub use worker::{SentList, WorkerBatch, WorkerEnd};
+pub use worker::{SentList, WorkerEnd, WorkerLane};

@@ -1,4 +1,5 @@
-//! The table: what its seats know, its rule, and what each step tells. No value of what a seat knows is made.
+//! The table: what its seats know, its rule, and what each step tells. No value of what a seat
+//! knows is made.
 ghost use Rattle.exchange.specs.Steps.{tells_begin, request_put, tells_post, seen_taken, bye_posted, done_loaded};
 ghost use Rattle.exchange.specs.Steps.{slot_returned, posted_loaded, tells_answer, told_done, seen_opened, settle_bye};
 ghost use Rattle.exchange.specs.Steps.{with_one_more, new_worker, comparing, tells_comparison};
@@ -82,14 +83,16 @@ impl Play<Option<LaneMessage>, LaneView> for Begins {
     ghost then = { tells_begin };
 }
 
-/// The worker loads its posted word, and gives the slot back with a request in it, which isn't sent yet.
+/// The worker loads its posted word, and gives the slot back with a request in it, which isn't sent
+/// yet.
 pub struct PutsRequest;
 
 impl Play<Option<LaneMessage>, LaneView> for PutsRequest {
     ghost then = { request_put };
 }
 
-/// The worker loads its posted word, and takes the slot of the next answer of the history that it saw.
+/// The worker loads its posted word, and takes the slot of the next answer of the history that it
+/// saw.
 pub struct TakesSeen;
 
 impl Play<Option<LaneMessage>, LaneView> for TakesSeen {
@@ -110,7 +113,8 @@ impl Play<Option<LaneMessage>, LaneView> for PostsBye {
     ghost then = { bye_posted };
 }
 
-/// The worker loads done: it is told of a history, and takes the slot of its next answer there, if there is one.
+/// The worker loads done: it is told of a history, and takes the slot of its next answer there, if
+/// there is one.
 pub struct LoadsDone;
 
 impl Play<Option<LaneMessage>, LaneView> for LoadsDone {
@@ -131,7 +135,8 @@ impl Play<Option<LaneMessage>, LaneView> for LoadsPosted {
     ghost then = { posted_loaded };
 }
 
-/// Storage loads its done word of a lane, and gives the slot back with an answer in it, which isn't told yet.
+/// Storage loads its done word of a lane, and gives the slot back with an answer in it, which isn't
+/// told yet.
 pub struct Answers;
 
 impl Play<Option<LaneMessage>, LaneView> for Answers {
@@ -159,7 +164,8 @@ impl Play<Option<LaneMessage>, LaneView> for SettlesBye {
     ghost then = { settle_bye };
 }
 
-/// Storage, with a worker joined to it, loads any word: what the two know agrees, and storage goes on alone.
+/// Storage, with a worker joined to it, loads any word: what the two know agrees, and storage goes
+/// on alone.
 pub struct Compares;
 
 impl Play<Option<LaneMessage>, LaneView> for Compares {
@@ -186,8 +192,8 @@ impl Join<LaneView> for JoinsWorker {
     ghost spent = { Nobody };
 }
 
-/// A worker splits its seat: the new one knows the history that the worker was told of last. A told history splits its own: the
-/// new one knows the same history.
+/// A worker splits its seat: the new one knows the history that the worker was told of last. A told
+/// history splits its own: the new one knows the same history.
 pub struct NotesTold;
 
 impl Split<LaneView> for NotesTold {
@@ -207,7 +213,8 @@ impl Join<LaneView> for MeetsTold {
     ghost spent = { Nobody };
 }
 
-/// The worker, with a told history joined to it, loads any word: the history has no request that it hasn't sent.
+/// The worker, with a told history joined to it, loads any word: the history has no request that it
+/// hasn't sent.
 pub struct Checks;
 
 impl Play<Option<LaneMessage>, LaneView> for Checks {

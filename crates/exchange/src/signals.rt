@@ -1,4 +1,5 @@
-//! What workers and the storage thread leave for each other beside their lanes: words to park on, gauges, and hints.
+//! What workers and the storage thread leave for each other beside their lanes: words to park on,
+//! gauges, and hints.
 
 use crate::steps::slot_at;
 use proto::{Gauge, Gauges, LISTENER_GAUGES, MAX_WORKERS, WINDOW, WORKER_GAUGES};
@@ -16,9 +17,10 @@ const PARKED: u64 = 2;
 
 /// The word that one thread parks on, and that those which make work for it read.
 ///
-/// The thread announces that it parks, looks for work once more, and then parks, or cancels if it found some. One that
-/// has made work unparks it. So work that the last look didn't see was made after the announcement, and its maker finds
-/// the word at `ANNOUNCED` or `PARKED`: the thread doesn't sleep over it. Only one that has parked has to be woken.
+/// The thread announces that it parks, looks for work once more, and then parks, or cancels if it
+/// found some. One that has made work unparks it. So work that the last look didn't see was made
+/// after the announcement, and its maker finds the word at `ANNOUNCED` or `PARKED`: the thread
+/// doesn't sleep over it. Only one that has parked has to be woken.
 #[derive(Drop)]
 pub struct ParkingWord {
     word: AtomicU64,
@@ -36,7 +38,8 @@ impl ParkingWord {
         self.word.store(ANNOUNCED, Ordering::SeqCst);
     }
 
-    /// Parks, unless there was an `unpark` since the announcement, for `longest` at most. It may return early.
+    /// Parks, unless there was an `unpark` since the announcement, for `longest` at most. It may
+    /// return early.
     pub fn park<R: Wait>(&self, rt: &R, longest: Duration) {
         let parks = self
             .word
@@ -52,8 +55,8 @@ impl ParkingWord {
         self.word.store(AWAKE, Ordering::SeqCst);
     }
 
-    /// Wakes the thread, if it has parked, and keeps it from parking, if it is about to. Otherwise this is one load. To be called
-    /// after work was made.
+    /// Wakes the thread, if it has parked, and keeps it from parking, if it is about to. Otherwise
+    /// this is one load. To be called after work was made.
     pub fn unpark(&self) {
         if self.word.load(Ordering::SeqCst) != AWAKE
             && self.word.swap(AWAKE, Ordering::SeqCst) == PARKED
@@ -63,11 +66,12 @@ impl ParkingWord {
     }
 }
 
-/// The words that the storage thread and the workers park on, what each of them tells of itself, and a row of hints, one for each
-/// slot of a lane: the hashes of the keys that the requests on their way begin with. By these storage reads ahead what it will
-/// look up. No answer rests on a hint: one that is missing, or of another request, costs time alone.
+/// The words that the storage thread and the workers park on, what each of them tells of itself,
+/// and a row of hints, one for each slot of a lane: the hashes of the keys that the requests on
+/// their way begin with. By these storage reads ahead what it will look up. No answer rests on a
+/// hint: one that is missing, or of another request, costs time alone.
 #[derive(Drop)]
-pub struct StorageSignals {
+pub struct GroupSignals {
     parking: ParkingWord,
     workers: Vec<ParkingWord>,
     gauges: Vec<Gauges>,
@@ -77,10 +81,11 @@ pub struct StorageSignals {
     spin: Option<u32>,
 }
 
-impl StorageSignals {
-    /// The signals of a group of workers. A single worker leaves no hints, since hashing each key first takes it more time
-    /// than storage wins. The hasher is the one by which the store looks keys up. `spin` is how many microseconds the storage
-    /// thread and the workers look for work before they park; with None each uses its own small number of turns.
+impl GroupSignals {
+    /// The signals of a group of workers. A single worker leaves no hints, since hashing each key
+    /// first takes it more time than storage wins. The hasher is the one by which the store looks
+    /// keys up. `spin` is how many microseconds the storage thread and the workers look for work
+    /// before they park; with None each uses its own small number of turns.
     ///
     /// # Errors
     ///
@@ -90,7 +95,7 @@ impl StorageSignals {
         hasher: FoldHasher,
         workers: usize,
         spin: Option<u32>,
-    ) -> Result<StorageSignals, AllocError> {
+    ) -> Result<GroupSignals, AllocError> {
         let mut words = Vec::with_capacity(alloc, workers)?;
         let mut gauges = Vec::with_capacity(alloc, workers)?;
         for _ in 0..workers {
@@ -106,7 +111,7 @@ impl StorageSignals {
         for _ in 0..count {
             hints.push(AtomicU64::new(0))?;
         }
-        Ok(StorageSignals {
+        Ok(GroupSignals {
             parking: ParkingWord::new(),
             workers: words,
             gauges,
@@ -152,7 +157,8 @@ impl StorageSignals {
         &self.storage_gauges
     }
 
-    /// Adds up what the workers tell, into what the storage thread does. What the listener tells is as this worker left it.
+    /// Adds up what the workers tell, into what the storage thread does. What the listener tells is
+    /// as this worker left it.
     pub fn gather_gauges(&self, worker: usize) {
         for gauge in WORKER_GAUGES {
             self.storage_gauges.set(&[(gauge, self.sum_of(gauge))]);
@@ -177,8 +183,8 @@ impl StorageSignals {
         }
     }
 
-    /// The worker is about to post its message of this number, a request that begins with the key. Messages are counted
-    /// from 0.
+    /// The worker is about to post its message of this number, a request that begins with the key.
+    /// Messages are counted from 0.
     pub fn leave_hint(&self, worker: usize, number: u64, key: &[u8]) {
         if let Some(hint) = self.hints.get(slot_at(worker % MAX_WORKERS, number)) {
             let mut hasher = self.hasher;
@@ -192,7 +198,8 @@ impl StorageSignals {
         !self.hints.is_empty()
     }
 
-    /// The hash that was left for the worker's message of this number, or for one a multiple of WINDOW before.
+    /// The hash that was left for the worker's message of this number, or for one a multiple of
+    /// WINDOW before.
     pub fn hint(&self, worker: usize, number: u64) -> u64 {
         match self.hints.get(slot_at(worker % MAX_WORKERS, number)) {
             Some(hint) => hint.load(Ordering::Relaxed),

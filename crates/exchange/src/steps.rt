@@ -22,9 +22,10 @@ use crate::rule::{
 };
 use proto::{Answered, WINDOW};
 
-/// A lane has two words that its two threads store, posted first and then done. Before each are enough unused words of eight
-/// bytes that no two share a line of a processor's cache. No thread stores word 0, which is loaded when a seat is split or joined,
-/// as for each `give`: so its line stays in the cache.
+/// A lane has two words that its two threads store, posted first and then done. Before each are
+/// enough unused words of eight bytes that no two share a line of a processor's cache. No thread
+/// stores word 0, which is loaded when a seat is split or joined, as for each `give`: so its line
+/// stays in the cache.
 pub(crate) const POSTED: usize = 8;
 
 pub(crate) const DONE: usize = 2 * POSTED;
@@ -40,7 +41,8 @@ pub(crate) fn slot_at(worker: usize, number: u64) -> usize
     WINDOW as usize * worker + (number % WINDOW) as usize
 }
 
-/// A worker takes an answer out of its slot. Its seat holds the slot, so no other thread reads or writes it.
+/// A worker takes an answer out of its slot. Its seat holds the slot, so no other thread reads or
+/// writes it.
 fn take_out_answer(
     lane_table: &LaneTable,
     seat: &mut LaneSeat,
@@ -103,8 +105,8 @@ pub(crate) fn take_answer(
     (done, Some(answered))
 }
 
-/// Takes the next answer of the history that the worker saw out of its slot. It loads the worker's own word alone,
-/// which no other thread writes.
+/// Takes the next answer of the history that the worker saw out of its slot. It loads the worker's
+/// own word alone, which no other thread writes.
 pub(crate) fn take_seen_answer(
     lane_table: &LaneTable,
     seat: &mut LaneSeat,
@@ -128,7 +130,8 @@ pub(crate) fn take_seen_answer(
     answered
 }
 
-/// Takes the next message, which a look named, out of its slot. It loads done, which no other thread writes.
+/// Takes the next message, which a look named, out of its slot. It loads done, which no other
+/// thread writes.
 pub(crate) fn take_message(
     lane_table: &LaneTable,
     seat: &mut LaneSeat,

@@ -1,4 +1,5 @@
-//! The storage thread's end of all lanes, by which the workers are told of several answers at once, or of each.
+//! The storage thread's end of all lanes, by which the workers are told of several answers at once,
+//! or of each.
 
 use crate::messages::{LaneMessage, Taken};
 use crate::rule::{Compares, JoinsWorker, LaneSeat, LaneTable, LoadsPosted, SettlesBye, TellsDone};
@@ -9,10 +10,10 @@ use std::alloc::Global;
 use std::marker::Model;
 use std::sync::Arc;
 
-/// What storage takes requests from, answers them, and tells the workers of all that it answered. One thread at a
-/// time uses it.
+/// What storage takes requests from, answers them, and tells the workers of all that it answered.
+/// One thread at a time uses it.
 #[derive(Drop)]
-pub struct StorageBatch {
+pub struct StorageLanes {
     lane_table: Arc<LaneTable, Global>,
     seat: LaneSeat,
     workers: usize,
@@ -30,16 +31,16 @@ pub struct StorageBatch {
     named: u64,
 }
 
-impl Model for StorageBatch {
+impl Model for StorageLanes {
     ghost use Rattle.std.specs.Prelude.{◌≡◌, ℕ, ◌+◌, ◌*◌, ◌<◌, ◌≤◌};
     ghost use Rattle.std.specs.Arc.{arc_value};
-    ghost use Rattle.exchange.specs.Ends.{StorageBatchView};
-    ghost use Rattle.exchange.specs.Seats.{StorageAgrees, HasUntold, IsNamed, IsTableSized, storage_batch_view};
+    ghost use Rattle.exchange.specs.Ends.{StorageLanesView};
+    ghost use Rattle.exchange.specs.Seats.{StorageAgrees, HasUntold, IsNamed, IsTableSized, storage_lanes_view};
     ghost use Rattle.exchange.specs.Seats.{storage_at};
 
-    ghost Value = { StorageBatchView };
+    ghost Value = { StorageLanesView };
 
-    ghost view = { λ inside. storage_batch_view inside.seat.table_id inside.workers inside.last
+    ghost view = { λ inside. storage_lanes_view inside.seat.table_id inside.workers inside.last
         (storage_at inside.seat.me) };
 
     ghost invariant = { λ inside. (inside.seat.table_id ≡ (arc_value inside.lane_table).shared.table_id)
@@ -50,7 +51,7 @@ impl Model for StorageBatch {
         × IsNamed (storage_at inside.seat.me) inside.looked_lane inside.named inside.workers };
 }
 
-impl StorageBatch {
+impl StorageLanes {
     ghost use Rattle.std.specs.Prelude.{◌≡◌, ◌≢◌, ◌⊎◌, ℕ, ◌+◌, ◌-◌, ◌*◌, ◌<◌, ◌≤◌, ◌++◌, ◌∷◌, [], length, None, Some};
     ghost use Rattle.std.specs.Prelude.{MatchOption, IsOk};
     ghost use Rattle.std.specs.Option.{IfNone};
@@ -68,7 +69,7 @@ impl StorageBatch {
         lane_table: Arc<LaneTable, Global>,
         seat: LaneSeat,
         workers: usize,
-    ) -> StorageBatch
+    ) -> StorageLanes
         requires table { (seat.table_id ≡ (arc_value lane_table).shared.table_id)
             × IsTableSized seat.table_id workers × ((arc_value lane_table).shared.key.workers ≡ workers)
             × (0 < workers) × (workers ≤ 8) }
@@ -76,7 +77,7 @@ impl StorageBatch {
         ensures { (terms : Terms) → seat.me ≡ (Storage (storage_state_with terms workers), [])
             → result ≡ record { end = new_storage_view seat.table_id terms workers; told = [] } }
     {
-        StorageBatch {
+        StorageLanes {
             lane_table,
             seat,
             workers,
@@ -98,8 +99,9 @@ impl StorageBatch {
         self.workers
     }
 
-    /// Answers the open request. Its worker isn't told of it before the next `flush_answers`, or the next answer to
-    /// another worker. It gives the worker that was told of its answers now, if one was. Waits for nobody and takes no memory.
+    /// Answers the open request. Its worker isn't told of it before the next `flush_answers`, or
+    /// the next answer to another worker. It gives the worker that was told of its answers now, if
+    /// one was. Waits for nobody and takes no memory.
     pub fn answer_later(&mut self, answered: Answered) -> Option<usize>
         requires open_request { self.old.end.open_request ≡ Some (answered.worker, posted_of answered) }
         requires legal { LegalBy self.old.end.terms (self.old.end.history ++ answered ∷ []) }
@@ -118,8 +120,8 @@ impl StorageBatch {
         told
     }
 
-    /// Tells the workers of all answers, unless all that they weren't told of are this worker's. It gives the worker that was
-    /// told, if one was.
+    /// Tells the workers of all answers, unless all that they weren't told of are this worker's. It
+    /// gives the worker that was told, if one was.
     fn flush_others(&mut self, worker: usize) -> Option<usize>
         ensures end { self.new.end ≡ self.old.end }
         ensures told { MatchOption result (self.new.told ≡ self.old.told) (λ other. IsUntold self.old other
@@ -134,8 +136,8 @@ impl StorageBatch {
         }
     }
 
-    /// Tells the workers of all answers, in one step. It gives the worker whose answers they are, if there are any. Waits for
-    /// nobody and takes no memory.
+    /// Tells the workers of all answers, in one step. It gives the worker whose answers they are,
+    /// if there are any. Waits for nobody and takes no memory.
     pub fn flush_answers(&mut self) -> Option<usize>
         ensures told { self.new ≡ record self.old { told = self.old.end.history } }
         ensures whose { MatchOption result (self.old.told ≡ self.old.end.history) (IsUntold self.old) }
@@ -199,8 +201,9 @@ impl StorageBatch {
     }
 
     /// The next message of some lane. The lanes are looked at in turn, beginning after the one that
-    /// was taken from last. The clock has given one answer for each request that was answered, and no other: so the answer for
-    /// the request taken here is given after it was taken. Waits for nobody and takes no memory.
+    /// was taken from last. The clock has given one answer for each request that was answered, and
+    /// no other: so the answer for the request taken here is given after it was taken. Waits for
+    /// nobody and takes no memory.
     pub fn next<C: Clock>(&mut self, _clock: &AskedClock<C>) -> Option<Taken>
         requires shut { self.old.end.open_request ≡ None }
         requires fresh { _clock.now.answers ≡ answers_by [] self.old.end.history }
@@ -220,8 +223,9 @@ impl StorageBatch {
         None
     }
 
-    /// The next message among those that the last look of `next` named, at the lane of that look. It doesn't look for
-    /// further ones. The clock is as for `next`. Waits for nobody and takes no memory.
+    /// The next message among those that the last look of `next` named, at the lane of that look.
+    /// It doesn't look for further ones. The clock is as for `next`. Waits for nobody and takes no
+    /// memory.
     pub fn next_seen<C: Clock>(&mut self, _clock: &AskedClock<C>) -> Option<Taken>
         requires shut { self.old.end.open_request ≡ None }
         requires fresh { _clock.now.answers ≡ answers_by [] self.old.end.history }
@@ -231,16 +235,17 @@ impl StorageBatch {
         self.take_named()
     }
 
-    /// The lane that was looked at last, the number of its next message that isn't settled, counted from 0, and how many
-    /// messages that look named from there on. They serve to read ahead: no clause speaks of them.
+    /// The lane that was looked at last, the number of its next message that isn't settled, counted
+    /// from 0, and how many messages that look named from there on. They serve to read ahead: no
+    /// clause speaks of them.
     pub fn seen(&self) -> (usize, u64, u64) {
         let lane = self.looked_lane;
         let count = self.counts[lane];
         (lane, count, self.named.saturating_sub(count))
     }
 
-    /// Brings a worker's end of this exchange and storage's together, and tells how many requests the
-    /// worker sent and how many answers it took back.
+    /// Brings a worker's end of this exchange and storage's together, and tells how many requests
+    /// the worker sent and how many answers it took back.
     pub(crate) fn join_worker(&mut self, end: WorkerEnd) -> (u64, u64)
         requires { end.exchange ≡ self.old.end.exchange }
         ensures same { self.new ≡ self.old }
@@ -265,11 +270,11 @@ impl StorageBatch {
 
 /// What storage takes requests from, and answers them. One thread at a time uses it.
 ///
-/// The storage thread of the server uses the batch. `next`, `answer`, `is_open` and `workers` are the same calls a message at
-/// a time: only tests and measurements use them.
+/// The storage thread of the server uses the batch. `next`, `answer`, `is_open` and `workers` are
+/// the same calls a message at a time: only tests and measurements use them.
 #[derive(Drop)]
 pub struct StorageEnd {
-    batch: StorageBatch,
+    batch: StorageLanes,
 }
 
 impl Model for StorageEnd {
@@ -291,7 +296,7 @@ impl StorageEnd {
     ghost use Rattle.exchange.specs.Ends.{IsCount, FindsNone, FindsOne, LookedOnce, with_answer};
 
     /// The same end, for a storage thread that tells the workers of several answers at once.
-    pub fn batched(self) -> StorageBatch
+    pub fn batched(self) -> StorageLanes
         ensures { result ≡ record { end = self; told = self.history } }
     {
         self.batch
@@ -325,8 +330,9 @@ impl StorageEnd {
     }
 
     /// The next message of some lane. The lanes are looked at in turn, beginning after the one that
-    /// was taken from last. The clock has given one answer for each request that was answered, and no other: so the answer for
-    /// the request taken here is given after it was taken. Waits for nobody and takes no memory.
+    /// was taken from last. The clock has given one answer for each request that was answered, and
+    /// no other: so the answer for the request taken here is given after it was taken. Waits for
+    /// nobody and takes no memory.
     pub fn next<C: Clock>(&mut self, clock: &AskedClock<C>) -> Option<Taken>
         requires shut { self.old.open_request ≡ None }
         requires fresh { clock.now.answers ≡ answers_by [] self.old.history }

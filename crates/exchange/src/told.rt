@@ -6,9 +6,10 @@ use atomic_table::Badge;
 use std::marker::Model;
 use std::snapshot::Snapshot;
 
-/// A history that a worker of an exchange was told of. It has no bytes, may be kept and may go to another thread. That a value
-/// of it exists says that the history was told: of two such values of one exchange one begins with the other
-/// (`WorkerBatch::compare`), and none has a request that its worker hasn't sent (`WorkerBatch::check`).
+/// A history that a worker of an exchange was told of. It has no bytes, may be kept and may go to
+/// another thread. That a value of it exists says that the history was told: of two such values of
+/// one exchange one begins with the other (`WorkerLane::compare`), and none has a request that its
+/// worker hasn't sent (`WorkerLane::check`).
 #[derive(Drop)]
 pub struct ToldHistory {
     badge: Badge<LaneView>,

@@ -3,7 +3,8 @@
 use proto::Gauges;
 use std::time::{Clock, Duration, Instant};
 
-/// How long a thread waited, which it leaves for `stats`. The clock is read where a wait begins and where it ends.
+/// How long a thread waited, which it leaves for `stats`. The clock is read where a wait begins and
+/// where it ends.
 #[derive(Drop)]
 pub struct Waits<'a> {
     gauges: Option<&'a Gauges>,

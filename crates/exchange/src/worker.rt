@@ -12,10 +12,10 @@ use std::marker::Model;
 use std::snapshot::Snapshot;
 use std::sync::Arc;
 
-/// What a worker puts its requests with, sends all that it put, and takes the answers back. One thread at a time
-/// uses it.
+/// What a worker puts its requests with, sends all that it put, and takes the answers back. One
+/// thread at a time uses it.
 #[derive(Drop)]
-pub struct WorkerBatch {
+pub struct WorkerLane {
     lane_table: Arc<LaneTable, Global>,
     seat: LaneSeat,
     worker: usize,
@@ -28,22 +28,22 @@ pub struct WorkerBatch {
     said_bye: bool,
 }
 
-impl Model for WorkerBatch {
+impl Model for WorkerLane {
     ghost use Rattle.std.specs.Prelude.{◌≡◌, ℕ, ◌+◌, ◌*◌, ◌<◌, ◌≤◌};
     ghost use Rattle.std.specs.Arc.{arc_value};
-    ghost use Rattle.exchange.specs.Ends.{WorkerBatchView};
-    ghost use Rattle.exchange.specs.Seats.{WorkerAgrees, IsLane, worker_batch_view, worker_at};
+    ghost use Rattle.exchange.specs.Ends.{WorkerLaneView};
+    ghost use Rattle.exchange.specs.Seats.{WorkerAgrees, IsLane, worker_lane_view, worker_at};
 
-    ghost Value = { WorkerBatchView };
+    ghost Value = { WorkerLaneView };
 
-    ghost view = { λ inside. worker_batch_view inside.seat.table_id (worker_at inside.seat.me) };
+    ghost view = { λ inside. worker_lane_view inside.seat.table_id (worker_at inside.seat.me) };
 
     ghost invariant = { λ inside. (inside.seat.table_id ≡ (arc_value inside.lane_table).shared.table_id)
         × IsLane inside.seat.table_id inside.worker
         × WorkerAgrees inside.seat.me inside.worker inside.sent inside.put inside.back inside.known inside.said_bye };
 }
 
-impl WorkerBatch {
+impl WorkerLane {
     ghost use Rattle.std.specs.Prelude.{◌≡◌, ℕ, ◌+◌, ◌*◌, ◌^◌, ◌<◌, ◌≤◌, ◌++◌, ◌∷◌, [], length, true, false};
     ghost use Rattle.std.specs.Prelude.{◌↔◌, MatchResult, IfSome};
     ghost use Rattle.std.specs.Arc.{arc_value};
@@ -60,13 +60,13 @@ impl WorkerBatch {
         lane_table: Arc<LaneTable, Global>,
         seat: LaneSeat,
         worker: usize,
-    ) -> WorkerBatch
+    ) -> WorkerLane
         requires table { (seat.table_id ≡ (arc_value lane_table).shared.table_id) × IsLane seat.table_id worker }
         requires fresh { (terms : Terms) × (seat.me ≡ (Worker (first_worker_state terms worker), [])) }
         ensures { (terms : Terms) → seat.me ≡ (Worker (first_worker_state terms worker), [])
             → result ≡ record { end = new_worker_view seat.table_id terms worker; put = [] } }
     {
-        WorkerBatch {
+        WorkerLane {
             lane_table,
             seat,
             worker,
@@ -85,7 +85,7 @@ impl WorkerBatch {
         ensures lane { IsLane result.0.table_id self.end.worker }
         ensures counts { (result.1 ≡ length self.end.sent) × (result.2 ≡ length self.end.back) }
     {
-        let WorkerBatch {
+        let WorkerLane {
             seat,
             sent,
             back,
@@ -110,8 +110,8 @@ impl WorkerBatch {
         self.sent + self.put - self.back
     }
 
-    /// Puts a request into its slot, or hands it back unchanged. Storage isn't told of it before the next `flush`.
-    /// Waits for nobody and takes no memory.
+    /// Puts a request into its slot, or hands it back unchanged. Storage isn't told of it before
+    /// the next `flush`. Waits for nobody and takes no memory.
     pub fn put(&mut self, posted: Posted) -> Result<(), Posted>
         requires { posted.number ≡ length self.old.end.sent + length self.old.put + 1 }
         ensures { MatchResult result
@@ -126,7 +126,8 @@ impl WorkerBatch {
         let slot = slot_at(self.worker, number);
         let request = LaneMessage::Ask(posted);
         let lanes = &self.lane_table.shared;
-        // These load the worker's own word, which no other thread writes. The slot was empty, so what comes out is None.
+        // These load the worker's own word, which no other thread writes. The slot was empty, so
+        // what comes out is None.
         lanes.load::<Begins>(&mut self.seat, posted_word);
         drop(lanes.exchange(&mut self.seat, slot, Some(request)));
         lanes.load::<PutsRequest>(&mut self.seat, posted_word);
@@ -134,8 +135,8 @@ impl WorkerBatch {
         Ok(())
     }
 
-    /// Sends all requests that were put, in their order, in one step. It tells whether there were any. Waits for nobody and
-    /// takes no memory.
+    /// Sends all requests that were put, in their order, in one step. It tells whether there were
+    /// any. Waits for nobody and takes no memory.
     pub fn flush(&mut self) -> bool
         ensures sent { self.new ≡ with_put_sent self.old }
         ensures none { (result ≡ false) ↔ (self.old.put ≡ []) }
@@ -175,8 +176,8 @@ impl WorkerBatch {
         answer
     }
 
-    /// The next answer of this worker among those that were done at its last `take`. It doesn't look for further
-    /// ones. Waits for nobody and takes no memory.
+    /// The next answer of this worker among those that were done at its last `take`. It doesn't
+    /// look for further ones. Waits for nobody and takes no memory.
     pub fn take_seen(&mut self) -> Option<Answered>
         ensures taken { TakesSeen self.old.end result self.new.end }
         ensures put { self.new.put ≡ self.old.put }
@@ -202,7 +203,8 @@ impl WorkerBatch {
         self.said_bye = true;
     }
 
-    /// The history that the worker was told of last, to be kept. It is a load of a word that is never stored.
+    /// The history that the worker was told of last, to be kept. It is a load of a word that is
+    /// never stored.
     pub fn told(&mut self) -> ToldHistory
         ensures same { self.new ≡ self.old }
         ensures told { result ≡ record { exchange = self.old.end.exchange; items = self.old.end.seen } }
@@ -214,9 +216,10 @@ impl WorkerBatch {
         )
     }
 
-    /// What any worker was told of, at whatever moment before, has no request of this worker that it hasn't sent by now. It and
-    /// what this worker was told of are of one history. Call it before a later history is told: what the worker sends after the
-    /// call may stand there. The history is handed back, so that `compare` can take it and the later one. A law: the server
+    /// What any worker was told of, at whatever moment before, has no request of this worker that
+    /// it hasn't sent by now. It and what this worker was told of are of one history. Call it
+    /// before a later history is told: what the worker sends after the call may stand there. The
+    /// history is handed back, so that `compare` can take it and the later one. A law: the server
     /// doesn't call it.
     pub fn check(&mut self, told: ToldHistory) -> ToldHistory
         requires { told.exchange ≡ self.old.end.exchange }
@@ -233,8 +236,8 @@ impl WorkerBatch {
         ToldHistory::of(kept)
     }
 
-    /// Two histories that workers were told of, at whatever moments: one begins with the other. A law: the server doesn't call
-    /// it.
+    /// Two histories that workers were told of, at whatever moments: one begins with the other. A
+    /// law: the server doesn't call it.
     pub fn compare(&self, told: ToldHistory, other: ToldHistory) -> ToldHistory
         requires { (told.exchange ≡ self.now.end.exchange) × (other.exchange ≡ self.now.end.exchange) }
         ensures same { result ≡ told }
@@ -259,12 +262,12 @@ impl WorkerBatch {
 
 /// What a worker posts its requests with, and takes the answers back. One thread at a time uses it.
 ///
-/// A worker of the server uses the batch, and this end only for `bye`. `post` and `take`, and `sent`, `outstanding` and
-/// `said_bye`, by which their callers know what they may do, are the same calls a message at a time: only tests and
-/// measurements use them.
+/// A worker of the server uses the batch, and this end only for `bye`. `post` and `take`, and
+/// `sent`, `outstanding` and `said_bye`, by which their callers know what they may do, are the same
+/// calls a message at a time: only tests and measurements use them.
 #[derive(Drop)]
 pub struct WorkerEnd {
-    batch: WorkerBatch,
+    batch: WorkerLane,
 }
 
 impl Model for WorkerEnd {
@@ -286,7 +289,7 @@ impl WorkerEnd {
     ghost use Rattle.exchange.specs.Ends.{max_posts, CanPost, TakesAnswer, IsToNextSent};
 
     /// The same end, for a worker that tells storage of several requests at once.
-    pub fn batched(self) -> WorkerBatch
+    pub fn batched(self) -> WorkerLane
         ensures { result ≡ record { end = self; put = [] } }
     {
         self.batch

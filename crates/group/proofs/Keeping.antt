@@ -1,4 +1,5 @@
--- A run over a store that keeps what it stores, and of which it is known whether it keeps deadlines to the second.
+-- A run over a store that keeps what it stores, and of which it is known whether it keeps deadlines
+-- to the second.
 use Rattle.std.proofs.Common.{◌≡◌, ℕ, Bool, List, Option, subst, ◌∙◌}
 use Rattle.std.specs.Prelude.{⊤}
 use Rattle.proto.specs.Sizes.{Sizes}

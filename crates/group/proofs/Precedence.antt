@@ -1,4 +1,5 @@
--- That what stands behind a told history comes after each of its entries, and sees what that one left.
+-- That what stands behind a told history comes after each of its entries, and sees what that one
+-- left.
 use Rattle.std.proofs.Common.{◌≡◌, ℕ, zero, suc, List, [], ◌∷◌, ◌++◌, sym, ap, ◌∙◌, subst}
 use mathlib.Core.Option.{some, some-ne-none}
 use Rattle.std.proofs.Math.Option.{some-injective}
@@ -40,7 +41,8 @@ sees_earlier sizes history before between after one other stands legal =
     let b = parts (Step sizes) found (one ∷ (between ++ other ∷ [])) after a.1 on in
     record { before = before; between = between; after = after; stands = stands; found = found; caches = b.0; leads = b.2 }
 
--- an entry of the first part of a history comes before one of the second part, which sees what it left
+-- an entry of the first part of a history comes before one of the second part, which sees what it
+-- left
 pub later_sees : (sizes : Sizes) (earlier more later : List Answered) (i k : ℕ) (one other : Answered)
     → later ≡ earlier ++ more → get_elem? earlier i ≡ some one → get_elem? more k ≡ some other → Legal sizes later
     → SeesLeft sizes later one other

@@ -21,8 +21,9 @@ use Rattle.group.specs.declared.fault.GroupFault.TheVariants.{NoMemory, NoThread
 use Rattle.group.specs.declared.report.GroupWorker.{GroupWorker}
 use Rattle.group.specs.declared.report.GroupReport.{GroupReport}
 
--- what holds of worker w, whose port this was: the history has what it sent, once and in order, and its sessions were answered.
--- No answer came that it hadn't asked for. The port still tells if it told before, and keeps its dialect.
+-- what holds of worker w, whose port this was: the history has what it sent, once and in order, and
+-- its sessions were answered. No answer came that it hadn't asked for. The port still tells if it
+-- told before, and keeps its dialect.
 pub record IsWorkerOf {P : Type 0} (told : P → Option PortTrace) (leads_to : P → P → Type 0) (history : List Answered)
     (gathered : Gathered) (port : P) (w : ℕ) (worker : GroupWorker P) : Type 0 where
   pub exactly : asked_posted (worker_share history w) ≡ worker.sent
@@ -41,10 +42,11 @@ pub record IsWorkerOf {P : Type 0} (told : P → Option PortTrace) (leads_to : P
       → trace.dialect ≡ first.dialect
   pub given_by : (trace : PortTrace) → told worker.port ≡ Some trace → StartsWith history trace.history
 
--- The headline: there is a legal history of these workers, at the moments of this clock. Its length is the number executed,
--- which stays at the greatest number. Each port's worker was answered in it, and no other worker was. It refuses memory as
--- the store may. For a store that keeps, each beginning of it may forget nothing, if it stores little and sets no deadline.
--- For one that is exact, each entry may have the very deadline that was asked for.
+-- The headline: there is a legal history of these workers, at the moments of this clock. Its length
+-- is the number executed, which stays at the greatest number. Each port's worker was answered in
+-- it, and no other worker was. It refuses memory as the store may. For a store that keeps, each
+-- beginning of it may forget nothing, if it stores little and sets no deadline. For one that is
+-- exact, each entry may have the very deadline that was asked for.
 pub record IsRun {P C : Type 0} (told : P → Option PortTrace) (leads_to : P → P → Type 0)
     (clock_told : C → Option (List ℕ)) (clock_leads : C → C → Type 0) (keeps : Type 0) (exact may_refuse : Bool)
     (sizes : Sizes) (ports : List P) (clock : C) (report : GroupReport P C) : Type 0 where
@@ -63,7 +65,8 @@ pub record IsRun {P C : Type 0} (told : P → Option PortTrace) (leads_to : P �
   pub bounded : keeps → MayAlwaysForgetNothing sizes history
   pub dated : exact ≡ true → MayStoreAsAsked sizes history
 
--- After this fault no thread of the group has begun: none was started, or the start said to those that were not to begin.
+-- After this fault no thread of the group has begun: none was started, or the start said to those
+-- that were not to begin.
 abbrev pub NoneBegan : GroupFault → Type 0
 NoneBegan NoMemory = ⊤
 NoneBegan (NoThread off) = off.begins.value ≡ false

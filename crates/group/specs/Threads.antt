@@ -38,8 +38,9 @@ pub record KeepsWorker {P : Type 0} (told : P → Option PortTrace) (leads_to : 
   pub spelled : (first trace : PortTrace) → told port ≡ Some first → told report.port ≡ Some trace
       → trace.dialect ≡ first.dialect
 
--- what the storage thread leaves of the clock and the end that it was given, over a store that keeps what it stores where
--- `keeps` says so, deadlines to the second where `exact` does, and may be refused memory for an item where `may_refuse` does
+-- what the storage thread leaves of the clock and the end that it was given, over a store that
+-- keeps what it stores where `keeps` says so, deadlines to the second where `exact` does, and may
+-- be refused memory for an item where `may_refuse` does
 pub record KeepsStorage {C : Type 0} (told : C → Option (List ℕ)) (leads_to : C → C → Type 0) (keeps : Type 0)
     (exact may_refuse : Bool) (clock : C) (end : StorageView) (report : StorageReport C) : Type 0 where
   pub same : IsSameExchange end report.storage_end
@@ -53,7 +54,8 @@ pub record KeepsStorage {C : Type 0} (told : C → Option (List ℕ)) (leads_to 
   pub bounded : keeps → MayAlwaysForgetNothing end.terms.geometry report.storage_end.history
   pub dated : exact ≡ true → MayStoreAsAsked end.terms.geometry report.storage_end.history
 
--- what a thread leaves that waited for the start `id`: it ran exactly if it was told to begin, and what it left is kept
+-- what a thread leaves that waited for the start `id`: it ran exactly if it was told to begin, and
+-- what it left is kept
 pub record IsFinished {T : Type 0} (id : ℕ) (keeps : T → Type 0) (finished : Finished T) : Type 0 where
   pub of_start : finished.told.of ≡ id
   pub did_run : finished.told.value ≡ true → IsSome finished.ran
@@ -66,15 +68,16 @@ IsCalledOff id NoMemory = ⊥
 IsCalledOff id (NoThread off) = (off.start.value.id ≡ id) × (off.begins.value ≡ false)
 IsCalledOff id NotNew = ⊤
 
--- the ports of workers 0, 1 and so on, of this exchange, by these terms and in this dialect, at which nothing has happened yet
+-- the ports of workers 0, 1 and so on, of this exchange, by these terms and in this dialect, at
+-- which nothing has happened yet
 abbrev pub ArePortsOf : {P : Type 0} → (P → Option PortTrace) → TableId → Terms → Dialect → List P → Type 0
 ArePortsOf {P} told exchange terms d ports =
     (w : ℕ) (port : P) → get_elem? ports w ≡ some port → (trace : PortTrace) → told port ≡ Some trace
     → (trace.worker ≡ w) × (trace.terms ≡ terms) × (trace.dialect ≡ d) × (trace.events ≡ []) × (trace.history ≡ [])
     × (trace.exchange ≡ exchange)
 
--- a store by these terms that has no entry and was asked nothing, and a clock by them, which was asked nothing
--- where it says what it starts from
+-- a store by these terms that has no entry and was asked nothing, and a clock by them, which was
+-- asked nothing where it says what it starts from
 abbrev pub StartsEmpty : {E C : Type 0} → (E → Cache) → (E → ℕ) → (E → Sizes) → Bool → (C → Option (List ℕ))
     → (C → Option ClockStart) → Terms → E → C → Type 0
 StartsEmpty cache moment sizes may_refuse told start terms store clock =
@@ -113,7 +116,8 @@ pub record AreJoined {P : Type 0} (told : P → Option PortTrace) (leads_to : P 
       → get_elem? reports w ≡ some report
       → KeepsWorker told leads_to port (new_worker_view storage.exchange terms w) report
 
--- what the storage thread left, which was given this clock and its end of the exchange that was made for these ports
+-- what the storage thread left, which was given this clock and its end of the exchange that was
+-- made for these ports
 abbrev pub IsLeftByStorage : {P C : Type 0} → (C → Option (List ℕ)) → (C → C → Type 0) → Type 0 → Bool → Bool → Terms → List P → C
     → StorageReport C → Type 0
 IsLeftByStorage told leads_to keeps exact may_refuse terms ports clock report =

@@ -1,7 +1,7 @@
 //! What a group asks of the system, and what all its threads are given.
 
 use crate::report::Config;
-use exchange::StorageSignals;
+use exchange::GroupSignals;
 use std::alloc::Global;
 use std::sync::{OnceLock, Wait};
 use std::thread::Threads;
@@ -20,5 +20,5 @@ pub struct GroupContext<'a, G> {
     pub start: &'a OnceLock<bool>,
     pub config: Config,
     pub gate: &'a G,
-    pub signals: &'a StorageSignals,
+    pub signals: &'a GroupSignals,
 }

@@ -1,6 +1,6 @@
 //! Which thread executes what a worker has posted.
 
-use exchange::StorageSignals;
+use exchange::GroupSignals;
 use proto::Storage;
 use std::time::{self, Duration};
 use storage_thread::{Serve, SharedStorage};
@@ -14,13 +14,13 @@ const LARGE_REQUESTS: u64 = 32;
 pub struct StorageExecutor<'a, R, T> {
     pub rt: &'a R,
     pub shared: &'a SharedStorage<T>,
-    pub signals: &'a StorageSignals,
+    pub signals: &'a GroupSignals,
     /// Whether a worker executes what it has posted.
     pub serves: bool,
 }
 
 /// Says for `stats` that no thread has held the side yet, if it will be told how long they do.
-pub fn note_unheld(signals: &StorageSignals, storage: Storage) {
+pub fn note_unheld(signals: &GroupSignals, storage: Storage) {
     if storage == Storage::Workers {
         signals.storage_gauges().leave_waiting(Duration::ZERO);
     }

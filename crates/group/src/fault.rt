@@ -12,7 +12,8 @@ pub enum GroupFault {
     /// Out of memory, before a thread was started.
     #[error("out of memory")]
     NoMemory,
-    /// A thread couldn't be started. Those that were started were told not to begin, and have ended.
+    /// A thread couldn't be started. Those that were started were told not to begin, and have
+    /// ended.
     #[error("cannot start a thread")]
     NoThread(CalledOff),
     /// A lock that was made for the start, or for the note of what the group began with, had a

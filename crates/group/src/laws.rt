@@ -9,18 +9,15 @@ ghost use Rattle.worker_port.specs.Ports.{PortTrace};
 ghost use Rattle.worker_port.specs.Giving.{HasAskedOnly};
 ghost use Rattle.group.specs.Precedence.{AnsweredBeforeSent, SeesLeft};
 
-use exchange::{ToldHistory, WorkerBatch};
+use exchange::{ToldHistory, WorkerLane};
 use worker_port::laws::order_in_real_time;
 
 /// Linearizability: a request that was sent after another one was answered comes after it,
 /// whichever workers they are of, and sees what it left, or what came after that. The answer was
 /// given by the earlier history, which its port keeps. The sender is the worker's end of the other
 /// request's port, which is about to read: call it before the later history is told. The earlier
-/// one is handed back, and `WorkerBatch::compare` says that both are of one history.
-pub fn later_requests_see_earlier_ones(
-    sender: &mut WorkerBatch,
-    earlier: ToldHistory,
-) -> ToldHistory
+/// one is handed back, and `WorkerLane::compare` says that both are of one history.
+pub fn later_requests_see_earlier_ones(sender: &mut WorkerLane, earlier: ToldHistory) -> ToldHistory
     requires { earlier.exchange ≡ sender.old.end.exchange }
     ensures same { sender.new ≡ sender.old }
     ensures handed_back { result ≡ earlier }

@@ -1,5 +1,5 @@
-//! Groups: a worker for each port and one storage thread, each in a thread of its own, started together, joined and
-//! gathered.
+//! Groups: a worker for each port and one storage thread, each in a thread of its own, started
+//! together, joined and gathered.
 #![tactic(auto)]
 
 mod context;

@@ -11,10 +11,11 @@ pub struct Config {
     pub terms: Terms,
     /// How lines are written that sessions send.
     pub dialect: Dialect,
-    /// How many microseconds each thread looks for work before it sleeps. With None each uses its own small number of turns.
+    /// How many microseconds each thread looks for work before it sleeps. With None each uses its
+    /// own small number of turns.
     pub spin: Option<u32>,
-    /// The bytes that the output which clients don't take, and the answers on their way, may take at each worker. With None they are
-    /// 67,108,864.
+    /// The bytes that the output which clients don't take, and the answers on their way, may take
+    /// at each worker. With None they are 67,108,864.
     pub output_budget: Option<usize>,
     /// Which threads execute requests.
     pub storage: Storage,
@@ -34,8 +35,8 @@ pub struct GroupWorker<P> {
     pub strangers: u64,
 }
 
-/// What a group leaves: its workers in the order of the ports, the clock, and how many requests were executed, sent
-/// and taken back.
+/// What a group leaves: its workers in the order of the ports, the clock, and how many requests
+/// were executed, sent and taken back.
 #[derive(Drop)]
 pub struct GroupReport<P, C> {
     pub workers: Vec<GroupWorker<P>>,

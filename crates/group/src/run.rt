@@ -14,7 +14,7 @@ use crate::report::{Config, GroupReport, GroupWorker};
 use crate::start::CalledOff;
 use crate::threads::{WorkerHandle, join_workers, start_threads};
 use engine::{Clock, StorageEngine};
-use exchange::{Exchange, StorageEnd, StorageSignals, WorkerEnd, gather};
+use exchange::{Exchange, GroupSignals, StorageEnd, WorkerEnd, gather};
 use proto::Storage;
 use std::alloc::{AllocError, Global};
 use std::marker::Brand;
@@ -27,7 +27,8 @@ use storage_thread::{
 use worker::{Executor, Gate, WorkerReport};
 use worker_port::Port;
 
-/// Splits the reports into what the group says of each worker, and the ends. The lists have room for them.
+/// Splits the reports into what the group says of each worker, and the ends. The lists have room
+/// for them.
 fn split_reports<P: Port>(
     reports: Vec<WorkerReport<P>>,
     mut workers: Vec<GroupWorker<P>>,
@@ -63,7 +64,8 @@ fn gather_report<P: Port, E: StorageEngine, C: Clock>(
     ensures { (store : E) (terms : Terms) (ports : List P) (clock : C)
         → IsLeftByStorage C.told C.leads_to (E.keeps store []) (E.is_exact store) E.may_refuse terms ports clock storage
         → AreJoined P.told P.leads_to terms storage.storage_end ports reports.items
-        → IsRun P.told P.leads_to C.told C.leads_to (E.keeps store []) (E.is_exact store) E.may_refuse terms.geometry ports
+        → IsRun P.told P.leads_to C.told C.leads_to (E.keeps store []) (E.is_exact store)
+        E.may_refuse terms.geometry ports
         clock result }
 {
     let (workers, ends) = split_reports(reports, workers, ends);
@@ -93,7 +95,8 @@ fn room_for<'s, P: Port>(alloc: Global, count: usize) -> Result<Room<'s, P>, All
     })
 }
 
-/// Starts all threads, has them begin, and joins those of the workers. The ends were made with this storage's end.
+/// Starts all threads, has them begin, and joins those of the workers. The ends were made with this
+/// storage's end.
 fn run_started<'s, P: Port + Send + 's, T: Serve + Send + 's>(
     rt: &'s impl Runtime,
     scope: &'s Scope<'s, &()>,
@@ -165,7 +168,7 @@ fn run_named<
     origin: &OnceToken<'_, Origin<E, C>>,
     config: Config,
     gate: &G,
-    signals: &StorageSignals,
+    signals: &GroupSignals,
 ) -> Result<GroupReport<P, C>, GroupFault>
     requires id { origin.now.of ≡ J.id }
     requires origin { IsSameOrigin side.origin origin.now.value }
@@ -220,7 +223,8 @@ fn run_threads<P: Port + Send, T: Serve + Send, X: Executor + Sync, G: Gate + Sy
         thread::scope_env(),
         rt,
         move |scope| -> Result<Vec<WorkerReport<P>>, GroupFault>
-            requires ports { ArePortsOf P.told end.value.exchange end.value.terms context.now.config.dialect ports.items }
+            requires ports { ArePortsOf P.told end.value.exchange end.value.terms
+                context.now.config.dialect ports.items }
             requires made { AreMade (vec_len ports) end.value.terms ends.items end.value }
             ensures joined { IfOk result (λ reports. AreJoined P.told P.leads_to end.value.terms end.value ports.items
                 reports.items) }
@@ -236,9 +240,10 @@ fn run_threads<P: Port + Send, T: Serve + Send, X: Executor + Sync, G: Gate + Sy
 ///
 /// # Errors
 ///
-/// NoMemory if out of memory at the start, where all room for joining and gathering is made too; NoThread
-/// if a thread couldn't be started: those that were started were told not to begin. After both of them the threads that were
-/// started have ended, no event was taken and no request executed; ports, store and clock are dropped.
+/// NoMemory if out of memory at the start, where all room for joining and gathering is made too;
+/// NoThread if a thread couldn't be started: those that were started were told not to begin. After
+/// both of them the threads that were started have ended, no event was taken and no request
+/// executed; ports, store and clock are dropped.
 pub fn run_group<P: Port + Send, E: StorageEngine + Drop + Send, C: Clock + Send>(
     rt: &impl Runtime,
     alloc: Global,
@@ -260,7 +265,7 @@ pub fn run_group<P: Port + Send, E: StorageEngine + Drop + Send, C: Clock + Send
         E.may_refuse (E.sizes store) ports.items clock report) }
     ensures none_began { IfErr result NoneBegan }
 {
-    let signals = StorageSignals::new(alloc, store.key_hasher(), exchange.workers(), config.spin)?;
+    let signals = GroupSignals::new(alloc, store.key_hasher(), exchange.workers(), config.spin)?;
     let (ends, storage_end) = exchange.into_ends();
     let end = Snapshot::of(&storage_end);
     let lock = OnceLock::new();

@@ -25,7 +25,8 @@ pub fn wait_for_start<'a, R: Wait>(rt: &R, start: &'a OnceLock<bool>) -> OnceTok
     unreachable!()
 }
 
-/// What shows that the threads of a group were told not to begin, for clauses alone: it has no bytes.
+/// What shows that the threads of a group were told not to begin, for clauses alone: it has no
+/// bytes.
 #[derive(Drop)]
 pub struct CalledOff {
     /// The start that they waited for.

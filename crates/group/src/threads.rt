@@ -19,7 +19,8 @@ use storage_thread::{Serve, SharedStorage};
 use worker::{Executor, Gate, WorkerReport, run_worker};
 use worker_port::Port;
 
-/// What a worker's thread promises: what it leaves of the port and the end that it was given, if it was told to begin.
+/// What a worker's thread promises: what it leaves of the port and the end that it was given, if it
+/// was told to begin.
 #[derive(Drop)]
 pub struct WorkerPromise<'a, P> {
     pub start: &'a OnceLock<bool>,
@@ -152,7 +153,8 @@ fn next_port<P: Port>(ports: &mut vec::IntoIter<P>) -> P
     port
 }
 
-/// Starts a thread for each port, with the end at its place. The list of handles has room for them. None if one can't be started.
+/// Starts a thread for each port, with the end at its place. The list of handles has room for them.
+/// None if one can't be started.
 fn start_workers<'s, P: Port + Send + 's>(
     rt: &'s impl Runtime,
     scope: &'s Scope<'s, &()>,
@@ -179,8 +181,8 @@ fn start_workers<'s, P: Port + Send + 's>(
     Some(handles)
 }
 
-/// Starts the storage thread, and a thread for each port, with the end at its place. The list of handles has room for them.
-/// All wait for the start. None if one can't be started.
+/// Starts the storage thread, and a thread for each port, with the end at its place. The list of
+/// handles has room for them. All wait for the start. None if one can't be started.
 pub fn start_threads<'s, P: Port + Send + 's, T: Serve + Send + 's>(
     rt: &'s impl Runtime,
     scope: &'s Scope<'s, &()>,
@@ -203,7 +205,8 @@ pub fn start_threads<'s, P: Port + Send + 's, T: Serve + Send + 's>(
     start_workers(rt, scope, context, executor, ports, ends, handles)
 }
 
-/// What the workers' threads leave, in order, which were told to begin. The list of reports has room for them.
+/// What the workers' threads leave, in order, which were told to begin. The list of reports has
+/// room for them.
 pub fn join_workers<'s, P: Port, R: Threads>(
     rt: &R,
     told: &OnceToken<'s, bool>,

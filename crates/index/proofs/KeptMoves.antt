@@ -27,7 +27,8 @@ use Rattle.segments.proofs.MovedPlaces.{if_some_map}
 abbrev pub rekeyed : KeysOf → Place → List ℕ → KeysOf
 rekeyed keys target key p = if same_place target p then Some key else keys p
 
--- what is kept while a table is relocated: it can be by the rest of the moves, which leads where all of them do
+-- what is kept while a table is relocated: it can be by the rest of the moves, which leads where
+-- all of them do
 pub record IsRelocating (before after : KeysOf) (moves rest : List Move) (start t : Table) : Type 0 where
   pub keys : KeysOf
   pub index : IsIndex keys t

@@ -53,7 +53,8 @@ ahead_of_gap slots from i gap f r u up is =
       | inr y ↦ y.1
     ]
 
--- where no slot from a key's home up to the first empty one has the key's tag and a place of the key, no slot has a place of it
+-- where no slot from a key's home up to the first empty one has the key's tag and a place of the
+-- key, no slot has a place of it
 pub none_found : (h : Hashing) (keys : KeysOf) (slots : List Slot) (key : List ℕ) → AreIndexed h keys slots
     → h.home key < length slots
     → (gap : ℕ) → NoneUpTo keys slots (h.home key) (h.tag key) key gap → (p : Place) → Stands keys slots key p → ⊥
@@ -310,7 +311,8 @@ none_used (s ∷ slots) empty =
     let all = sum_by-cons (λ (x : Slot). cond (is_used x) 1 0) s slots in
     omega (arith, all, first, rest)
 
--- no slot is used, and whatever the keys of places are, the slots are indexed and stand for the empty map
+-- no slot is used, and whatever the keys of places are, the slots are indexed and stand for the
+-- empty map
 pub record AreEmpty (h : Hashing) (slots : List Slot) : Type 0 where
   pub count : used_in slots ≡ 0
   pub indexed : (keys : KeysOf) → AreIndexed h keys slots

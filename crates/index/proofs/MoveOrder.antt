@@ -17,8 +17,8 @@ use Rattle.segments.proofs.MovedPlaces.{merged_once, in_numbers}
 use Rattle.index.specs.Relocating.{AreInTurn}
 use Rattle.segments.specs.Items.{item_deadline}
 
--- One item stands before another: at lower bytes where both are in one segment; and none stands in the first segment
--- after one that doesn't.
+-- One item stands before another: at lower bytes where both are in one segment; and none stands in
+-- the first segment after one that doesn't.
 pub record IsBefore (first : ℕ) (s r : Standing) : Type 0 where
   pub below : s.place.segment ≡ r.place.segment → s.place.offset + size_of_item s.item ≤ r.place.offset
   pub led : r.place.segment ≡ first → s.place.segment ≡ first
@@ -58,7 +58,8 @@ filter_laid first p (s ∷ ss) h =
       | inr f ↦ rw f (filter_laid first p ss h.1)
     ]
 
--- two lists of items that stand in order make one in order, where each item of the first list stands before all of the second
+-- two lists of items that stand in order make one in order, where each item of the first list
+-- stands before all of the second
 append_laid : (first : ℕ) (xs ys : List Standing) → AreLaid first xs → AreLaid first ys
     → All (λ x. All (IsBefore first x) ys) xs → AreLaid first (xs ++ ys)
 append_laid first [] ys h k cross = k
@@ -132,7 +133,8 @@ others_laid lives p first (m ∷ numbers) none once =
 
 -- ---- the moves
 
--- what holds of each item where it stands, in a list without the judgements, holds of each judged item where it stands
+-- what holds of each item where it stands, in a list without the judgements, holds of each judged
+-- item where it stands
 standing_all : (P : Standing → Type 0) (js : List Judged) → All P (map standing_in js) → All (λ j. P (standing_in j)) js
 standing_all P [] all = All-nil (λ j. P (standing_in j))
 standing_all P (j ∷ js) all =

@@ -22,7 +22,8 @@ remainder at home m some le =
     let same : x + m * (at / m) ≡ at - home + m * (home / m + 1) = omega (arith, a, h, le, below) in
     sym (add-mul-mod_self_left x m (at / m)) ∙ ap (λ n. n % m) same ∙ add-mul-mod_self_left (at - home) m (home / m + 1)
 
--- a home at another slot with that remainder is before the slots between that one and the nearest one
+-- a home at another slot with that remainder is before the slots between that one and the nearest
+-- one
 further : (at home m back : ℕ) → 1 ≤ m → home ≤ at → back ≡ (at % m + m - home % m) % m
     → (home ≡ at - back) ⊎ (home + back + m ≤ at)
 further at home m back some le is =
@@ -38,7 +39,8 @@ further at home m back some le is =
           inl (omega (arith, e, whole, far, le))
     ]
 
--- the nearest slot with the remainder is the home, or each slot from the next such one on is on the way from the home
+-- the nearest slot with the remainder is the home, or each slot from the next such one on is on the
+-- way from the home
 pub nearest : (n at home m back x : ℕ) → 1 ≤ m → at < n → home < n → back ≡ (at % m + m - home % m) % m → back + m ≤ at
     → at - back - m ≤ x → x < at - back → (home ≡ at - back) ⊎ (distance n home x < distance n home at)
 nearest n at home m back x some a h is room from_on before =
@@ -56,8 +58,8 @@ nearest n at home m back x some a h is room from_on before =
       ]
     ]
 
--- where the lowest bits of a key's home are known, and one of the slots from the next such slot on is empty, the nearest
--- such slot is the home
+-- where the lowest bits of a key's home are known, and one of the slots from the next such slot on
+-- is empty, the nearest such slot is the home
 pub home_near : (h : Hashing) (keys : KeysOf) (slots : List Slot) (at : ℕ) (key : List ℕ) (b low back next : ℕ)
     → at < length slots → h.home key < length slots → IsSlotFound h keys slots at key
     → low ≡ h.home key % 2 ^ b → back ≡ (at % 2 ^ b + 2 ^ b - low) % 2 ^ b → next ≡ back + 2 ^ b → next ≤ at

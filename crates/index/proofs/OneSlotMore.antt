@@ -61,8 +61,8 @@ within slots i r used =
 pub same_slot : (slots : List Slot) (i : ℕ) → i < length slots → slot_at (longer slots) i ≡ slot_at slots i
 same_slot slots i r = get_or-append slots (empty_slot ∷ []) empty_slot i r
 
--- In the longer row each key is found from its home; or its search had gone over the end, which was used, and it is found
--- from the front.
+-- In the longer row each key is found from its home; or its search had gone over the end, which was
+-- used, and it is found from the front.
 pub near_front : (h : Hashing) (keys : KeysOf) (slots : List Slot) (from : ℕ) → ((k : List ℕ) → h.home k < length slots)
     → AreIndexed h keys slots → (from ≡ 0) ⊎ (is_used (slot_at slots (length slots - 1)) ≡ false)
     → AreNear h keys (longer slots) from

@@ -52,7 +52,8 @@ written p n s r = get_or-set_same p.segments n s None r
 others : (p : PoolState) (n m : ℕ) (s : Option Used) → m ≢ n → segment_at (with_segment p n s) m ≡ segment_at p m
 others p n m s differ = get_or-set_other p.segments n m s None differ
 
--- where an item goes after those of its bucket's tail, its place gets its key, and every other place with a key keeps it
+-- where an item goes after those of its bucket's tail, its place gets its key, and every other
+-- place with a key keeps it
 to_tail : (p after : PoolState) (bucket t : ℕ) (i : Item) (place : Place) → IsPool p
     → IsAddedToTail p bucket t i after place → IsKeyAdded p after place i.key
 unfolding key_at
@@ -77,7 +78,8 @@ to_tail p after bucket t i place pool h =
       segment = (let c = pool.count in let g = pool.geometry.most in omega (arith, r, c, g));
     }
 
--- where a free segment is opened for an item, its place gets its key, and every other place with a key keeps it
+-- where a free segment is opened for an item, its place gets its key, and every other place with a
+-- key keeps it
 to_free : (p after : PoolState) (bucket t : ℕ) (i : Item) (place : Place) → IsPool p
     → IsAddedToFree p bucket t i after place → IsKeyAdded p after place i.key
 unfolding key_at
@@ -100,7 +102,8 @@ to_free p after bucket t i place pool h =
       segment = (let k = h.in_range in let g = pool.geometry.most in omega (arith, k, g));
     }
 
--- where an item goes into a tail or a free segment, its place gets its key, and every other place with a key keeps it
+-- where an item goes into a tail or a free segment, its place gets its key, and every other place
+-- with a key keeps it
 pub key_added : (p after : PoolState) (bucket t : ℕ) (i : Item) (place : Place) → IsPool p
     → IsAddedToTail p bucket t i after place ⊎ IsAddedToFree p bucket t i after place → IsKeyAdded p after place i.key
 key_added p after bucket t i place pool (inl h) = to_tail p after bucket t i place pool h

@@ -70,7 +70,8 @@ gap_index_is (s ∷ slots) less =
 
 -- ---- a search from the next slot on
 
--- what is used from a slot on is used from the next one on, where the slot itself may be none of those
+-- what is used from a slot on is used from the next one on, where the slot itself may be none of
+-- those
 passes_on : (old new : List Slot) (at x : ℕ) → length new ≡ length old → at < length old → x < length old → x ≢ at
     → ((y : ℕ) → y < length old → y ≢ at → is_used (slot_at old y) ≡ true → is_used (slot_at new y) ≡ true)
     → AreUsedUpTo old at x → AreUsedUpTo new (next_slot (length old) at) x

@@ -76,13 +76,15 @@ half_key : (o : Option Item) → option_map (λ (i : Item). i.key) (option_map w
 half_key None = refl
 half_key (Some i) = refl
 
--- where the item of one place stands at another, with its reads halved, both places have the same key
+-- where the item of one place stands at another, with its reads halved, both places have the same
+-- key
 key_half : (p q : PoolState) (a b : Place) → item_in p a ≡ option_map with_reads_halved (item_in q b)
     → key_at p a ≡ key_at q b
 unfolding key_at
 key_half p q a b e = ap (option_map (λ (i : Item). i.key)) e ∙ half_key (item_in q b)
 
--- a table of the live items' places can be relocated by the moves of the merge that was planned for them
+-- a table of the live items' places can be relocated by the moves of the merge that was planned for
+-- them
 pub plan_relocates : (lives : Liveness) (p : PoolState) (plan : Plan) (t : Table) → IsPool p → IsPlan lives p plan
     → IsPool (carried_out (with_merge_planned p plan) plan)
     → IsLayoutOf p.sizes t.layout → IsIndex (key_at p) t → HoldsLive lives p t

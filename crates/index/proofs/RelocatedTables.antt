@@ -84,7 +84,8 @@ at_held keys t key p index h e =
     record { at = h.at; in_range = h.in_range; used = h.used; place_is = h.place_is; key_is = e } in
     get_from_stands keys t.slots key p st (λ r. stands_once _ keys t.slots index key p r st)
 
--- a table that has the sizes of a second one, which has those of a first, has the sizes of the first
+-- a table that has the sizes of a second one, which has those of a first, has the sizes of the
+-- first
 pub same_size : (a b c : Table) → IsSameSize a b → IsSameSize b c → IsSameSize a c
 same_size a b c h k = record { count = k.count ∙ h.count; hasher = k.hasher ∙ h.hasher; layout = k.layout ∙ h.layout }
 
@@ -133,8 +134,8 @@ relocated_itself before after f t index agree same =
 
 -- ---- moves that forget their items
 
--- to forget where a move without a target starts, and then where the later ones without a target do,
--- is to forget the places of all of them
+-- to forget where a move without a target starts, and then where the later ones without a target
+-- do, is to forget the places of all of them
 pub lost_step : (m : Move) (moves : List Move) (p : Place) → is_some m.target ≡ false
     → option_and_then (forget_lost moves) (forget_place m.source p) ≡ forget_lost (m ∷ moves) p
 lost_step m moves p e =

@@ -92,7 +92,8 @@ distance_add n a b c x y z le =
     let lt = distance_below n b c y z in
     elim (distance_by n a b c x y z) [ inl e ↦ e | inr e ↦ omega (arith, e, le, lt) ]
 
--- where the ways from a to b and from b to c are together shorter than the row, they are together as long as the way from a to c
+-- where the ways from a to b and from b to c are together shorter than the row, they are together
+-- as long as the way from a to c
 pub distance_sum : (n a b c : ℕ) → a < n → b < n → c < n → distance n a b + distance n b c < n
     → distance n a c ≡ distance n a b + distance n b c
 distance_sum n a b c x y z lt =

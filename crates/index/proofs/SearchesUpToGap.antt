@@ -59,7 +59,8 @@ gap_ahead slots from at gap f way is used =
       | inr y ↦ y.1
     ]
 
--- where some slot isn't used, a search at a used slot may go on to the next: it has passed only used ones there, too
+-- where some slot isn't used, a search at a used slot may go on to the next: it has passed only
+-- used ones there, too
 pub way_goes_on : (slots : List Slot) (from at : ℕ) → from < length slots → used_in slots < length slots
     → IsOnWay slots from at
     → is_used (slot_at slots at) ≡ true → IsOnWay slots from (next_slot (length slots) at)
@@ -75,7 +76,8 @@ way_goes_on slots from at f less way used =
       ];
     }
 
--- where some slot isn't used, a search that goes on from a used slot has fewer slots left to look at
+-- where some slot isn't used, a search that goes on from a used slot has fewer slots left to look
+-- at
 pub way_shortens : (slots : List Slot) (from at : ℕ) → from < length slots → used_in slots < length slots
     → IsOnWay slots from at
     → is_used (slot_at slots at) ≡ true
@@ -114,7 +116,8 @@ nears n from at end f a e le differ =
       | inr y ↦ (let step = distance_to_next n from at end f a e y.1 in omega (arith, step, y))
     ]
 
--- no slot is nearer to a search's first one than that one itself, so anything holds of those that are
+-- no slot is nearer to a search's first one than that one itself, so anything holds of those that
+-- are
 pub none_passed : (P : ℕ → Type 0) (n from : ℕ) (x : ℕ) → distance n from x < distance n from from → P x
 none_passed P n from x less = absurd (omega (arith, less, distance_itself n from))
 
@@ -130,7 +133,8 @@ other_place p q b compared differ same =
     ∙ same_place q in
     true_false (sym e ∙ differ)
 
--- where a comparison says that the key that is there differs from another one, the other one isn't there
+-- where a comparison says that the key that is there differs from another one, the other one isn't
+-- there
 pub other_key : (k q : List ℕ) (o : Option (List ℕ)) (b : Bool) → o ≡ Some k → b ≡ bytes_eq k q → b ≡ false
     → ¬ (o ≡ Some q)
 other_key k q o b is compared differ same =

@@ -1,4 +1,5 @@
--- A slot emptied step by step: the hole goes on to a place that is found through it, until an empty slot comes.
+-- A slot emptied step by step: the hole goes on to a place that is found through it, until an empty
+-- slot comes.
 use Rattle.std.proofs.Common.{◌≡◌, ◌≢◌, ℕ, ◌+◌, ◌-◌, ◌<◌, ◌≤◌, true, false, cond, List, length, refl, sym, ap, ◌∙◌, inl}
 use Rattle.std.proofs.Common.{inr, ◌⊎◌, arith, Some, subst, get_or-set_same, get_or-set_other, length-set}
 use Rattle.std.specs.Prelude.{slice_set}
@@ -22,7 +23,8 @@ use Rattle.index.proofs.SlotsAsMap.{Stands, removed_places, stands_once}
 pub true_false : true ≡ false → ⊥
 true_false e = cc
 
--- a place that is found, but for the hole on its way, where it stands at or after the slot that is looked at next
+-- a place that is found, but for the hole on its way, where it stands at or after the slot that is
+-- looked at next
 pub record IsNearlyFound (h : Hashing) (keys : KeysOf) (n : ℕ) (slots : List Slot) (hole next i : ℕ)
     (key : List ℕ) : Type 0 where
   pub of_key : keys (place_of (slot_at slots i)) ≡ Some key

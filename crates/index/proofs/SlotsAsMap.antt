@@ -74,7 +74,8 @@ shifted keys s slots q p h =
       key_is = h.key_is;
     }
 
--- either the place of the key that comes first stands in a slot, or there is none and no slot has a place of the key
+-- either the place of the key that comes first stands in a slot, or there is none and no slot has a
+-- place of the key
 Found : KeysOf → List Slot → List ℕ → Type 0
 Found keys slots q = ((p : Place) × (found keys slots q ≡ Some p) × Stands keys slots q p) ⊎
     ((found keys slots q ≡ None) × ((p : Place) → Stands keys slots q p → ⊥))
@@ -93,7 +94,8 @@ passed keys s slots q same other (inr h) =
     first zero p r u i k = other u (ap keys i ∙ k)
     first (suc at) p r u i k = h.1 p record { at = at; in_range = omega (arith, r); used = u; place_is = i; key_is = k }
 
--- whatever the slots, the place of a key that comes first stands in one of them, or no slot has a place of the key
+-- whatever the slots, the place of a key that comes first stands in one of them, or no slot has a
+-- place of the key
 found_in : (keys : KeysOf) (slots : List Slot) (q : List ℕ) → Found keys slots q
 unfolding Found
 found_in keys [] q = inr (refl, λ p h. (let r = h.in_range in omega (arith, r)))
@@ -209,7 +211,8 @@ pub get-remove : (m : Places) (key q : List ℕ) → map.get (map.remove m key) 
 get-remove m key q = map.get-remove nat_list_cmp_total m key q
     ∙ ap (λ (b : Bool). cond b None (map.get m q)) (is_eq-slice_cmp q key)
 
--- The places are those of a map with one key written, where the key has its place and the other keys theirs.
+-- The places are those of a map with one key written, where the key has its place and the other
+-- keys theirs.
 pub inserted_places : (before after : KeysOf) (old new : List Slot) (key : List ℕ) (place : Place)
     → ((q : List ℕ) (p : Place) → Stands after new q p
     → ((q ≡ key) × (p ≡ place)) ⊎ ((q ≢ key) × Stands before old q p))

@@ -126,7 +126,8 @@ home_below n h some =
     let below = mod_below h (2 * floor_power_of_two n) (omega (arith, some, next)) in
     elim (home_cases n h) [ inl y ↦ omega (arith, y) | inr y ↦ omega (arith, y, below, within, next) ]
 
--- a hash has the same home with one slot more, or it goes from the home that is split to the new slot
+-- a hash has the same home with one slot more, or it goes from the home that is split to the new
+-- slot
 pub home_grown : (n h : ℕ) → 1 ≤ n → (home_of (n + 1) h ≡ home_of n h)
     ⊎ ((home_of n h ≡ split_home n) × (home_of (n + 1) h ≡ n))
 home_grown n h some =

@@ -21,7 +21,8 @@ packed_limit l = if nat_le l.place_bits 32 then 2 ^ 32 else 2 ^ 64
 abbrev pub tag_shift : Layout → ℕ
 tag_shift l = if nat_le l.place_bits 32 then l.place_bits else l.place_bits - 32
 
--- how many of a hash's lowest bits stand in its slot: half of those beside a place, and four at most
+-- how many of a hash's lowest bits stand in its slot: half of those beside a place, and four at
+-- most
 abbrev pub home_bits : Layout → ℕ
 home_bits l = if nat_le l.place_bits 32 then min ((32 - l.place_bits) / 2) 4 else 4
 
@@ -33,8 +34,8 @@ tag_of l hash = hash / 2 ^ 32 / 2 ^ (tag_shift l + home_bits l) * 2 ^ home_bits 
 unfoldable pub low_in : Layout → ℕ → ℕ
 low_in l tag = (tag - 1) % 2 ^ home_bits l
 
--- the slot that was packed: 0 is an empty one, and else there are the tag, the segment, and the offset in steps of
--- eight bytes
+-- the slot that was packed: 0 is an empty one, and else there are the tag, the segment, and the
+-- offset in steps of eight bytes
 unfoldable pub slot_of : Layout → ℕ → Slot
 slot_of l packed =
     if packed == 0 then empty_slot

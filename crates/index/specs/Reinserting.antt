@@ -7,13 +7,15 @@ use Rattle.index.specs.Layouts.{SlotArray}
 use Rattle.index.specs.Slots.{is_used, place_of, slot_at, used_in, distance, AreUsedUpTo}
 use Rattle.index.specs.Table.{Hashing, places_in}
 
--- The slot has a place of the key, with the key's tag; and it is found from the key's home or from a certain slot.
+-- The slot has a place of the key, with the key's tag; and it is found from the key's home or from
+-- a certain slot.
 pub record IsNear (h : Hashing) (keys : KeysOf) (slots : List Slot) (from i : ℕ) (key : List ℕ) : Type 0 where
   pub of_key : keys (place_of (slot_at slots i)) ≡ Some key
   pub tag : (slot_at slots i).tag ≡ h.tag key
   pub up_to : AreUsedUpTo slots (h.home key) i ⊎ AreUsedUpTo slots from i
 
--- each slot with a place is found from its key's home or from a certain slot, and no two of them have one key
+-- each slot with a place is found from its key's home or from a certain slot, and no two of them
+-- have one key
 pub record AreNear (h : Hashing) (keys : KeysOf) (slots : List Slot) (from : ℕ) : Type 0 where
   pub each : (i : ℕ) → i < length slots → is_used (slot_at slots i) ≡ true
       → (key : List ℕ) × IsNear h keys slots from i key

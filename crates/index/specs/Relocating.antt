@@ -36,8 +36,9 @@ forget_lost moves p = if list_any (λ m. not (is_some m.target) && same_place m.
 abbrev pub keys_after_merge : PoolState → KeysOf
 keys_after_merge p = option_map_or (λ plan. key_at (carried_out p plan)) p.plan (key_at p)
 
--- Moves by which a table can be relocated: each that keeps its item starts at a place of the table, and its target
--- has the key of its source; no place of the table at which none starts gets another key.
+-- Moves by which a table can be relocated: each that keeps its item starts at a place of the table,
+-- and its target has the key of its source; no place of the table at which none starts gets another
+-- key.
 pub record CanRelocate (before after : KeysOf) (t : Table) (moves : List Move) : Type 0 where
   pub held : All (λ m. IsSome m.target → HasPlace t m.source) moves
   pub in_turn : AreInTurn moves

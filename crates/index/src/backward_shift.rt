@@ -33,9 +33,10 @@ fn back_to_low(at: usize, low: usize, bits: u32) -> usize
     ((at & mask) + mask + 1 - low) & mask
 }
 
-/// The home of the key whose place is in this slot. If there are slots enough, a home's number ends in the lowest bits of
-/// the key's hash, and the slot stores these bits. So the home is the nearest slot at or before this one whose number ends
-/// in them, provided that a slot between it and the one before it is empty.
+/// The home of the key whose place is in this slot. If there are slots enough, a home's number ends
+/// in the lowest bits of the key's hash, and the slot stores these bits. So the home is the nearest
+/// slot at or before this one whose number ends in them, provided that a slot between it and the
+/// one before it is empty.
 fn home_in(slots: &Slots, at: usize, hasher: FoldHasher, pool: &Pool) -> usize
     requires at { at < length slots.now.slots }
     requires found { (key : List ℕ)
@@ -57,8 +58,8 @@ fn home_in(slots: &Slots, at: usize, hasher: FoldHasher, pool: &Pool) -> usize
     }
 }
 
-/// Empties a slot. Each later place of its cluster that is found through the hole shifts back into it, and leaves a
-/// hole of its own.
+/// Empties a slot. Each later place of its cluster that is found through the hole shifts back into
+/// it, and leaves a hole of its own.
 pub fn delete(slots: &mut Slots, at: usize, hasher: FoldHasher, pool: &Pool)
     requires at { at < length slots.old.slots }
     requires used { is_used (slot_at slots.old.slots at) ≡ true }

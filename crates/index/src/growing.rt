@@ -1,5 +1,5 @@
-//! How many slots there are: memory for so many, of which linear hashing uses one more at a time. The keys of one home
-//! are then split, and keys move to where their searches find them.
+//! How many slots there are: memory for so many, of which linear hashing uses one more at a time.
+//! The keys of one home are then split, and keys move to where their searches find them.
 
 ghost use Rattle.std.specs.Prelude.{◌≡◌, ◌⊎◌, ◌+◌, ◌*◌, ◌<◌, ◌≤◌, length};
 ghost use Rattle.std.specs.Int.{IsNextPowerOfTwo};
@@ -17,13 +17,15 @@ use proto::{Geometry, MIN_ITEM_SIZE};
 use segments::Pool;
 use std::hash::FoldHasher;
 
-/// The most slots that are added for one new key: more than two, so that at most half of the slots are ever used.
+/// The most slots that are added for one new key: more than two, so that at most half of the slots
+/// are ever used.
 const MAX_GROWTH: usize = 3;
 
 /// The most slots for each key.
 const SLOTS_PER_KEY: usize = 3;
 
-/// The slots of the index for a pool of these sizes. The items of a full pool use at most half of them.
+/// The slots of the index for a pool of these sizes. The items of a full pool use at most half of
+/// them.
 pub fn slots_for(geometry: Geometry) -> usize
     ensures { IsNextPowerOfTwo (2 * most_items geometry) result }
 {
@@ -38,8 +40,9 @@ struct Stretch {
     end: usize,
 }
 
-/// The first empty slot of the search from a home, or another slot that comes before it, as the end of a stretch. If
-/// the home is in a stretch that is known, and that doesn't go past the other slot, the search goes on from its end.
+/// The first empty slot of the search from a home, or another slot that comes before it, as the end
+/// of a stretch. If the home is in a stretch that is known, and that doesn't go past the other
+/// slot, the search goes on from its end.
 fn search(slots: &Slots, known: Stretch, home: usize, at: usize) -> Stretch
     requires known { IsStretch slots.now.slots known }
     requires home { home < length slots.now.slots }
@@ -63,8 +66,9 @@ fn search(slots: &Slots, known: Stretch, home: usize, at: usize) -> Stretch
     }
 }
 
-/// Reinserts the keys of a cluster's slots from one on, up to the first empty slot: a key that isn't found there from
-/// its home of `count` slots goes to the first empty slot of its search. A cluster is a run of used slots.
+/// Reinserts the keys of a cluster's slots from one on, up to the first empty slot: a key that
+/// isn't found there from its home of `count` slots goes to the first empty slot of its search. A
+/// cluster is a run of used slots.
 fn reinsert(slots: &mut Slots, from: usize, count: usize, hasher: FoldHasher, pool: &Pool)
     requires from { from < length slots.old.slots }
     requires some { 1 ≤ count }
@@ -93,8 +97,8 @@ fn reinsert(slots: &mut Slots, from: usize, count: usize, hasher: FoldHasher, po
     }
 }
 
-/// Adds a slot. Two kinds of keys move: those that had wrapped around the end, and those of the split home whose new home is
-/// the added slot.
+/// Adds a slot. Two kinds of keys move: those that had wrapped around the end, and those of the
+/// split home whose new home is the added slot.
 fn grow(slots: &mut Slots, hasher: FoldHasher, pool: &Pool)
     requires room { length slots.old.slots < slots.old.room }
     requires gap { used_in slots.old.slots < length slots.old.slots }
@@ -115,7 +119,8 @@ fn grow(slots: &mut Slots, hasher: FoldHasher, pool: &Pool)
     reinsert(slots, split_home(count), more, hasher, pool);
 }
 
-/// Adds slots for `keys` keys, up to three, while there are fewer than three for each key and there is room.
+/// Adds slots for `keys` keys, up to three, while there are fewer than three for each key and there
+/// is room.
 pub fn grow_for(slots: &mut Slots, keys: usize, hasher: FoldHasher, pool: &Pool)
     requires room { 2 * keys ≤ slots.old.room }
     requires half { 2 * keys ≤ length slots.old.slots + 2 }

@@ -30,8 +30,8 @@ use std::sync::atomic::{AtomicU64, Ordering};
 /// The number of moves whose slots are read ahead at once.
 const MOVES_AHEAD: usize = 16;
 
-/// The places of items by their keys, in a table whose memory is taken once. Its used part grows with the keys, and is
-/// never more than half full.
+/// The places of items by their keys, in a table whose memory is taken once. Its used part grows
+/// with the keys, and is never more than half full.
 #[derive(Drop)]
 pub struct Index {
     slots: Slots,
@@ -52,8 +52,8 @@ impl Model for Index {
     ghost invariant = { λ a. AreSlotsCounted (table_of a.slots a.hasher) a.used };
 }
 
-/// What a search for a key finds, as long as the table stays as it is: the key's hash, and the slot that has its
-/// place, or the first empty one from the key's home on.
+/// What a search for a key finds, as long as the table stays as it is: the key's hash, and the slot
+/// that has its place, or the first empty one from the key's home on.
 #[derive(Clone, Copy)]
 pub enum Entry {
     At {
@@ -96,8 +96,8 @@ fn start_of(slots: &Slots, hasher: FoldHasher, key: &[u8]) -> Start
     }
 }
 
-/// Grows the table for one key more, and finds the first empty slot from the home of a hash on: the one that was found
-/// there before, unless the table grew.
+/// Grows the table for one key more, and finds the first empty slot from the home of a hash on: the
+/// one that was found there before, unless the table grew.
 fn grown_gap(
     slots: &mut Slots,
     used: usize,
@@ -129,8 +129,9 @@ fn grown_gap(
 }
 
 impl Index {
-    /// A table without a key, with memory for `count` slots. The seed is hashed before each key, so that clients who
-    /// don't know it can't choose keys that meet in few slots. NoMemory if out of memory.
+    /// A table without a key, with memory for `count` slots. The seed is hashed before each key, so
+    /// that clients who don't know it can't choose keys that meet in few slots. NoMemory if out of
+    /// memory.
     pub fn new(alloc: Global, count: usize, layout: Layout, seed: u64) -> Result<Index, NoMemory>
         requires some { 1 ≤ count }
         requires layout { IsLayout layout }
@@ -158,8 +159,9 @@ impl Index {
         self.hasher
     }
 
-    /// Reads what look-ups of keys with these hashes read first, for all at once: the slots where they begin, and then
-    /// what stands at each slot's place, if it may be the key's. It gives some of what it read.
+    /// Reads what look-ups of keys with these hashes read first, for all at once: the slots where
+    /// they begin, and then what stands at each slot's place, if it may be the key's. It gives some
+    /// of what it read.
     pub fn prefetch(&self, pool: &Pool, hashes: &[u64]) -> u64 {
         let mut read = self.peek_slots(hashes);
         for hash in hashes {
@@ -209,8 +211,9 @@ impl Index {
         }
     }
 
-    /// Gives the key whose search found this a place, and returns the one that it had. If it had none, the used part
-    /// of the table grows first, up to three slots for each key; a gap is searched for again only if it grew.
+    /// Gives the key whose search found this a place, and returns the one that it had. If it had
+    /// none, the used part of the table grows first, up to three slots for each key; a gap is
+    /// searched for again only if it grew.
     pub fn insert(&mut self, pool: &Pool, _key: &[u8], entry: Entry, place: Place) -> Option<Place>
         requires index { IsIndex (key_at pool.now) self.old }
         requires found { IsEntryOf (key_at pool.now) self.old _key.now entry }
@@ -302,8 +305,8 @@ impl Index {
         }
     }
 
-    /// Reads the slots at which the searches for the keys of the next moves begin: of those that keep their items, or
-    /// of those that don't. The slots come from memory at the same time.
+    /// Reads the slots at which the searches for the keys of the next moves begin: of those that
+    /// keep their items, or of those that don't. The slots come from memory at the same time.
     fn read_ahead(&self, pool: &Pool, moves: &[Move], from: usize, kept: bool)
         requires sources { All (λ m. IsSome (item_in pool.now m.source)) moves.now }
     {
@@ -364,8 +367,8 @@ impl Index {
         }
     }
 
-    /// Relocates the keys as the merge that is planned will move their items, before it is carried out: one search
-    /// for each move.
+    /// Relocates the keys as the merge that is planned will move their items, before it is carried
+    /// out: one search for each move.
     pub fn relocate(&mut self, pool: &Pool)
         requires index { IsIndex (key_at pool.now) self.old }
         requires can { CanRelocate (key_at pool.now) (keys_after_merge pool.now) self.old

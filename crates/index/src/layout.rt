@@ -10,8 +10,9 @@ use crate::slots::{EMPTY, Slot};
 use proto::{Geometry, MAX_SEGMENTS};
 use segments::Place;
 
-/// How many bits an offset takes, counted in eight bytes, and how many a place takes. A packed slot has four bytes, of
-/// which the tag has the bits that a place leaves; if a place takes more than 32 bits, it has eight bytes.
+/// How many bits an offset takes, counted in eight bytes, and how many a place takes. A packed slot
+/// has four bytes, of which the tag has the bits that a place leaves; if a place takes more than 32
+/// bits, it has eight bytes.
 #[derive(Clone, Copy)]
 pub struct Layout {
     pub offset_bits: u32,
@@ -62,9 +63,9 @@ impl Layout {
         self.place_bits <= 32
     }
 
-    /// How many of a hash's lowest bits stand in a slot. They say most of what the key's home is: they tell keys of
-    /// different homes apart, and by them a backward shift mostly needs no keys. The other bits tell keys of one home
-    /// apart.
+    /// How many of a hash's lowest bits stand in a slot. They say most of what the key's home is:
+    /// they tell keys of different homes apart, and by them a backward shift mostly needs no keys.
+    /// The other bits tell keys of one home apart.
     pub fn home_bits(self) -> u32
         requires { IsLayout self }
         ensures value { result ≡ home_bits self }

@@ -1,5 +1,5 @@
-//! The index of a segmented store: a table in which a key's place is found by the key's hash. Its memory is taken once.
-//! It stores no keys; they are compared where they stand, in the segments.
+//! The index of a segmented store: a table in which a key's place is found by the key's hash. Its
+//! memory is taken once. It stores no keys; they are compared where they stand, in the segments.
 #![tactic(auto)]
 
 mod backward_shift;

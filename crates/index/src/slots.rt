@@ -10,8 +10,8 @@ use segments::Place;
 use std::alloc::Global;
 use std::marker::Model;
 
-/// A place, and bits of the hash of its key, by which a search passes most slots of other keys. A slot with the tag 0
-/// is empty. Of a used one, 1 less than the tag is packed.
+/// A place, and bits of the hash of its key, by which a search passes most slots of other keys. A
+/// slot with the tag 0 is empty. Of a used one, 1 less than the tag is packed.
 #[derive(Clone, Copy)]
 pub struct Slot {
     pub tag: u64,
@@ -58,8 +58,8 @@ pub fn distance(count: usize, from: usize, to: usize) -> usize
     }
 }
 
-/// Slots in a row, which never take more memory than they were made with. Only one of the two lists is used, so that a
-/// slot has four bytes if its layout lets it.
+/// Slots in a row, which never take more memory than they were made with. Only one of the two lists
+/// is used, so that a slot has four bytes if its layout lets it.
 #[derive(Drop)]
 pub struct Slots {
     layout: Layout,

@@ -33,12 +33,14 @@ IsTakenOff o =
 abbrev pub listing : ℕ → OpenStream → List ℕ
 listing session o = cond (is_listed o.input) (session ∷ []) []
 
--- A stream that comes to be listed goes behind the others, and one that is listed already isn't listed again.
+-- A stream that comes to be listed goes behind the others, and one that is listed already isn't
+-- listed again.
 abbrev pub Lists : ℕ → OpenStream → OpenStream → List ℕ → List ℕ → Type 0
 Lists session before after ready_before ready_after =
     ready_after ≡ ready_before ++ cond (is_listed before.input) [] (listing session after)
 
--- A stream that was read goes behind the others if more may be there, but before them while something is ahead of it.
+-- A stream that was read goes behind the others if more may be there, but before them while
+-- something is ahead of it.
 abbrev pub ListsRead : ℕ → OpenStream → List ℕ → List ℕ → Type 0
 ListsRead session after ready_before ready_after =
     (length after.stream.ahead ≡ 0 → ready_after ≡ ready_before ++ listing session after)
@@ -59,7 +61,8 @@ seen_of o =
 abbrev pub shown_stream : List (ℕ × OpenStream) → ℕ → Option Seen
 shown_stream streams session = option_map seen_of (lookup (nat_eq session) streams)
 
--- What a read of a stream, or of what is ahead of it, leaves; while it is paused, and once its input has ended, nothing comes of it.
+-- What a read of a stream, or of what is ahead of it, leaves; while it is paused, and once its
+-- input has ended, nothing comes of it.
 abbrev pub Arrives : Seen → Reading → Seen → Type 0
 Arrives before (read.Bytes bytes) after =
     (after ≡ then_received bytes before) × (before.input_ended ≡ false) × (before.paused ≡ false)

@@ -13,8 +13,8 @@ use Rattle.net.specs.Seen.{Seen, has_input_ended, received_of, sent_of, open_soc
 abbrev pub OpenAgrees : (ℕ → Option Seen) → List PortRecord → Type 0
 OpenAgrees streams events = (s : ℕ) → is_open s events ≡ is_some (streams s)
 
--- the data of an open session, joined, is what was read from its stream and is told, and what was accepted is what it took; and its
--- input has ended where a read of no bytes came
+-- the data of an open session, joined, is what was read from its stream and is told, and what was
+-- accepted is what it took; and its input has ended where a read of no bytes came
 abbrev pub BytesAgree : (ℕ → Option Seen) → List PortRecord → Type 0
 BytesAgree streams events =
     (s : ℕ) → is_some (streams s) ≡ true
@@ -38,7 +38,8 @@ Ties streams last events ended =
     OpenAgrees streams events × BytesAgree streams events × NoneBehind last events × (is_in was.Ended events ≡ ended)
     × (opened_count events ≡ last)
 
--- an open session has the socket with which it was opened, of those of all sessions from number 1 on
+-- an open session has the socket with which it was opened, of those of all sessions from number 1
+-- on
 abbrev pub SocketsAgree : (ℕ → Option Seen) → List ℤ → Type 0
 SocketsAgree streams sockets =
     (s : ℕ) → is_some (streams s) ≡ true → slice_get sockets (s - 1) ≡ open_socket (streams s)

@@ -102,6 +102,7 @@ KeepsSockets before after = after.sockets.items ≡ before.sockets.items
 abbrev pub TellsNothing : Streams → Streams → Type 0
 TellsNothing before after = (trace_of after ≡ trace_of before) × KeepsSockets before after
 
--- the sessions keep their sockets; after them stand those of the sessions that were opened meanwhile
+-- the sessions keep their sockets; after them stand those of the sessions that were opened
+-- meanwhile
 abbrev pub AddsSockets : Streams → Streams → Type 0
 AddsSockets before after = StartsWith after.sockets.items before.sockets.items

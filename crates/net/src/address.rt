@@ -29,7 +29,8 @@ pub fn is_path(words: &str) -> bool
 ///
 /// # Errors
 ///
-/// BadPath if the path has none of 1 to 107 bytes; BadAddress if there is no IP address and no port.
+/// BadPath if the path has none of 1 to 107 bytes; BadAddress if there is no IP address and no
+/// port.
 pub(crate) fn address_of(words: &str) -> Result<Address<'_>, NetFault>
     ensures { MatchResult result (λ _. IsAddress words.now) (IsBindFault words.now) }
 {

@@ -1,5 +1,5 @@
-//! What connections were closed for, on its way to an operator. Of each reason a port keeps the first one until the listener takes
-//! it, and counts those after it.
+//! What connections were closed for, on its way to an operator. Of each reason a port keeps the
+//! first one until the listener takes it, and counts those after it.
 
 use crate::peer::Peer;
 use crossbeam_queue::ArrayQueue;

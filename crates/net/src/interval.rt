@@ -40,8 +40,8 @@ impl Interval {
         true
     }
 
-    /// As `take`, but turns are due at even times: one that is late by less than the interval makes no later one late. So two of
-    /// them may be closer than the interval.
+    /// As `take`, but turns are due at even times: one that is late by less than the interval makes
+    /// no later one late. So two of them may be closer than the interval.
     pub(crate) fn take_evenly<R: Clock>(&mut self, rt: &R) -> bool {
         let before = self.last;
         if !self.take(rt) {

@@ -1,5 +1,6 @@
-//! Streams that were shut, and are read a little longer. A stream that is closed while input waits unread is reset, and its
-//! peer may lose the last answer; so its sending half is ended first, and what still comes is dropped.
+//! Streams that were shut, and are read a little longer. A stream that is closed while input waits
+//! unread is reset, and its peer may lose the last answer; so its sending half is ended first, and
+//! what still comes is dropped.
 
 use crate::interval::{Interval, have_passed};
 use crate::sockets::EndedStream;
@@ -19,7 +20,8 @@ const LINGER_BYTES: usize = 16 * 1024 * 1024;
 /// The most reads of all of them at a time, if they are no more.
 const READS: usize = 64;
 
-/// The time between two reads of a stream, in milliseconds. A peer that sends on waits as long, and leaves the processors to others.
+/// The time between two reads of a stream, in milliseconds. A peer that sends on waits as long, and
+/// leaves the processors to others.
 const DRAIN_MILLIS: u64 = 4;
 
 #[derive(Drop)]
@@ -90,7 +92,8 @@ impl LingeringStreams {
         self.is_ready = true;
     }
 
-    /// If it is time, drops some of what came, as much of one stream as of another, and closes those that have ended or expired.
+    /// If it is time, drops some of what came, as much of one stream as of another, and closes
+    /// those that have ended or expired.
     pub(crate) fn drain<R: Clock>(&mut self, rt: &R, scratch: &mut [u8]) {
         if self.streams.is_empty() || !self.reading.take(rt) {
             return;

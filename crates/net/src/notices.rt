@@ -17,11 +17,12 @@ pub trait Notices {
     /// Streams can't be accepted, as descriptors or memory are missing: this often so far.
     fn accepts_fail(&mut self, failed: u64);
 
-    /// A connection is closed, as this many more were for the same reason since the last was told. Of each reason one is told in a
-    /// second at most.
+    /// A connection is closed, as this many more were for the same reason since the last was told.
+    /// Of each reason one is told in a second at most.
     fn connection_closed(&mut self, _closing: &Closing, _more: u64) {}
 
-    /// The processor times of the process so far, if they are known. The listener asks at most ten times a second.
+    /// The processor times of the process so far, if they are known. The listener asks at most ten
+    /// times a second.
     fn processor_times(&mut self) -> Option<ProcessorTimes> {
         None
     }

@@ -14,16 +14,17 @@ use crate::read_memory::ReadMemory;
 use crate::sockets::ServedStream;
 use crate::streams::Owner;
 use bytes::{Bytes, BytesMut};
-use exchange::WorkerBatch;
+use exchange::WorkerLane;
 use mio::event::Event;
 use std::alloc::Global;
 use std::collections::VecDeque;
 use std::io::ErrorKind;
 use worker_port::{Gone, MAX_PIECE, ToldHistory};
 
-/// A session that was idle at this many looks in a row, and at one more, is ended. They come at sixteenths of the time that it may
-/// be idle. The first of them may be late by almost one, so that the session was active until the second was due; from then on
-/// that time has passed, and an eighth more since it was active. A process that stood still ends nobody whose input waits.
+/// A session that was idle at this many looks in a row, and at one more, is ended. They come at
+/// sixteenths of the time that it may be idle. The first of them may be late by almost one, so that
+/// the session was active until the second was due; from then on that time has passed, and an
+/// eighth more since it was active. A process that stood still ends nobody whose input waits.
 const LOOKS: u64 = 17;
 
 /// What the input of a stream is doing.
@@ -33,7 +34,8 @@ pub(crate) enum Input {
     Waiting,
     /// Something may be there: the stream stands in the list of those to read.
     Listed,
-    /// Like `Listed`, but the stream is read until it is empty, because no further event may announce what is there.
+    /// Like `Listed`, but the stream is read until it is empty, because no further event may
+    /// announce what is there.
     Draining,
     /// The worker wants no input. The stream may stand in the list still.
     Paused { is_listed: bool },
@@ -44,7 +46,8 @@ pub(crate) enum Input {
 enum Output {
     /// The last write was whole.
     Free,
-    /// The last write was short, after this many looks for idle sessions, and no room was told since.
+    /// The last write was short, after this many looks for idle sessions, and no room was told
+    /// since.
     Blocked(u64),
     /// The last write was short, and room was told since.
     Freed,
@@ -57,7 +60,8 @@ pub(crate) struct Heard {
     is_readable: bool,
     /// No more comes than what is there.
     has_closed: bool,
-    /// The stream is writable. A failed stream counts as writable, so that the next write reports the failure.
+    /// The stream is writable. A failed stream counts as writable, so that the next write reports
+    /// the failure.
     has_room: bool,
 }
 
@@ -93,7 +97,8 @@ pub(crate) struct OpenStream {
     /// Something was heard of since what is ahead was read.
     has_more: bool,
     output: Output,
-    /// How many looks for idle sessions came before its last activity: it sent something, or took some of what it is owed.
+    /// How many looks for idle sessions came before its last activity: it sent something, or took
+    /// some of what it is owed.
     active: u64,
 }
 
@@ -113,8 +118,8 @@ impl OpenStream {
         }
     }
 
-    /// Takes note of what was heard of the stream, after this many looks for idle sessions, and lists it if something may be
-    /// there to read. True if it has room that it had not.
+    /// Takes note of what was heard of the stream, after this many looks for idle sessions, and
+    /// lists it if something may be there to read. True if it has room that it had not.
     pub(crate) fn hear(&mut self, heard: Heard, looks: u64, ready: &mut VecDeque<u64>) -> bool
         ensures seen { seen_of self.new ≡ seen_of self.old }
         ensures listed { Lists heard.session self.old self.new ready.old.items ready.new.items }
@@ -135,8 +140,8 @@ impl OpenStream {
         is_freed
     }
 
-    /// Puts the stream behind those that are to be read, until nothing is there if it drains. Without memory it waits for another
-    /// event.
+    /// Puts the stream behind those that are to be read, until nothing is there if it drains.
+    /// Without memory it waits for another event.
     fn list(&mut self, session: u64, drains: bool, ready: &mut VecDeque<u64>)
         ensures seen { seen_of self.new ≡ then_paused false (seen_of self.old) }
         ensures ahead { self.new.stream.ahead ≡ self.old.stream.ahead }
@@ -151,8 +156,8 @@ impl OpenStream {
         }
     }
 
-    /// Puts the stream before those that are to be read, as something is ahead of it. Without memory it waits for
-    /// another event.
+    /// Puts the stream before those that are to be read, as something is ahead of it. Without
+    /// memory it waits for another event.
     fn list_first(&mut self, session: u64, drains: bool, ready: &mut VecDeque<u64>)
         ensures seen { seen_of self.new ≡ then_paused false (seen_of self.old) }
         ensures ahead { self.new.stream.ahead ≡ self.old.stream.ahead }
@@ -167,13 +172,14 @@ impl OpenStream {
         };
     }
 
-    /// Tells what is ahead, or reads once, if the stream is to be read, after this many looks for idle sessions. It was taken off
-    /// the list, and goes behind the others if more may be there, but before them while something is ahead.
+    /// Tells what is ahead, or reads once, if the stream is to be read, after this many looks for
+    /// idle sessions. It was taken off the list, and goes behind the others if more may be there,
+    /// but before them while something is ahead.
     pub(crate) fn read(
         &mut self,
         owner: Owner,
         session: u64,
-        sender: &WorkerBatch,
+        sender: &WorkerLane,
         alloc: Global,
         scratch: &mut [u8],
         memory: &mut ReadMemory,
@@ -181,7 +187,8 @@ impl OpenStream {
         ready: &mut VecDeque<u64>,
     ) -> Reading
         requires room { length scratch.old ≡ 16384 }
-        requires whose { (sender.now.end.worker ≡ owner.worker) × (sender.now.end.exchange ≡ (seen_of self.old).exchange) }
+        requires whose { (sender.now.end.worker ≡ owner.worker)
+            × (sender.now.end.exchange ≡ (seen_of self.old).exchange) }
         requires asked { (messages : List Message) (rest : List ℕ)
             → Reads owner.dialect (seen_of self.old).received messages rest
             → StartsWith (asks messages) (sent_for sender.now.end.sent session) }
@@ -215,7 +222,7 @@ impl OpenStream {
         &mut self,
         owner: Owner,
         session: u64,
-        sender: &WorkerBatch,
+        sender: &WorkerLane,
         alloc: Global,
         scratch: &mut [u8],
         drains: bool,
@@ -223,7 +230,8 @@ impl OpenStream {
         ready: &mut VecDeque<u64>,
     ) -> Reading
         requires room { length scratch.old ≡ 16384 }
-        requires whose { (sender.now.end.worker ≡ owner.worker) × (sender.now.end.exchange ≡ (seen_of self.old).exchange) }
+        requires whose { (sender.now.end.worker ≡ owner.worker)
+            × (sender.now.end.exchange ≡ (seen_of self.old).exchange) }
         requires asked { (messages : List Message) (rest : List ℕ)
             → Reads owner.dialect (seen_of self.old).received messages rest
             → StartsWith (asks messages) (sent_for sender.now.end.sent session) }
@@ -253,7 +261,7 @@ impl OpenStream {
         &mut self,
         owner: Owner,
         session: u64,
-        sender: &WorkerBatch,
+        sender: &WorkerLane,
         block: BytesMut,
         memory: &mut ReadMemory,
         drains: bool,
@@ -261,7 +269,8 @@ impl OpenStream {
         ready: &mut VecDeque<u64>,
     ) -> Reading
         requires room { (block.items ≡ []) × (0 < block.spare) }
-        requires whose { (sender.now.end.worker ≡ owner.worker) × (sender.now.end.exchange ≡ (seen_of self.old).exchange) }
+        requires whose { (sender.now.end.worker ≡ owner.worker)
+            × (sender.now.end.exchange ≡ (seen_of self.old).exchange) }
         requires asked { (messages : List Message) (rest : List ℕ)
             → Reads owner.dialect (seen_of self.old).received messages rest
             → StartsWith (asks messages) (sent_for sender.now.end.sent session) }
@@ -285,9 +294,10 @@ impl OpenStream {
         }
     }
 
-    /// Tells the first piece of what is ahead. The stream goes before the others if more is ahead, so that all of a
-    /// read is told while it is in the processor's cache. Else it goes behind them if more may have come: it drains,
-    /// the piece is whole, or something was heard of since it was read.
+    /// Tells the first piece of what is ahead. The stream goes before the others if more is ahead,
+    /// so that all of a read is told while it is in the processor's cache. Else it goes behind them
+    /// if more may have come: it drains, the piece is whole, or something was heard of since it was
+    /// read.
     fn tell(&mut self, session: u64, drains: bool, looks: u64, ready: &mut VecDeque<u64>) -> Reading
         requires waits { IsTakenOff self.old }
         requires some { 0 < length self.old.stream.ahead }
@@ -309,8 +319,9 @@ impl OpenStream {
         Reading::Bytes(piece)
     }
 
-    /// Writes once, after this many looks for idle sessions, unless the stream is known to have no room: a short write is tried
-    /// again at each look, as the system tells of room only once there is much of it.
+    /// Writes once, after this many looks for idle sessions, unless the stream is known to have no
+    /// room: a short write is tried again at each look, as the system tells of room only once there
+    /// is much of it.
     pub(crate) fn write(
         &mut self,
         owner: Owner,
@@ -358,7 +369,8 @@ impl OpenStream {
         };
     }
 
-    /// What came meanwhile may not be told again, so the stream is listed, and read until nothing is there.
+    /// What came meanwhile may not be told again, so the stream is listed, and read until nothing
+    /// is there.
     pub(crate) fn resume(&mut self, session: u64, ready: &mut VecDeque<u64>)
         ensures seen { seen_of self.new ≡ then_paused false (seen_of self.old) }
         ensures listed { Lists session self.old self.new ready.old.items ready.new.items }
@@ -377,8 +389,8 @@ impl OpenStream {
         }
     }
 
-    /// Whether the session is to be ended at this look: for long enough it took nothing of what it is owed, or is owed nothing,
-    /// sent nothing, and nothing of it waits to be read.
+    /// Whether the session is to be ended at this look: for long enough it took nothing of what it
+    /// is owed, or is owed nothing, sent nothing, and nothing of it waits to be read.
     pub(crate) fn is_idle(&self, looks: u64) -> bool {
         let is_owed = !matches!(self.output, Output::Free);
         let is_waiting = matches!(self.input, Input::Waiting) && !self.stream.has_ahead();

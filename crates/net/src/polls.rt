@@ -3,12 +3,13 @@
 use std::time::{Clock, Duration, Instant};
 use worker_port::MAX_PIECE;
 
-/// While the worker may not wait, the sockets are polled only at each fourth call in a row that finds nothing, so that a lone
-/// request may be answered before the first of these polls.
+/// While the worker may not wait, the sockets are polled only at each fourth call in a row that
+/// finds nothing, so that a lone request may be answered before the first of these polls.
 const CALLS_EACH_POLL: u32 = 4;
 
-/// The sockets are polled at each so many calls at least, whatever is known, so that a client that sends or reads fast doesn't keep
-/// the others from being heard. Each whole piece of output that was accepted counts as a call.
+/// The sockets are polled at each so many calls at least, whatever is known, so that a client that
+/// sends or reads fast doesn't keep the others from being heard. Each whole piece of output that
+/// was accepted counts as a call.
 const MOST_UNPOLLED: usize = 32;
 
 /// How long a poll waits, in milliseconds: a new stream wakes it.
@@ -17,7 +18,8 @@ const WAIT_MILLIS: u64 = 100;
 /// How long it waits while sessions that were shut are read.
 const DRAINING_WAIT_MILLIS: u64 = 5;
 
-/// The calls in a row that found no event, and the time after the last event for which polls don't wait.
+/// The calls in a row that found no event, and the time after the last event for which polls don't
+/// wait.
 #[derive(Clone, Copy, Default)]
 pub(crate) struct Polls {
     idle_calls: u32,
@@ -76,7 +78,8 @@ impl Polls {
         Some(Duration::from_millis(millis))
     }
 
-    /// Whether a poll is too early to wait. The clock is read only here, so that a busy port never reads it.
+    /// Whether a poll is too early to wait. The clock is read only here, so that a busy port never
+    /// reads it.
     fn spins<R: Clock>(&mut self, rt: &R) -> bool {
         if self.spin.is_zero() {
             return false;

@@ -1,5 +1,5 @@
-//! A worker's port over the streams that its hand is given. What it tells is what was read from its streams
-//! and what they took; no clause says what a socket delivers.
+//! A worker's port over the streams that its hand is given. What it tells is what was read from its
+//! streams and what they took; no clause says what a socket delivers.
 
 ghost use Rattle.std.specs.Prelude.{◌≡◌, ◌≤◌, [], ◌∷◌, true, false, length, IfOk, MatchOption, Some};
 ghost use Rattle.std.specs.Option.{option_map};
@@ -17,7 +17,7 @@ use crate::interval::Interval;
 use crate::peer::Peer;
 use crate::polls::Polls;
 use crate::streams::{Owner, Streams};
-use exchange::{ExchangeName, WorkerBatch};
+use exchange::{ExchangeName, WorkerLane};
 use mio::{Events, Poll};
 use proto::{Gauge, Gauges};
 use std::alloc::Global;
@@ -29,7 +29,8 @@ use worker_port::{CloseReason, Gone, Port, PortEvent, ToldHistory};
 /// Events of one poll.
 const EVENTS: usize = 256;
 
-/// The time between two looks for idle sessions if a session may be idle for a second, in microseconds: a sixteenth of it.
+/// The time between two looks for idle sessions if a session may be idle for a second, in
+/// microseconds: a sixteenth of it.
 const LOOK_MICROS: u64 = 62_500;
 
 /// A worker's port over sockets.
@@ -43,7 +44,8 @@ pub struct MioPort<R: Drop> {
     polls: Polls,
     /// When idle sessions are looked for, if they are ended at all.
     idle_looks: Option<Interval>,
-    /// The hand may have streams: it woke a poll since it was last empty, or a poll returned nothing (a wake can get lost).
+    /// The hand may have streams: it woke a poll since it was last empty, or a poll returned
+    /// nothing (a wake can get lost).
     has_streams: bool,
     /// Some sessions may have been idle for long enough at the last look.
     has_idle: bool,
@@ -85,9 +87,9 @@ impl<R: Wait + Clock + Net + Drop> MioPort<R> {
 }
 
 impl<R: Wait + Clock + Drop> MioPort<R> {
-    /// What the port told agrees with its streams: the open sessions are those with a stream, each with the socket that it
-    /// was opened with; the data of each, joined, and then what is ahead of it is what was read from its stream; and what was
-    /// accepted for it is what its stream took.
+    /// What the port told agrees with its streams: the open sessions are those with a stream, each
+    /// with the socket that it was opened with; the data of each, joined, and then what is ahead of
+    /// it is what was read from its stream; and what was accepted for it is what its stream took.
     pub fn agrees(&self)
         ensures open { OpenAgrees (shown_stream self.now.served.open.entries) (trace_of self.now.served).events }
         ensures bytes { BytesAgree (shown_stream self.now.served.open.entries) (trace_of self.now.served).events }
@@ -105,8 +107,9 @@ impl<R: Wait + Clock + Drop> MioPort<R> {
         self.served.open.get(&session).is_some()
     }
 
-    /// Has the port end idle sessions, as those whose peer has gone: a session that is owed nothing once it sent nothing for
-    /// this many seconds, and one that is owed output once it took none of it for that long; each an eighth later at most.
+    /// Has the port end idle sessions, as those whose peer has gone: a session that is owed nothing
+    /// once it sent nothing for this many seconds, and one that is owed output once it took none of
+    /// it for that long; each an eighth later at most.
     pub fn set_idle_limit(&mut self, seconds: u64)
         ensures { TellsNothing self.old.served self.new.served }
     {
@@ -114,18 +117,18 @@ impl<R: Wait + Clock + Drop> MioPort<R> {
         self.idle_looks = Some(Interval::of(between));
     }
 
-    /// Has the port look on for this many microseconds after an event, before it waits for the next one: until then its polls
-    /// don't wait.
+    /// Has the port look on for this many microseconds after an event, before it waits for the next
+    /// one: until then its polls don't wait.
     pub fn set_spin(&mut self, micros: u32)
         ensures { TellsNothing self.old.served self.new.served }
     {
         self.polls.set_spin(micros);
     }
 
-    /// The next event that is known without a poll: streams that wait in the hand come before what can be read, and that before
-    /// a session that was idle for long enough, so that nobody is ended whose input was heard of. Sessions are numbered from 1,
-    /// and no number is given twice.
-    pub fn next_event(&mut self, sender: &WorkerBatch) -> PortEvent
+    /// The next event that is known without a poll: streams that wait in the hand come before what
+    /// can be read, and that before a session that was idle for long enough, so that nobody is
+    /// ended whose input was heard of. Sessions are numbered from 1, and no number is given twice.
+    pub fn next_event(&mut self, sender: &WorkerLane) -> PortEvent
         requires { HasAskedOnly (trace_of self.old.served) sender.now.end.exchange sender.now.end.worker
             sender.now.end.sent }
         ensures told { Tells (trace_of self.old.served) result (trace_of self.new.served) }
@@ -164,8 +167,9 @@ impl<R: Wait + Clock + Drop> MioPort<R> {
             || (self.has_streams && self.served.len() < self.hand.most_open())
     }
 
-    /// Polls the sockets if no event is known yet and the end isn't to be told, unless it is too early; and now and then even
-    /// so. No poll waits beyond the next look for idle sessions. Returns false if there is no event.
+    /// Polls the sockets if no event is known yet and the end isn't to be told, unless it is too
+    /// early; and now and then even so. No poll waits beyond the next look for idle sessions.
+    /// Returns false if there is no event.
     fn look(&mut self, may_wait: bool) -> bool
         ensures { TellsNothing self.old.served self.new.served }
     {
@@ -239,7 +243,7 @@ impl<R: Wait + Clock + Drop> Port for MioPort<R> {
 
     ghost leads_transitive = { λ _ _ _ _ _. tt };
 
-    fn next(&mut self, may_wait: bool, sender: &WorkerBatch) -> PortEvent {
+    fn next(&mut self, may_wait: bool, sender: &WorkerLane) -> PortEvent {
         if !self.look(may_wait) {
             return PortEvent::Idle;
         }

@@ -1,5 +1,5 @@
-//! Memory for large reads. A port keeps it, and reads into it again once nobody has anything of what was there: so what was
-//! read of all its streams and isn't told yet has a limit.
+//! Memory for large reads. A port keeps it, and reads into it again once nobody has anything of
+//! what was there: so what was read of all its streams and isn't told yet has a limit.
 
 ghost use Rattle.std.specs.Prelude.{◌≡◌, ◌<◌, [], IfSome};
 
@@ -29,7 +29,8 @@ impl ReadMemory {
         })
     }
 
-    /// A block to read into: the first of which nobody has anything, or a new one. None if it has as many as it may have.
+    /// A block to read into: the first of which nobody has anything, or a new one. None if it has
+    /// as many as it may have.
     pub(crate) fn take(&mut self) -> Option<BytesMut>
         ensures { IfSome result (λ block. (block.items ≡ []) × (0 < block.spare)) }
     {

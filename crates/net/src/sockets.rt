@@ -1,5 +1,6 @@
-//! The sockets: what accepts streams, and each stream as it is new, served and ended. A raw stream stands in this file
-//! and in that of the served ones alone: nothing else can read from it or write to it.
+//! The sockets: what accepts streams, and each stream as it is new, served and ended. A raw stream
+//! stands in this file and in that of the served ones alone: nothing else can read from it or write
+//! to it.
 
 ghost use Rattle.std.specs.Prelude.{◌≡◌, [], ◌∷◌, ◌++◌, OnErr, IfOk, IfSome};
 ghost use Rattle.net.specs.Sockets.{socket_of, IsNewLog};
@@ -116,8 +117,8 @@ pub(crate) struct NewStream {
 }
 
 impl NewStream {
-    /// Has the poll tell of the stream under the session's number from now on, for a worker of this exchange. None if the system
-    /// refuses; the stream is closed then.
+    /// Has the poll tell of the stream under the session's number from now on, for a worker of this
+    /// exchange. None if the system refuses; the stream is closed then.
     pub(crate) fn serve(
         self,
         poll: &Poll,
@@ -140,8 +141,8 @@ impl NewStream {
         }
     }
 
-    /// Says that there are too many, and closes the stream. What came is dropped first: the system resets a stream that is
-    /// closed with unread input, and the line might be lost.
+    /// Says that there are too many, and closes the stream. What came is dropped first: the system
+    /// resets a stream that is closed with unread input, and the line might be lost.
     pub(crate) fn refuse(mut self) {
         let _ = self.stream.write(TOO_MANY);
         let _ = self.stream.end_sending();
@@ -161,7 +162,8 @@ pub(crate) struct EndedStream {
 }
 
 impl EndedStream {
-    /// Ends the sending half. None if all of the stream's input was read, or if the system refuses; it is closed then.
+    /// Ends the sending half. None if all of the stream's input was read, or if the system refuses;
+    /// it is closed then.
     pub(crate) fn of(served: ServedStream) -> Option<EndedStream> {
         if served.has_ended {
             return None;

@@ -15,7 +15,7 @@ use crate::open_stream::{Heard, OpenStream, Reading};
 use crate::peer::Peer;
 use crate::read_memory::ReadMemory;
 use crate::sockets::{EndedStream, NewStream, SocketNote};
-use exchange::{ExchangeName, WorkerBatch};
+use exchange::{ExchangeName, WorkerLane};
 use mio::{Events, Poll};
 use proto::{Dialect, Geometry, Trace};
 use std::alloc::{AllocError, Global};
@@ -24,11 +24,12 @@ use std::snapshot::Snapshot;
 use std::time::Clock;
 use worker_port::{Gone, MAX_PIECE, PortEvent, PortNote, PortRecord, ToldHistory};
 
-/// The most sessions of a port that are open at a time, with those that were shut and are read still, unless it is told
-/// another number.
+/// The most sessions of a port that are open at a time, with those that were shut and are read
+/// still, unless it is told another number.
 pub(crate) const OPEN_SESSIONS: usize = 1024;
 
-/// The worker whose port it is, the sizes by which its histories are judged, and the dialect by which it reads.
+/// The worker whose port it is, the sizes by which its histories are judged, and the dialect by
+/// which it reads.
 #[derive(Clone, Copy)]
 pub struct Owner {
     pub geometry: Geometry,
@@ -60,7 +61,8 @@ pub(crate) struct Streams {
     pub(crate) owner: Owner,
     /// The exchange of its worker's end, for clauses alone.
     pub(crate) exchange: ExchangeName,
-    /// By which bytes were given last, for clauses alone. It is kept until the next give, so that it can be compared with others.
+    /// By which bytes were given last, for clauses alone. It is kept until the next give, so that
+    /// it can be compared with others.
     pub(crate) history: Option<ToldHistory>,
     /// The sockets with which the sessions were opened, in their order.
     pub(crate) sockets: Trace<i32>,
@@ -114,7 +116,8 @@ impl Streams {
         self.open.len().saturating_add(self.lingering.streams.len())
     }
 
-    /// Opens a session for a stream, and tells of it. None if the stream can't be served; it is closed then.
+    /// Opens a session for a stream, and tells of it. None if the stream can't be served; it is
+    /// closed then.
     pub(crate) fn open(&mut self, poll: &Poll, stream: NewStream) -> Option<u64>
         requires { GoesOn (trace_of self.old) }
         ensures told { MatchOption result (trace_of self.new ≡ trace_of self.old)
@@ -134,8 +137,8 @@ impl Streams {
         Some(session)
     }
 
-    /// Takes note of what a poll brought, and says whether the hand woke it. An event that isn't of an open stream is of those
-    /// that were shut.
+    /// Takes note of what a poll brought, and says whether the hand woke it. An event that isn't of
+    /// an open stream is of those that were shut.
     pub(crate) fn hear_all(&mut self, events: &Events) -> bool
         ensures { TellsNothing self.old self.new }
     {
@@ -164,7 +167,7 @@ impl Streams {
     }
 
     /// Reads from the streams that may have something, until there is an event to tell.
-    pub(crate) fn next_input(&mut self, sender: &WorkerBatch) -> Option<PortEvent>
+    pub(crate) fn next_input(&mut self, sender: &WorkerLane) -> Option<PortEvent>
         requires goes_on { GoesOn (trace_of self.old) }
         requires asked { HasAskedOnly (trace_of self.old) sender.now.end.exchange sender.now.end.worker
             sender.now.end.sent }
@@ -180,8 +183,9 @@ impl Streams {
         None
     }
 
-    /// Reads at most once from a stream that was taken off the list, if it is open and to be read, and tells what came.
-    fn read(&mut self, session: u64, sender: &WorkerBatch) -> Option<PortEvent>
+    /// Reads at most once from a stream that was taken off the list, if it is open and to be read,
+    /// and tells what came.
+    fn read(&mut self, session: u64, sender: &WorkerLane) -> Option<PortEvent>
         requires goes_on { GoesOn (trace_of self.old) }
         requires asked { HasAskedOnly (trace_of self.old) sender.now.end.exchange sender.now.end.worker
             sender.now.end.sent }
@@ -289,8 +293,8 @@ impl Streams {
         }
     }
 
-    /// Ends a session for good. Its stream is read a little longer, so that its peer sees what it was given, unless all of
-    /// its input was read.
+    /// Ends a session for good. Its stream is read a little longer, so that its peer sees what it
+    /// was given, unless all of its input was read.
     pub(crate) fn shut<R: Clock>(&mut self, rt: &R, session: u64)
         requires { HasOpen session (trace_of self.old) }
         ensures told { trace_of self.new ≡ then_told (Shut session ∷ []) (trace_of self.old) }

@@ -5,7 +5,7 @@ ghost use Rattle.worker_port.specs.Ports.{is_open};
 ghost use Rattle.net.specs.Traces.{trace_of};
 
 use bytes::Bytes;
-use exchange::{Exchange, WorkerBatch};
+use exchange::{Exchange, WorkerLane};
 use net::{Hand, MioPort, Owner};
 use proto::{Dialect, Geometry, Terms};
 use std::alloc::Global;
@@ -41,13 +41,13 @@ fn came_by(event: PortEvent) -> Came {
 #[derive(Drop)]
 pub(crate) struct AskedPort<R: Drop> {
     port: MioPort<R>,
-    end: WorkerBatch,
+    end: WorkerLane,
     ghost whose: { ((trace_of port.served).exchange ≡ end.end.exchange) × ((trace_of port.served).worker ≡ end.end.worker)
         × (end.end.sent ≡ []) },
 }
 
 /// The end of the only worker of an exchange, which has sent nothing.
-fn idle_end<R: Abort>(rt: &R, exchange: Exchange) -> WorkerBatch
+fn idle_end<R: Abort>(rt: &R, exchange: Exchange) -> WorkerLane
     requires { exchange.workers ≡ 1 }
     ensures { (result.end.exchange ≡ exchange.id) × (result.end.worker ≡ 0) × (result.end.sent ≡ []) }
 {

@@ -15,7 +15,8 @@ use std::time::{Clock, Duration, Instant};
 /// How many times a port is asked until it has to have ended.
 const CALLS: usize = 100_000;
 
-/// How many bytes come on the last of some connections. They are kept open until that one has ended.
+/// How many bytes come on the last of some connections. They are kept open until that one has
+/// ended.
 fn read_last<R: Abort>(rt: &R, alloc: Global, streams: Vec<TcpStream>) -> usize {
     match streams.last() {
         Some(last) => read_all(rt, alloc, last).len(),
@@ -171,7 +172,8 @@ where
     panic!(*rt; "some sessions are missing")
 }
 
-/// So many calls that don't wait poll often enough to bring all that has come, and too seldom to be taken not to end.
+/// So many calls that don't wait poll often enough to bring all that has come, and too seldom to be
+/// taken not to end.
 const POLLING_CALLS: usize = 4096;
 
 /// How many sessions a port opens of the streams that have come.
@@ -259,7 +261,8 @@ where
     }
 }
 
-/// How many of `count` further streams a worker that was full is given, where an empty one is given the rest.
+/// How many of `count` further streams a worker that was full is given, where an empty one is given
+/// the rest.
 fn share_of_full<R>(
     rt: &R,
     alloc: Global,

@@ -1,4 +1,5 @@
-//! Tests of what the program calls: its words, the replay, and ports and the listener over real sockets.
+//! Tests of what the program calls: its words, the replay, and ports and the listener over real
+//! sockets.
 #![tactic(auto)]
 
 #[cfg(test)]

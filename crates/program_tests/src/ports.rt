@@ -16,7 +16,8 @@ use worker_port::MAX_PIECE;
 /// How many times a port is asked for an event that has to come.
 const CALLS: usize = 100_000_000;
 
-/// How many times it is asked where none may come. It waits a little from the 8,192nd on, so more would take long.
+/// How many times it is asked where none may come. It waits a little from the 8,192nd on, so more
+/// would take long.
 const FEW_CALLS: usize = 10_000;
 
 /// How often each of some sessions is read that are read in turn.
@@ -117,8 +118,8 @@ fn sent_to<R: Abort>(rt: &R, alloc: Global, client: &TcpStream) -> usize {
     read_all(rt, alloc, client).len()
 }
 
-/// How long it may take until a stream is closed that its peer has closed, in milliseconds. One of which no event is heard is
-/// closed after two seconds.
+/// How long it may take until a stream is closed that its peer has closed, in milliseconds. One of
+/// which no event is heard is closed after two seconds.
 const CLOSED_MILLIS: u64 = 1000;
 
 /// The stream of a session that was shut is ended at once, and closed once its peer has closed it.
@@ -226,8 +227,8 @@ where
     check_next(rt, port, CALLS, Came::Data(1, 7), "a request");
 }
 
-/// The sessions from number 1 on are read in turn, and all of a read comes in a row, as each client has sent another piece
-/// whenever one came.
+/// The sessions from number 1 on are read in turn, and all of a read comes in a row, as each client
+/// has sent another piece whenever one came.
 fn check_in_turn<R>(rt: &R, alloc: Global, port: &mut AskedPort<R>, fast: &[TcpStream])
 where
     R: Wait + Clock + Abort + Drop,
@@ -280,8 +281,8 @@ where
     check_in_turn(rt, alloc, port, clients);
 }
 
-/// Whether a request of this session comes in so few events, while the client of session 1 sends a piece whenever one
-/// was read.
+/// Whether a request of this session comes in so few events, while the client of session 1 sends a
+/// piece whenever one was read.
 fn is_heard<R>(
     rt: &R,
     alloc: Global,
@@ -359,7 +360,8 @@ fn check_pause<R: Wait + Clock + Abort + Drop>(rt: &R, port: &mut AskedPort<R>) 
     port.resume(1);
 }
 
-/// All that is read at once comes in order, though the session is paused in the middle of it, and then the end of its input.
+/// All that is read at once comes in order, though the session is paused in the middle of it, and
+/// then the end of its input.
 fn check_ahead<R>(rt: &R, alloc: Global, port: &mut AskedPort<R>, client: &TcpStream)
 where
     R: Wait + Clock + Abort + Drop,
@@ -403,7 +405,8 @@ fn has_only_input<R: Wait + Clock + Abort + Drop>(
     false
 }
 
-/// The session of a client that speaks again and again, always sooner than its limit in seconds, goes on.
+/// The session of a client that speaks again and again, always sooner than its limit in seconds,
+/// goes on.
 fn check_goes_on<R: Wait + Clock + Abort + Drop>(
     rt: &R,
     port: &mut AskedPort<R>,

@@ -52,8 +52,9 @@ const IN_FORCE: [(&str, &str); 10] = [
     ),
 ];
 
-/// What a replay is told: the size of a segment, how many there are, the moment, the tick, how many workers run, how
-/// much is accepted at once, and which give fails; and whether its dialect is the lenient one.
+/// What a replay is told: the size of a segment, how many there are, the moment, the tick, how many
+/// workers run, how much is accepted at once, and which give fails; and whether its dialect is the
+/// lenient one.
 type Told = ([u64; 7], bool);
 
 /// The words of a replay, and what it is told.

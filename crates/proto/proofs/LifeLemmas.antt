@@ -72,7 +72,8 @@ sets_waiting : (cache : Cache) (t : ℕ) (p : Put) (b : Bool) → b ≡ false �
 sets_waiting cache t p true waits is = absurd (cc waits)
 sets_waiting cache t p false waits is = sets_numbered cache t p (cache.last_cas == 2 ^ 64 - 1) is
 
--- a set stores its entry: its item isn't too large, its deadline hasn't come, and a cas number is left
+-- a set stores its entry: its item isn't too large, its deadline hasn't come, and a cas number is
+-- left
 sets_fitting : (cache : Cache) (t : ℕ) (p : Put) (b : Bool) → has_arrived (deadline_of p.exptime t) t ≡ false
     → (if b then leaving cache TooLarge else put cache t p).reply ≡ Stored
     → Sets (if b then leaving cache TooLarge else put cache t p) t p
@@ -167,7 +168,8 @@ enough_for : (t life deadline width : ℕ) → min (t + life) (t + 8388608) < de
     → t + min life 8388608 < deadline + 2 * width
 enough_for t life deadline width enough = omega arith
 
--- what an entry may get that asks for a life of some seconds is a deadline that stands for the end of this life
+-- what an entry may get that asks for a life of some seconds is a deadline that stands for the end
+-- of this life
 ends : (t life : ℕ) (given : Option ℕ) → 1 ≤ life → MayLive t (Some (t + life)) given → IsEnd t life given
 ends t life None some may = absurd may
 ends t life (Some d) some may =
@@ -189,8 +191,9 @@ waits_until given d u is h = ap (λ (o : Option ℕ). has_arrived o u) is ∙ lt
 gone_from : (given : Option ℕ) (d u : ℕ) → given ≡ Some d → d ≤ u → has_arrived given u ≡ true
 gone_from given d u is h = ap (λ (o : Option ℕ). has_arrived o u) is ∙ le-leb d u h
 
--- what was set to live for some seconds is there at first, and until at most two widths of its bucket before they are over;
--- once they are over it isn't; no flush may have come, and a life above the longest counts as the longest
+-- what was set to live for some seconds is there at first, and until at most two widths of its
+-- bucket before they are over; once they are over it isn't; no flush may have come, and a life
+-- above the longest counts as the longest
 pub lives_its_time : LivesItsTime
 lives_its_time sizes before after t life u p some asked step pending =
     let waits : has_arrived (deadline_of p.exptime t) t ≡ false =

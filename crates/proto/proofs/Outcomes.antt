@@ -1,5 +1,5 @@
--- What each request leaves: it stores no entry or one, and its reply isn't out of memory. All that is said of each outcome
--- follows from that, so a new command is a case of `by_act` alone.
+-- What each request leaves: it stores no entry or one, and its reply isn't out of memory. All that
+-- is said of each outcome follows from that, so a new command is a case of `by_act` alone.
 use Rattle.std.proofs.Common.{◌≡◌, ◌≢◌, ℕ, ℤ, ◌+◌, ◌-◌, ◌%◌, ◌^◌, Bool, true, false, cond, List, [], ◌++◌, Option, Some, None}
 use Rattle.std.proofs.Common.{refl, sym, ap, subst, ◌∙◌, inl, inr}
 use Rattle.std.specs.Prelude.{◌⊎◌, bytes_eq, decimal, if◌then◌else◌, ◌==◌, pos}
@@ -28,7 +28,8 @@ record StoresNone (old : Entries) (done : Outcome) : Type 0 where
   entries : (done.entries ≡ old) ⊎ (((key : List ℕ) × (done.entries ≡ map.remove old key)) ⊎ (done.entries ≡ no_entries))
   stored : done.stored ≡ None
 
--- One is stored, whose deadline is to come. Where the request sets none, it has no deadline or the one of the entry before it.
+-- One is stored, whose deadline is to come. Where the request sets none, it has no deadline or the
+-- one of the entry before it.
 record StoresOne (t : ℕ) (old : Entries) (q : Request) (done : Outcome) : Type 0 where
   key : List ℕ
   entry : Entry
@@ -282,7 +283,8 @@ none_remove old key q = by_key (bytes_eq q key) (get-remove old key q)
     by_key true there = inl (ap deadline_in there)
     by_key false there = inr (ap deadline_in there)
 
--- A request that sets no deadline leaves entries that have none, or the one of the entry in their place.
+-- A request that sets no deadline leaves entries that have none, or the one of the entry in their
+-- place.
 pub none_act : (limit : ℕ) (before : Cache) (t : ℕ) (q : Request) → SetsNoDeadline q
     → AddsNone (found_at before t).entries (act limit (found_at before t) t q).entries
 none_act limit before t q sets =

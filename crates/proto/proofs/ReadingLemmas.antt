@@ -21,7 +21,8 @@ reads_one d piece m spells =
       | inr goes_on ↦ (piece, [], sym (append-nil piece), spells, inr (goes_on, reads_empty d))
     ]
 
--- behind bytes that are read wholly, and as messages that don't end the session, the others are read
+-- behind bytes that are read wholly, and as messages that don't end the session, the others are
+-- read
 pub reads_on : (d : Dialect) (b read more rest : List ℕ) (ms ns : List Message) → b ≡ read ++ more
     → list_any ends_session ms ≡ false → Reads d read ms [] → Reads d more ns rest → Reads d b (ms ++ ns) rest
 reads_on d b read more rest [] ns whole go_on r s =

@@ -16,7 +16,8 @@ pub record GivenAnswer : Type 0 where
 abbrev pub unix_seconds : Option SystemTime → ℕ
 unix_seconds reading = option_map_or (λ (time : SystemTime). system_time_nanos time / 1000000000) reading 0
 
--- the whole seconds between two readings of the monotonic clock, 0 where one of them couldn't be read
+-- the whole seconds between two readings of the monotonic clock, 0 where one of them couldn't be
+-- read
 abbrev pub seconds_between : Option Instant → Option Instant → ℕ
 seconds_between (Some first) (Some now) = (instant_nanos now - instant_nanos first) / 1000000000
 seconds_between _ _ = 0

@@ -17,8 +17,9 @@ use Rattle.proto.specs.Commands.{shows_hits}
 use Rattle.proto.specs.Steps.{Step, IsCarriedOut}
 use Rattle.proto.specs.Tallies.{no_counts, CountsFrom}
 
--- After these answers of the clock, and this moment, each request has one answer more, and its moment: that answer, up to the
--- greatest moment, or the moment before where that is greater. So moments never fall.
+-- After these answers of the clock, and this moment, each request has one answer more, and its
+-- moment: that answer, up to the greatest moment, or the moment before where that is greater. So
+-- moments never fall.
 abbrev pub MomentsFrom : List GivenAnswer → ℕ → List Answered → Type 0
 MomentsFrom told t [] = ⊤
 MomentsFrom told t (e ∷ history) =
@@ -34,8 +35,9 @@ abbrev pub answers_by : List GivenAnswer → List Answered → List GivenAnswer
 answers_by told [] = told
 answers_by told (e ∷ history) = answers_by e.clock history
 
--- The requests are carried out by their steps, one after the other, from the cache before, and these are the caches that they
--- leave. `IsStep` says what a step at a moment is. What a `stats` is told isn't the cache's matter.
+-- The requests are carried out by their steps, one after the other, from the cache before, and
+-- these are the caches that they leave. `IsStep` says what a step at a moment is. What a `stats` is
+-- told isn't the cache's matter.
 abbrev pub Chain : (ℕ → Cache → Request → Reply → Cache → Type 0) → Cache → List Answered → List Cache → Type 0
 Chain IsStep before [] [] = ⊤
 Chain IsStep before (e ∷ history) (after ∷ caches) =
@@ -70,13 +72,15 @@ pub record Legal (sizes : Sizes) (history : List Answered) : Type 0 where
   pub counts : CountsFrom no_counts history
   pub numbers : (worker place : ℕ) (e : Answered) → get_elem? (worker_share history worker) place ≡ some e → e.number ≡ place + 1
 
--- Where no request that stores may be refused memory, each entry that was shows hits, or is a `stats`.
+-- Where no request that stores may be refused memory, each entry that was shows hits, or is a
+-- `stats`.
 abbrev pub RefusesBy : Bool → List Answered → Type 0
 RefusesBy may_refuse history = may_refuse ≡ false → All (λ (e : Answered). e.reply ≡ NoMemory
     → (shows_hits e.request ≡ true) ⊎ (e.request ≡ Stats)) history
 
--- A history that is legal for these sizes, and refuses memory as the terms say. Where they say so, the clock's answers in it are
--- readings of the system's clock, one for each entry, all counted from one start.
+-- A history that is legal for these sizes, and refuses memory as the terms say. Where they say so,
+-- the clock's answers in it are readings of the system's clock, one for each entry, all counted
+-- from one start.
 pub record LegalBy (terms : Terms) (history : List Answered) : Type 0 where
   pub legal : Legal terms.geometry history
   pub read : terms.system_clock ≡ true → (start : ClockStart) × All (IsRead start) (answers_by [] history)

@@ -8,7 +8,8 @@ hit_bytes h =
     ((codes "VALUE " ++ h.key ++ codes " " ++ decimal h.flags ++ codes " " ++ decimal (length h.value)
     ++ option_map_or (λ cas. codes " " ++ decimal cas) h.cas []) ++ codes "\r\n") ++ h.value ++ codes "\r\n"
 
--- how much room is reserved for the text of a hit: key and value, and at most 73 bytes of words, numbers and line ends
+-- how much room is reserved for the text of a hit: key and value, and at most 73 bytes of words,
+-- numbers and line ends
 abbrev pub hit_room : Hit → ℕ
 hit_room h = length h.key + length h.value + 80
 

@@ -16,9 +16,10 @@ pub record HasPut (entries : Entries) (p : Put) : Type 0 where
   pub value : entry.value ≡ p.value
   pub flags : entry.flags ≡ p.flags
 
--- What was set at the moment t to live for some seconds is there at t, and at each later moment u until at most two
--- widths of its bucket before its life is over (a life above the longest is promised as the longest); from the end of its
--- life on it isn't. That is what a request at u finds, where none came in between and no flush has come.
+-- What was set at the moment t to live for some seconds is there at t, and at each later moment u
+-- until at most two widths of its bucket before its life is over (a life above the longest is
+-- promised as the longest); from the end of its life on it isn't. That is what a request at u
+-- finds, where none came in between and no flush has come.
 abbrev pub LivesItsTime : Type 0
 LivesItsTime =
     (sizes : Sizes) (before after : Cache) (t life u : ℕ) (p : Put)

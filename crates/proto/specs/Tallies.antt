@@ -16,7 +16,8 @@ no_counts =
     let none : Tally = record { hits = 0; misses = 0 } in
     record { gets = none; sets = none; cas = none; badvals = 0; deletes = none; incrs = none; decrs = none; touches = none; flushes = 0; refused = 0 }
 
--- how many keys the reply says to be there, or to have been stored, changed or taken out, and how many not to be there
+-- how many keys the reply says to be there, or to have been stored, changed or taken out, and how
+-- many not to be there
 abbrev pub tally_in : Reply → Tally
 tally_in (Values hits) = record { hits = length hits; misses = 0 }
 tally_in Stored = record { hits = 1; misses = 0 }
@@ -60,7 +61,8 @@ counted_by c _ reply = record c { sets = tallied c.sets (tally_in reply).hits (1
 abbrev pub counted : Counts → Request → Reply → Counts
 counted c q reply = if is_no_memory reply then record c { refused = more c.refused 1 } else counted_by c q reply
 
--- each `stats` of a history is told what these counts have become by the entries before it, or was refused memory
+-- each `stats` of a history is told what these counts have become by the entries before it, or was
+-- refused memory
 abbrev pub CountsFrom : Counts → List Answered → Type 0
 CountsFrom c [] = ⊤
 CountsFrom c (e ∷ history) =

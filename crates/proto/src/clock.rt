@@ -16,8 +16,8 @@ pub trait Clock: Drop {
     /// The answers that it gave; None if it doesn't tell them.
     ghost told: { Self → Option (List ℕ) };
 
-    /// Whether the second clock is what the first became, once some answers were given. A clock may say here what
-    /// its answers are.
+    /// Whether the second clock is what the first became, once some answers were given. A clock may
+    /// say here what its answers are.
     ghost leads_to: { Self → Self → Type 0 };
 
     /// The start from which it counts by the system's clock; None if it is another clock.
@@ -36,7 +36,8 @@ pub trait Clock: Drop {
         → leads_to first third };
 }
 
-/// What a clock has answered since it was wrapped up here, for clauses alone. It has no bytes, and only `AskedClock` adds to it.
+/// What a clock has answered since it was wrapped up here, for clauses alone. It has no bytes, and
+/// only `AskedClock` adds to it.
 #[derive(Drop)]
 pub struct ClockAnswers {
     answers: Trace<ClockAnswer>,

@@ -15,8 +15,8 @@ pub struct Tally {
     pub misses: u64,
 }
 
-/// How often requests had which outcome. After the greatest number a count goes on from 0. A request that was refused memory
-/// counts as that alone.
+/// How often requests had which outcome. After the greatest number a count goes on from 0. A
+/// request that was refused memory counts as that alone.
 #[derive(Clone, Copy)]
 pub struct Counts {
     /// The keys that `get` and `gets` asked for.

@@ -17,10 +17,12 @@ use crate::limits::{
 pub enum Dialect {
     /// All of a line counts, and with its end it has at most 2,048 bytes.
     Strict,
-    /// Spaces before a line's end don't count, nor does a zero after the key of a `delete`, and with its end a line has at
-    /// most 32,768 bytes. It has `append`, `prepend`, `touch`, `stats`, `version` and `verbosity` too, doesn't answer `cache_memlimit`
-    /// with `noreply`, drops a data block whose item has more bytes than its number, which is that of the largest item, and goes on
-    /// behind it, reads an exptime from 2^31 to 2^32 - 1 as a negative one, and refuses the binary protocol by its first byte.
+    /// Spaces before a line's end don't count, nor does a zero after the key of a `delete`, and
+    /// with its end a line has at most 32,768 bytes. It has `append`, `prepend`, `touch`, `stats`,
+    /// `version` and `verbosity` too, doesn't answer `cache_memlimit` with `noreply`, drops a data
+    /// block whose item has more bytes than its number, which is that of the largest item, and goes
+    /// on behind it, reads an exptime from 2^31 to 2^32 - 1 as a negative one, and refuses the
+    /// binary protocol by its first byte.
     Lenient(u32),
 }
 
@@ -58,7 +60,8 @@ impl Dialect {
         }
     }
 
-    /// Whether a request has a data block of this size under the key: leniently no item is larger than the largest one.
+    /// Whether a request has a data block of this size under the key: leniently no item is larger
+    /// than the largest one.
     pub(crate) fn fits(self, key: &[u8], size: u64) -> bool
         requires { size ≤ 8388608 }
         ensures { result ≡ fits self (length key.now) size }
@@ -72,8 +75,8 @@ impl Dialect {
         }
     }
 
-    /// What is meant by an exptime that is written so: leniently 2^31 to 2^32 - 1, in which some clients write a negative one,
-    /// are -1.
+    /// What is meant by an exptime that is written so: leniently 2^31 to 2^32 - 1, in which some
+    /// clients write a negative one, are -1.
     pub(crate) fn meant(self, exptime: i64) -> i64
         ensures { result ≡ meant self exptime }
     {
@@ -86,8 +89,9 @@ impl Dialect {
         }
     }
 
-    /// The bytes of the longest message that is kept until it is whole: a line of 32,768 bytes and a data block of a request with
-    /// its end. One of more bytes has a block that is dropped as it comes.
+    /// The bytes of the longest message that is kept until it is whole: a line of 32,768 bytes and
+    /// a data block of a request with its end. One of more bytes has a block that is dropped as it
+    /// comes.
     pub fn most_kept(self) -> usize
         ensures value { result ≡ most_kept self }
         ensures within { result ≤ 1081346 }

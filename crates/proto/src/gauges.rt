@@ -1,4 +1,5 @@
-//! What a `stats` tells beside counts: numbers of which no clause says more than that they stand under these names.
+//! What a `stats` tells beside counts: numbers of which no clause says more than that they stand
+//! under these names.
 
 ghost use Rattle.proto.specs.declared.counts.Counts.{Counts};
 ghost use Rattle.std.specs.Prelude.{IsTrue};
@@ -123,8 +124,8 @@ pub const LISTENER_GAUGES: [Gauge; 8] = [
 /// How many gauges there are.
 const GAUGES: usize = Gauge::MergeLongest as usize + 1;
 
-/// Each gauge that is told as a whole number, with its name, in the order in which they are told. Those that memcached tells as
-/// settings come once more, under their names there.
+/// Each gauge that is told as a whole number, with its name, in the order in which they are told.
+/// Those that memcached tells as settings come once more, under their names there.
 #[tactic(auto, unfolding(crate::specs::StatTexts::names_gauge, crate::specs::StatTexts::count_lines, crate::specs::StatTexts::tally_lines))]
 pub(crate) fn gauge_names() -> [(Gauge, &'static [u8]); 47]
     ensures { (c : Counts) → IsTrue (list_all (λ row. names_gauge c row.1.now) result) }
@@ -180,8 +181,8 @@ pub(crate) fn gauge_names() -> [(Gauge, &'static [u8]); 47]
     ]
 }
 
-/// The names of what a worker tells of itself alone, from its number: how many connections it has, and how many microseconds it
-/// was busy.
+/// The names of what a worker tells of itself alone, from its number: how many connections it has,
+/// and how many microseconds it was busy.
 #[tactic(auto, unfolding(crate::specs::StatTexts::names_gauge, crate::specs::StatTexts::count_lines, crate::specs::StatTexts::tally_lines))]
 pub(crate) fn worker_names(worker: usize) -> (&'static [u8], &'static [u8])
     ensures connections { (c : Counts) → IsTrue (names_gauge c result.0.now) }
@@ -205,12 +206,13 @@ fn micros(duration: Duration) -> u64 {
     seconds.saturating_add(u64::from(duration.subsec_micros()))
 }
 
-/// A number for each gauge, 0 at first, in words of its own: one thread writes them, and others may read them at any time.
+/// A number for each gauge, 0 at first, in words of its own: one thread writes them, and others may
+/// read them at any time.
 #[derive(Drop)]
 pub struct Gauges {
     words: Vec<AtomicU64>,
-    /// How long the thread was busy. While it waits this stands still, and is here twice, and one more; while it doesn't, the time
-    /// that it has waited is here twice.
+    /// How long the thread was busy. While it waits this stands still, and is here twice, and one
+    /// more; while it doesn't, the time that it has waited is here twice.
     busy: AtomicU64,
     /// How long it was busy when it was asked for last.
     busy_before: AtomicU64,
@@ -232,8 +234,8 @@ impl Gauges {
         })
     }
 
-    /// Sets each gauge to its number. A store takes much longer than a load, so a word that has the number already is only
-    /// loaded.
+    /// Sets each gauge to its number. A store takes much longer than a load, so a word that has the
+    /// number already is only loaded.
     pub fn set(&self, values: &[(Gauge, u64)]) {
         for value in values {
             let (gauge, n) = *value;
@@ -276,8 +278,8 @@ impl Gauges {
             .store(micros(waited).wrapping_mul(2), Ordering::Relaxed);
     }
 
-    /// For how many microseconds the thread was busy, this long after it began, by a clock that may have begun a little before its
-    /// own. They don't fall.
+    /// For how many microseconds the thread was busy, this long after it began, by a clock that may
+    /// have begun a little before its own. They don't fall.
     pub fn busy_micros(&self, passed: Duration) -> u64 {
         let word = self.busy.load(Ordering::Relaxed);
         let busy = if word % 2 == 1 {

@@ -12,7 +12,8 @@ pub struct Posted {
     pub request: Request,
 }
 
-/// A request that was executed, with its moment in seconds, the clock's answers up to the one that gave it, and its reply.
+/// A request that was executed, with its moment in seconds, the clock's answers up to the one that
+/// gave it, and its reply.
 #[derive(Drop)]
 pub struct Answered {
     pub worker: usize,

@@ -51,7 +51,8 @@ impl<'a> HitRef<'a> {
     }
 }
 
-/// Hits in the order of the keys asked: of each there is the text that shows it. Contracts see the hits.
+/// Hits in the order of the keys asked: of each there is the text that shows it. Contracts see the
+/// hits.
 #[derive(Drop)]
 pub struct Hits {
     pub(crate) text: Vec<u8>,
@@ -100,8 +101,9 @@ impl Hits {
         self.text.len()
     }
 
-    /// Appends their text and the line that ends it, or changes nothing. If the output is empty and has no more capacity than the
-    /// text, the two buffers are swapped instead of copied. A larger output buffer is kept, since more answers may follow.
+    /// Appends their text and the line that ends it, or changes nothing. If the output is empty and
+    /// has no more capacity than the text, the two buffers are swapped instead of copied. A larger
+    /// output buffer is kept, since more answers may follow.
     pub(crate) fn give(&mut self, out: &mut Vec<u8>) -> Result<(), NoMemory>
         ensures ok { OnOk result
             (out.new.items ≡ out.old.items ++ flat_map hit_bytes self.old ++ codes "END" ++ line_end) }
@@ -142,8 +144,8 @@ fn push_number(text: &mut Vec<u8>, n: u64)
         .unwrap();
 }
 
-/// An empty buffer, which may have memory. It travels with the keys of a `get`, and comes back with the hits: so memory
-/// is used again where it would be freed by one thread and taken by another.
+/// An empty buffer, which may have memory. It travels with the keys of a `get`, and comes back with
+/// the hits: so memory is used again where it would be freed by one thread and taken by another.
 #[derive(Drop)]
 pub struct SpareBuffer {
     pub(crate) bytes: Vec<u8>,

@@ -11,8 +11,8 @@ use std::alloc::Global;
 use std::marker::Model;
 use std::mem;
 
-/// Keys in the order asked, in one piece of memory: a space stands before each. Beside them they have the buffer that they
-/// were lent for their hits, of which no clause speaks.
+/// Keys in the order asked, in one piece of memory: a space stands before each. Beside them they
+/// have the buffer that they were lent for their hits, of which no clause speaks.
 #[derive(Drop)]
 pub struct Keys {
     bytes: Vec<u8>,

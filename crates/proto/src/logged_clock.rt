@@ -1,5 +1,6 @@
-//! The system's clock, which knows, for clauses alone, what was read of it. All that is proved of its times rests on `new` and
-//! `read`, which note what the system answered; no clause says that what it answers goes on.
+//! The system's clock, which knows, for clauses alone, what was read of it. All that is proved of
+//! its times rests on `new` and `read`, which note what the system answered; no clause says that
+//! what it answers goes on.
 
 ghost use Rattle.std.specs.Prelude.{◌≡◌, ◌++◌, ◌∷◌, [], IfSome};
 ghost use Rattle.std.specs.Time.{system_time_nanos, instant_nanos, FitsClock};
@@ -9,15 +10,16 @@ use crate::trace::{Noted, Trace};
 use std::marker::Model;
 use std::time::{self, Instant, SystemTime, UNIX_EPOCH};
 
-/// What was read at the start: the Unix time and the monotonic clock, None if they couldn't be read. Only `LoggedClock` makes
-/// one.
+/// What was read at the start: the Unix time and the monotonic clock, None if they couldn't be
+/// read. Only `LoggedClock` makes one.
 #[derive(Clone, Copy)]
 pub struct ClockStart {
     unix: Option<SystemTime>,
     monotonic: Option<Instant>,
 }
 
-/// One reading of the monotonic clock, None if it couldn't be read, with the start. Only `LoggedClock` makes one.
+/// One reading of the monotonic clock, None if it couldn't be read, with the start. Only
+/// `LoggedClock` makes one.
 #[derive(Clone, Copy)]
 pub struct ClockReading {
     start: ClockStart,
@@ -32,7 +34,8 @@ impl Noted<ClockReading> for ClockReading {
     ghost noted = { λ reading. reading ∷ [] };
 }
 
-/// The system's clock. Its value is its start and the list of its readings; nothing but `read` adds to it.
+/// The system's clock. Its value is its start and the list of its readings; nothing but `read` adds
+/// to it.
 #[derive(Drop)]
 pub struct LoggedClock<R: Drop> {
     rt: R,
@@ -99,7 +102,8 @@ impl ClockStart {
 }
 
 impl ClockReading {
-    /// The whole seconds by the monotonic clock since the start, 0 if it couldn't be read then or now.
+    /// The whole seconds by the monotonic clock since the start, 0 if it couldn't be read then or
+    /// now.
     pub(crate) fn seconds(self) -> u64
         ensures { result ≡ seconds_between self.start.monotonic self.now }
     {

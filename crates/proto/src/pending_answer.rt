@@ -1,5 +1,5 @@
-//! The bytes that answer a message, whether its reply is there already or is still to come. The room of a whole answer is
-//! reserved before its first byte is written.
+//! The bytes that answer a message, whether its reply is there already or is still to come. The
+//! room of a whole answer is reserved before its first byte is written.
 
 ghost use Rattle.std.specs.Prelude.{◌≡◌, ◌++◌, is_some, option_copied, None, IsOk, IsTrue};
 ghost use Rattle.std.specs.Prelude.{OnOk, OnErr};
@@ -67,7 +67,8 @@ pub(crate) enum AnswerKind {
     Fatal(FatalKind),
 }
 
-/// The answer to a message, which is still to be given. Clauses see the message; of its bytes nothing is kept but its kind.
+/// The answer to a message, which is still to be given. Clauses see the message; of its bytes
+/// nothing is kept but its kind.
 #[derive(Drop)]
 pub struct PendingAnswer {
     kind: AnswerKind,
@@ -108,8 +109,9 @@ impl PendingAnswer {
         matches!(self.kind, AnswerKind::Ask | AnswerKind::QuietAsk)
     }
 
-    /// Appends the answer. The buffer of hits may be swapped with that of an empty output (`Hits::give`). NoMemory if out of
-    /// memory: then the output is unchanged. A message without an answer needs no memory.
+    /// Appends the answer. The buffer of hits may be swapped with that of an empty output
+    /// (`Hits::give`). NoMemory if out of memory: then the output is unchanged. A message without
+    /// an answer needs no memory.
     pub fn show(&self, reply: Option<&mut Reply>, out: &mut Vec<u8>) -> Result<(), NoMemory>
         requires { is_some reply ≡ is_ask self.now }
         ensures ok { OnOk result (out.new.items ≡ out.old.items ++ answer self.now (option_copied_mut reply.entry)) }
@@ -161,8 +163,8 @@ impl PendingAnswer {
     }
 }
 
-/// Appends the answer to the message. NoMemory if out of memory: then the output is unchanged. A message without an
-/// answer, as a request with `noreply`, needs no memory.
+/// Appends the answer to the message. NoMemory if out of memory: then the output is unchanged. A
+/// message without an answer, as a request with `noreply`, needs no memory.
 pub fn show(message: &Message, reply: Option<&Reply>, out: &mut Vec<u8>) -> Result<(), NoMemory>
     requires { is_some reply ≡ is_ask message.now }
     ensures ok { OnOk result (out.new.items ≡ out.old.items ++ answer message.now (option_copied reply.entry)) }

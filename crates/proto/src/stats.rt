@@ -91,8 +91,8 @@ fn push_counts(text: &mut Vec<u8>, counts: &Counts) -> Result<(), NoMemory>
     Ok(())
 }
 
-/// The lines of counts, and then those of gauges, of which no clause says more than that they are lines of plain words. Contracts
-/// see the counts.
+/// The lines of counts, and then those of gauges, of which no clause says more than that they are
+/// lines of plain words. Contracts see the counts.
 #[derive(Drop)]
 pub struct StatsText {
     text: Vec<u8>,
@@ -140,7 +140,8 @@ impl StatsText {
         self.with_word(name, buffer.format(n).as_bytes())
     }
 
-    /// The same, of a gauge whose value is a number of microseconds. It is told in seconds, with six digits behind the point.
+    /// The same, of a gauge whose value is a number of microseconds. It is told in seconds, with
+    /// six digits behind the point.
     pub fn with_seconds(
         self,
         alloc: Global,
@@ -172,7 +173,8 @@ impl StatsText {
         Ok(text)
     }
 
-    /// The same with the lines of one worker: how many connections it has, and how many microseconds it was busy.
+    /// The same with the lines of one worker: how many connections it has, and how many
+    /// microseconds it was busy.
     pub fn with_worker(
         self,
         worker: usize,

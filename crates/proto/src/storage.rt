@@ -5,6 +5,7 @@
 pub enum Storage {
     /// The storage thread alone.
     Thread,
-    /// The worker that has posted them, unless another thread executes at that moment, which then executes them too.
+    /// The worker that has posted them, unless another thread executes at that moment, which then
+    /// executes them too.
     Workers,
 }

@@ -10,7 +10,8 @@ use crate::trace::Trace;
 use std::marker::Model;
 use std::time::{self, Instant};
 
-/// One answer of a clock. For contracts only, it knows which reading it came from: only `SystemClock` makes one with a reading.
+/// One answer of a clock. For contracts only, it knows which reading it came from: only
+/// `SystemClock` makes one with a reading.
 #[derive(Drop)]
 pub struct ClockAnswer {
     pub(crate) seconds: u64,
@@ -46,8 +47,8 @@ impl ClockAnswer {
     }
 }
 
-/// The system's clock, in whole seconds: the Unix time of its start, counted on by the monotonic clock, so that its answers
-/// don't jump with the system's time. Its value is what was read.
+/// The system's clock, in whole seconds: the Unix time of its start, counted on by the monotonic
+/// clock, so that its answers don't jump with the system's time. Its value is what was read.
 #[derive(Drop)]
 pub struct SystemClock<R: Drop> {
     log: LoggedClock<R>,

@@ -2,8 +2,8 @@
 
 use crate::geometry::Geometry;
 
-/// The sizes of the cache, whether each moment must be a reading of the system's clock, and whether a request that stores may be
-/// refused memory.
+/// The sizes of the cache, whether each moment must be a reading of the system's clock, and whether
+/// a request that stores may be refused memory.
 #[derive(Clone, Copy)]
 pub struct Terms {
     pub geometry: Geometry,

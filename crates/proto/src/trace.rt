@@ -1,11 +1,13 @@
-//! Lists that only clauses read. They take no memory, and what is noted in them costs nothing at run time.
+//! Lists that only clauses read. They take no memory, and what is noted in them costs nothing at
+//! run time.
 
 ghost use Rattle.std.specs.Prelude.{◌≡◌, List, [], ◌++◌};
 ghost use Rattle.std.specs.Borrow.{ftrue};
 
 use std::marker::{Model, PhantomData};
 
-/// A list, of which nothing is there at run time. It is what its owner noted in it, and tells no more than that.
+/// A list, of which nothing is there at run time. It is what its owner noted in it, and tells no
+/// more than that.
 #[derive(Drop)]
 pub struct Trace<T> {
     of: PhantomData<T>,

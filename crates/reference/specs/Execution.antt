@@ -34,8 +34,8 @@ execution_code =
       clock = record { next = p.1.1.1.0; tick = p.1.1.1.1 };
     }) (λ _. refl)
 
--- The request is executed at the clock's next moment, and has this reply. Nothing is counted, so a `stats` is refused: the
--- strict dialect has none.
+-- The request is executed at the clock's next moment, and has this reply. Nothing is counted, so a
+-- `stats` is refused: the strict dialect has none.
 pub record Executes (old : Execution) (t : ℕ) (q : Request) (reply : Reply) (new : Execution) : Type 0 where
   pub moment_is : t ≡ max old.moment (min (answer_of old.clock 0) max_moment)
   pub first : Reply

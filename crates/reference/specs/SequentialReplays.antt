@@ -20,8 +20,8 @@ use Rattle.reference.specs.SequentialSessions.{Setup, LedTo, AreBytesServed, Fee
 
 -- ---- the promise
 
--- The bytes of a session are read as messages; in the history it has their requests, and what it was given
--- is their answers there.
+-- The bytes of a session are read as messages; in the history it has their requests, and what it
+-- was given is their answers there.
 pub record IsAnsweredIn (history : List Answered) (bytes : List ℕ) (given : SessionOutput) : Type 0 where
   pub messages : List Message
   pub rest : List ℕ
@@ -34,8 +34,9 @@ pub record IsAmong (sessions : List ℕ) (e : Answered) : Type 0 where
   pub worker : e.worker ≡ 0
   pub session : Contains sessions e.session
 
--- Some legal history has entries of worker 0 and of these sessions alone, and the clock's answers and moments. In it
--- each session that was opened has exactly the requests that its bytes spell, and was given exactly their answers.
+-- Some legal history has entries of worker 0 and of these sessions alone, and the clock's answers
+-- and moments. In it each session that was opened has exactly the requests that its bytes spell,
+-- and was given exactly their answers.
 pub record IsReplay (sizes : Sizes) (clock : ClockState) (events : List ScriptEvent)
     (given : List SessionOutput) : Type 0 where
   pub history : List Answered

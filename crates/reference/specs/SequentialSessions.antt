@@ -19,7 +19,8 @@ pub record Setup : Type 0 where
   pub sizes : Sizes
   pub clock : ClockState
 
--- From an empty cache the history has led to this cache and clock. The clock gave its first answers to it.
+-- From an empty cache the history has led to this cache and clock. The clock gave its first answers
+-- to it.
 pub record LedTo (setup : Setup) (history : List Answered) (now : Execution) : Type 0 where
   pub sizes_are : now.sizes ≡ setup.sizes
   pub reaches : Reaches setup.sizes history now.cache now.moment
@@ -45,8 +46,8 @@ pub record HistoryGoesOn (session : ℕ) (old new : List Answered) : Type 0 wher
   pub longer : new ≡ old ++ entries
   pub of_session : AllByRecursion (IsOfSession session) entries
 
--- with further entries of the session the history leads to this, and what was read of the session is
--- answered
+-- with further entries of the session the history leads to this, and what was read of the session
+-- is answered
 pub record LedOnTo (setup : Setup) (session : ℕ) (old : List Answered) (now : Execution) (read output : List ℕ)
     (ended : Bool) : Type 0 where
   pub history : List Answered
@@ -54,16 +55,16 @@ pub record LedOnTo (setup : Setup) (session : ℕ) (old : List Answered) (now : 
   pub led : LedTo setup history now
   pub answered : AreBytesAnswered read (session_share history 0 session) output ended
 
--- The bytes begin with a message of this length, which is executed and answered; or with none, and nothing
--- changes. It is said whether the message ends its session.
+-- The bytes begin with a message of this length, which is executed and answered; or with none, and
+-- nothing changes. It is said whether the message ends its session.
 abbrev pub AnswersNext : Execution → List ℕ → Option (ℕ × Bool) → Execution → List ℕ → List ℕ → Type 0
 AnswersNext old unread None new output after = SpellsNone Strict unread × (new ≡ old) × (after ≡ output)
 AnswersNext old unread (Some (n, ended)) new output after =
     (m : Message) × (n ≤ length unread) × Spells Strict (take n unread) m × (ended ≡ ends_session m)
     × AnswersBehind old m new output after
 
--- The first bytes that are unread, as many as were taken, are messages, which were executed and answered, whatever
--- history and bytes of a session there were before.
+-- The first bytes that are unread, as many as were taken, are messages, which were executed and
+-- answered, whatever history and bytes of a session there were before.
 abbrev pub AnswersAll : Execution → List ℕ → ℕ → Bool → Execution → List ℕ → List ℕ → Type 0
 AnswersAll old unread taken ended new output after =
     (setup : Setup) (session : ℕ) (history : List Answered) (read : List ℕ)
@@ -77,8 +78,8 @@ pub record IsNewSession (number : ℕ) (session : SequentialSession) : Type 0 wh
   pub no_output : session.output.items ≡ []
   pub not_ended : session.ended ≡ false
 
--- The bytes that were sent are messages that are answered, and a rest: what is unread, of which no beginning
--- is a message yet; or anything, where the session has ended.
+-- The bytes that were sent are messages that are answered, and a rest: what is unread, of which no
+-- beginning is a message yet; or anything, where the session has ended.
 pub record AreBytesServed (bytes : List ℕ) (share : List Answered) (session : SequentialSession) : Type 0 where
   pub read : List ℕ
   pub rest : List ℕ
@@ -87,7 +88,8 @@ pub record AreBytesServed (bytes : List ℕ) (share : List Answered) (session : 
   pub unread_is : session.ended ≡ false → rest ≡ session.unread.items
   pub no_more : session.ended ≡ false → SpellsNone Strict rest
 
--- with further entries of the session the history leads to this, and the bytes of the session are served
+-- with further entries of the session the history leads to this, and the bytes of the session are
+-- served
 pub record ServedBy (setup : Setup) (old : List Answered) (now : Execution) (bytes : List ℕ)
     (session : SequentialSession) : Type 0 where
   pub history : List Answered

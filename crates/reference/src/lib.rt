@@ -1,5 +1,5 @@
-//! The plain programs that tests compare with: a store that forgets nothing, and the sequential replay of a script, on one
-//! thread. No part of the program stands on them.
+//! The plain programs that tests compare with: a store that forgets nothing, and the sequential
+//! replay of a script, on one thread. No part of the program stands on them.
 #![tactic(auto)]
 
 mod plain_map;

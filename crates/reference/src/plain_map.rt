@@ -1,4 +1,5 @@
-//! A map that evicts nothing and gives each entry exactly the deadline that it asks for, and the cache over it.
+//! A map that evicts nothing and gives each entry exactly the deadline that it asks for, and the
+//! cache over it.
 
 ghost use Rattle.std.specs.Prelude.{◌≡◌, ℕ, ◌≤◌, ⊤, true, length};
 ghost use Rattle.std.specs.FinMap as finite;
@@ -79,8 +80,9 @@ fn take_out(map: &mut BTreeMap<Vec<u8>, Entry>, key: &[u8])
     map.remove(key);
 }
 
-/// A plain map of live entries. It is there to be compared with. An entry whose deadline has come isn't seen any more,
-/// but it is dropped only when its key is written or deleted, or when all entries are.
+/// A plain map of live entries. It is there to be compared with. An entry whose deadline has come
+/// isn't seen any more, but it is dropped only when its key is written or deleted, or when all
+/// entries are.
 #[derive(Drop)]
 pub struct PlainMap {
     alloc: Global,

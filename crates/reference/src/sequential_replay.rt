@@ -75,9 +75,9 @@ fn outputs(alloc: Global, sessions: Vec<SequentialSession>) -> Result<Vec<Sessio
     Ok(given)
 }
 
-/// Runs the events of one worker, in order, on one thread: each whole message of a session is executed and answered
-/// before the next event. The store is new. Gives each session that was opened, in order of its number, with all bytes
-/// that it was given.
+/// Runs the events of one worker, in order, on one thread: each whole message of a session is
+/// executed and answered before the next event. The store is new. Gives each session that was
+/// opened, in order of its number, with all bytes that it was given.
 ///
 /// # Errors
 ///

@@ -89,8 +89,8 @@ impl<E: StorageEngine + Drop> Executor<E> {
     }
 }
 
-/// Reads and answers the message with which the bytes begin, if there is one. It says how many bytes it
-/// has, and whether it ends the session.
+/// Reads and answers the message with which the bytes begin, if there is one. It says how many
+/// bytes it has, and whether it ends the session.
 fn answer_next<E: StorageEngine + Drop>(
     alloc: Global,
     executor: &mut Executor<E>,

@@ -1,5 +1,5 @@
-//! A store is made after a refusal. Where memory is refused, it keeps its entries, its cas counter, its pending flush
-//! and its moment, and executes the request when it is asked again.
+//! A store is made after a refusal. Where memory is refused, it keeps its entries, its cas counter,
+//! its pending flush and its moment, and executes the request when it is asked again.
 
 use crate::protocol::{is_shown, read_request};
 use engine::{StorageEngine, carry_out};
@@ -7,7 +7,8 @@ use proto::{Geometry, Message, Reply, Request};
 use segcache::Store;
 use std::alloc::Global;
 
-/// Requests that store, show, change, join, touch, expire and flush, and a `stats`, of which a store knows nothing.
+/// Requests that store, show, change, join, touch, expire and flush, and a `stats`, of which a
+/// store knows nothing.
 const INPUTS: [&[u8]; 19] = [
     b"set a 1 0 1\r\nx\r\n",
     b"set b 2 9 2\r\nyy\r\n",
@@ -70,7 +71,8 @@ fn push_once(alloc: Global, store: &mut Store, now: u64, out: &mut Vec<u8>) -> b
     is_pushed
 }
 
-/// Appends what stands in the store, and says whether it is shown at the first, the second or the third try.
+/// Appends what stands in the store, and says whether it is shown at the first, the second or the
+/// third try.
 fn push_entries(alloc: Global, store: &mut Store, now: u64, out: &mut Vec<u8>) -> bool {
     for _ in 0..3 {
         if push_once(alloc, store, now, out) {
@@ -95,7 +97,8 @@ fn is_kept(
     is_shown && is_same && store.pending() == pending && store.last_moment() == now
 }
 
-/// The reply, if the request is executed at the first try, or at the second one while the store is kept.
+/// The reply, if the request is executed at the first try, or at the second one while the store is
+/// kept.
 fn handled(
     alloc: Global,
     store: &mut Store,
@@ -114,7 +117,8 @@ fn handled(
     handle(store, now, request)
 }
 
-/// The reply, if the request is executed at the first or the second try, and a refusal changes nothing.
+/// The reply, if the request is executed at the first or the second try, and a refusal changes
+/// nothing.
 fn reply_to(alloc: Global, store: &mut Store, now: u64, request: &mut Request) -> Option<Reply> {
     let mut before = Vec::new(alloc);
     let reply = if push_entries(alloc, store, now, &mut before) {

@@ -1,8 +1,8 @@
-//! What each layer does if out of memory: the same call made again gives what it would have given. A group of
-//! two workers names a fault before anything was taken or executed, or it answers `NoMemory` or names the
-//! session that it shut for it, and serves the others.
-//! It is run once for each request for memory, which is refused in that run alone, and each run must write the
-//! same text.
+//! What each layer does if out of memory: the same call made again gives what it would have given.
+//! A group of two workers names a fault before anything was taken or executed, or it answers
+//! `NoMemory` or names the session that it shut for it, and serves the others. It is run once for
+//! each request for memory, which is refused in that run alone, and each run must write the same
+//! text.
 #![tactic(auto)]
 
 mod book;

@@ -38,8 +38,8 @@ fn finds_room(pool: &mut Pool, geometry: Geometry, bucket: usize) -> bool
     size_of(item) <= geometry.item_limit() && pool.append(bucket, 0, item).is_ok()
 }
 
-/// Whether all of eight segments are free: no segment is in a chain, eight buckets find room for an item, and a ninth
-/// one finds none.
+/// Whether all of eight segments are free: no segment is in a chain, eight buckets find room for an
+/// item, and a ninth one finds none.
 fn are_free(pool: &mut Pool, geometry: Geometry) -> bool
     requires sizes { pool.old.sizes ≡ geometry }
 {

@@ -33,7 +33,8 @@ pub fn read_request(alloc: Global, input: &[u8]) -> Option<Request> {
     None
 }
 
-/// Whether the answer is appended at the first or the second try, and a refusal leaves what was there.
+/// Whether the answer is appended at the first or the second try, and a refusal leaves what was
+/// there.
 pub fn is_shown(message: &Message, reply: &Reply, out: &mut Vec<u8>) -> bool
     requires { is_ask message.now ≡ true }
 {

@@ -2,7 +2,7 @@
 
 use crate::counters::Counters;
 use bytes::Bytes;
-use exchange::WorkerBatch;
+use exchange::WorkerLane;
 use std::sync::atomic::Ordering;
 use worker_port::{Gone, Port, PortEvent, ToldHistory};
 
@@ -44,7 +44,8 @@ impl Output {
     }
 }
 
-/// Opens sessions 1 and 2, sends each its input unless it was shut, and ends. It counts how often it is asked.
+/// Opens sessions 1 and 2, sends each its input unless it was shut, and ends. It counts how often
+/// it is asked.
 #[derive(Drop)]
 pub struct QuietPort<'a> {
     counters: &'a Counters,
@@ -81,7 +82,7 @@ impl Port for QuietPort<'_> {
 
     ghost leads_to = { λ _ _. Unit {0} };
 
-    fn next(&mut self, _may_wait: bool, _sender: &WorkerBatch) -> PortEvent {
+    fn next(&mut self, _may_wait: bool, _sender: &WorkerLane) -> PortEvent {
         self.counters.events.fetch_add(1, Ordering::SeqCst);
         self.step = self.step.saturating_add(1);
         match self.step {

@@ -25,7 +25,8 @@ use lib.ListN.{get_elem?}
 use Rattle.replaying.specs.Printed.{printed_lines, lines_from, events_of, IsPort, ArePorts, IsPlayedAt}
 use Rattle.storage_thread.proofs.Callers.{or_at, take_zero}
 
--- the bytes joined for each session of a table by its number are those joined for the list of its numbers
+-- the bytes joined for each session of a table by its number are those joined for the list of its
+-- numbers
 pub over_numbers : (f : ℕ → List ℕ) (xs : List ScriptSessionState)
     → flat_map (λ (x : ScriptSessionState). f x.number) xs ≡ flat_map f (numbers xs)
 over_numbers f [] = refl

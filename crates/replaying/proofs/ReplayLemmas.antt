@@ -182,7 +182,8 @@ answers_after told t (e ∷ history) m = let r = answers_after e.clock e.moment 
       ∙ ap (λ (z : ℕ). z ∷ moments_after z (map (λ (a : GivenAnswer). a.seconds) r.0)) m.2,
 )
 
--- if a new clock was asked once for each request of a history, its first answers gave the requests their moments
+-- if a new clock was asked once for each request of a history, its first answers gave the requests
+-- their moments
 timed_by : (clock : ClockState) (told after : RecordingClock) (history : List Answered) → told.clock ≡ clock
     → told.answers.items ≡ [] → MomentsFrom [] 0 history
     → GivesAnswers told after → IsTimed (Some told.answers.items)

@@ -47,8 +47,8 @@ lines_from worker (events ∷ more) = printed_lines worker events ++ lines_from 
 abbrev pub events_of : GroupWorker PortState → List PortRecord
 events_of worker = worker.port.player.records
 
--- the port of a worker of this exchange that tells, over a store of these sizes and in this dialect, with all these events
--- left to play, and with these faults
+-- the port of a worker of this exchange that tells, over a store of these sizes and in this
+-- dialect, with all these events left to play, and with these faults
 abbrev pub IsPort : Sizes → Dialect → TableId → ℕ → ℕ → ℕ → List ScriptEvent → PortState → Type 0
 IsPort sizes d exchange accept fail_give worker events port =
     (is_playable events ≡ true)
@@ -83,9 +83,10 @@ pub record IsReplayStore (sizes : Sizes) (in_place : Bool) (d : Dialect) (evicti
   pub seed : ℕ
   pub new : IsNewStore sizes seed in_place d eviction exact store
 
--- The script has these events for this number of workers. A group of them ran over ports with these events, over a new
--- store that changes values in place or doesn't, evicts by this rule, and keeps deadlines to the second or doesn't, and over a new
--- clock; and what each session was given is printed, in order of worker and session.
+-- The script has these events for this number of workers. A group of them ran over ports with these
+-- events, over a new store that changes values in place or doesn't, evicts by this rule, and keeps
+-- deadlines to the second or doesn't, and over a new clock; and what each session was given is
+-- printed, in order of worker and session.
 pub record IsPrinted (sizes : Sizes) (in_place : Bool) (d : Dialect) (eviction : Eviction) (exact : Bool) (clock : ClockState)
     (workers accept fail_give : ℕ) (text printed : List ℕ) : Type 0 where
   pub scripts : Workers

@@ -26,8 +26,8 @@ use Rattle.script.specs.Clocks.{ClockState, AreTimed}
 use Rattle.script.specs.Scripts.{Workers, AreEventsOf}
 use Rattle.replaying.specs.Printed.{printed_line}
 
--- What came of a session: its bytes that were read, those that it was given, and why it ended; None where it found no
--- room, and was shut at once.
+-- What came of a session: its bytes that were read, those that it was given, and why it ended; None
+-- where it found no room, and was shut at once.
 pub record SessionOutcome : Type 0 where
   pub number : ℕ
   pub came : List ℕ
@@ -44,9 +44,9 @@ MayEnd d messages causes.Stalled = IsLenient d
 MayEnd d messages causes.Quit = last_or None messages ≡ Some Quit
 MayEnd d messages causes.Fatal = (kind : FatalKind) × (last_or None messages ≡ Some (Fatal kind))
 
--- What came of a session spells some messages in this dialect. Its requests in the history are the first of theirs, and
--- it was given a beginning of their answers there; of all messages, and all answers, where it drained or ended by Quit
--- or a fatal line.
+-- What came of a session spells some messages in this dialect. Its requests in the history are the
+-- first of theirs, and it was given a beginning of their answers there; of all messages, and all
+-- answers, where it drained or ended by Quit or a fatal line.
 pub record GivesAnswersOf (d : Dialect) (history : List Answered) (worker : ℕ) (outcome : SessionOutcome)
     (cause : EndCause) : Type 0 where
   pub messages : List Message
@@ -58,9 +58,9 @@ pub record GivesAnswersOf (d : Dialect) (history : List Answered) (worker : ℕ)
       × (outcome.given ≡ said messages (had (session_share history worker outcome.number)))
   pub may_end : MayEnd d messages cause
 
--- A beginning of the bytes that the script sends a session came, and all of them where it drained. One that found no
--- room was given nothing; each other one was given its answers. It ended as gone only where the script says that its
--- peer goes, or a `give` was asked to fail.
+-- A beginning of the bytes that the script sends a session came, and all of them where it drained.
+-- One that found no room was given nothing; each other one was given its answers. It ended as gone
+-- only where the script says that its peer goes, or a `give` was asked to fail.
 pub record IsOutcomeOf (d : Dialect) (history : List Answered) (worker fail_give : ℕ) (script : List ScriptEvent)
     (outcome : SessionOutcome) : Type 0 where
   pub came_first : StartsWith (sent_bytes script outcome.number) outcome.came
@@ -69,8 +69,8 @@ pub record IsOutcomeOf (d : Dialect) (history : List Answered) (worker fail_give
   pub answered : (cause : EndCause) → outcome.cause ≡ Some cause → GivesAnswersOf d history worker outcome cause
   pub gone_by : outcome.cause ≡ Some causes.Gone → (goes_in_script script outcome.number ≡ true) ⊎ (0 < fail_give)
 
--- Each session that the script opens has its outcome, once and in order, and each request of the worker in the history
--- is of one of them.
+-- Each session that the script opens has its outcome, once and in order, and each request of the
+-- worker in the history is of one of them.
 pub record AreOutcomesOf (d : Dialect) (history : List Answered) (worker fail_give : ℕ) (script : List ScriptEvent)
     (outcomes : List SessionOutcome) : Type 0 where
   pub opened_are : map (λ (o : SessionOutcome). o.number) outcomes ≡ sessions_opened script
@@ -84,11 +84,12 @@ outcome_lines worker [] = []
 outcome_lines worker (outcomes ∷ more) =
     flat_map (λ (o : SessionOutcome). printed_line worker o.number o.given) outcomes ++ outcome_lines (worker + 1) more
 
--- What is printed for a script with these bytes where this `give` was asked to fail, or none for 0: some legal history
--- has the clock's first answers and the moments that these give; by it each worker's sessions, those that the script
--- opens, have their outcomes; only a `get` is out of memory; as long as no request sets a deadline and little is stored,
--- it may be read as one that forgets nothing; where deadlines are kept to the second, as one whose entries have those asked for;
--- and a line for each session tells what it was given, in order of worker and session.
+-- What is printed for a script with these bytes where this `give` was asked to fail, or none for 0:
+-- some legal history has the clock's first answers and the moments that these give; by it each
+-- worker's sessions, those that the script opens, have their outcomes; only a `get` is out of
+-- memory; as long as no request sets a deadline and little is stored, it may be read as one that
+-- forgets nothing; where deadlines are kept to the second, as one whose entries have those asked
+-- for; and a line for each session tells what it was given, in order of worker and session.
 pub record IsReplayOf (sizes : Sizes) (d : Dialect) (exact : Bool) (clock : ClockState) (workers fail_give : ℕ)
     (text printed : List ℕ) : Type 0 where
   pub scripts : Workers

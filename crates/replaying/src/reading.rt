@@ -17,7 +17,8 @@ use std::io::{self, ErrorKind, Read};
 /// The most bytes that one read is asked for.
 const PIECE: usize = 8192;
 
-/// The fault if the options' file can't be read: NoMemory if out of memory, else CannotRead with the file's path.
+/// The fault if the options' file can't be read: NoMemory if out of memory, else CannotRead with
+/// the file's path.
 pub fn cannot_read(alloc: Global, options: &Options, error: &io::Error) -> Fault
     ensures { IsReadFault (string_bytes options.entry.now.file) (error_kind error.now) result }
 {

@@ -98,7 +98,8 @@ fn write_lines<W: Write>(
     Ok(())
 }
 
-/// The port of a worker of the exchange for the events of its script, with the faults that the options ask for.
+/// The port of a worker of the exchange for the events of its script, with the faults that the
+/// options ask for.
 fn port_of(
     alloc: Global,
     options: &Options,
@@ -160,16 +161,18 @@ fn new_store(alloc: Global, options: &Options, geometry: Geometry) -> Result<Sto
     )
 }
 
-/// Reads the script, runs a group of workers over it, and prints what each session was given: its worker, its number
-/// and the bytes, a line each, in order of worker and session. What was printed before a fault stays printed.
+/// Reads the script, runs a group of workers over it, and prints what each session was given: its
+/// worker, its number and the bytes, a line each, in order of worker and session. What was printed
+/// before a fault stays printed.
 ///
 /// Gives the bytes that the script's reads gave, for clauses alone.
 ///
 /// # Errors
 ///
-/// CannotRead if a read of the script fails; Script if it is too large or a line has a fault; Exchange if the options ask
-/// for none or for more than 8 workers, or memory for the exchange is refused; Group if a thread can't be started, or the
-/// group has no memory; CannotWrite if a line can't be printed; NoMemory if out of memory elsewhere.
+/// CannotRead if a read of the script fails; Script if it is too large or a line has a fault;
+/// Exchange if the options ask for none or for more than 8 workers, or memory for the exchange is
+/// refused; Group if a thread can't be started, or the group has no memory; CannotWrite if a line
+/// can't be printed; NoMemory if out of memory elsewhere.
 pub fn replay<H: Runtime, R: Read + Drop, W: Write>(
     rt: &H,
     alloc: Global,
@@ -185,7 +188,8 @@ pub fn replay<H: Runtime, R: Read + Drop, W: Write>(
         (clock_at options.entry.now.now options.entry.now.tick) options.entry.now.workers options.entry.now.fail_give read.items printed
         × Appends (W.contents out.old) (W.contents out.new) printed) }
 
-    // it is a group's run over ports with the faults that the options ask for, and over a store as they say
+    // it is a group's run over ports with the faults that the options ask for, and over a store as
+    // they say
     ensures ran { IfOk result (λ read. (printed : List ℕ)
         × IsPrinted geometry options.entry.now.update_in_place options.entry.now.dialect options.entry.now.eviction
         options.entry.now.exact_ttls

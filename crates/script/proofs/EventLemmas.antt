@@ -69,7 +69,8 @@ pub record TakenOut (n : ℕ) (o : ℕ → Bool) (e : ScriptEvent) (rest : List 
   pub may : may_follow n o e ≡ true
   pub rest_plays : plays_from (newest_after n e) (λ t. open_after t (o t) e) rest ≡ true
 
--- where two accounts of the open sessions agree on an event's session, they agree on whether the event may come
+-- where two accounts of the open sessions agree on an event's session, they agree on whether the
+-- event may come
 may_same : (n : ℕ) (o o' : ℕ → Bool) (e : ScriptEvent) → o (event_session e) ≡ o' (event_session e)
     → may_follow n o e ≡ may_follow n o' e
 may_same n o o' (Open s) h = refl
@@ -86,7 +87,8 @@ swapped e x t b ne =
     ap (λ c. open_after t c e) (after_other x t b apart) ∙ sym (after_other x t (open_after t b e) apart))
     (λ other. after_other e t (open_after t b x) other ∙ ap (λ c. open_after t c x) (sym (after_other e t b other)))
 
--- an event may be played ahead of those in front of it, if they are of other sessions, of none above the newest
+-- an event may be played ahead of those in front of it, if they are of other sessions, of none
+-- above the newest
 pub take_out : (n : ℕ) (o : ℕ → Bool) (xs : List ScriptEvent) (e : ScriptEvent) (ys : List ScriptEvent)
     → AllByRecursion (IsApart n e) xs → plays_from n o (xs ++ e ∷ ys) ≡ true → TakenOut n o e (xs ++ ys)
 take_out n o [] e ys apart h = record {

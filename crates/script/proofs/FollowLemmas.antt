@@ -25,11 +25,13 @@ use Rattle.proto.proofs.CountLemmas.{either_way}
 
 -- ---- lists of events, and of records
 
--- two lists of events, one after the other, send a session the bytes of the first and then those of the second
+-- two lists of events, one after the other, send a session the bytes of the first and then those of
+-- the second
 sent_more : (xs ys : List ScriptEvent) (s : ℕ) → sent_bytes (xs ++ ys) s ≡ sent_bytes xs s ++ sent_bytes ys s
 sent_more xs ys s = flat_map-append (sent_by s) xs ys
 
--- two lists of events, one after the other, open the sessions of the first and then those of the second
+-- two lists of events, one after the other, open the sessions of the first and then those of the
+-- second
 opens_more : (xs ys : List ScriptEvent)
     → script.sessions_opened (xs ++ ys) ≡ script.sessions_opened xs ++ script.sessions_opened ys
 opens_more xs ys = filter_map-append script.session_opened_by xs ys

@@ -34,7 +34,8 @@ pub filter_same : (p q : ScriptEvent → Bool) (xs : List ScriptEvent) → ((x :
     → filter p xs ≡ filter q xs
 filter_same p q xs h = ap (λ (f : ScriptEvent → Bool). filter f xs) (λ i x. h x i)
 
--- an event in front of a list is kept by two tests at once exactly as by the first and then by the second
+-- an event in front of a list is kept by two tests at once exactly as by the first and then by the
+-- second
 cond_and : (a b : Bool) (x : ScriptEvent) (xs : List ScriptEvent) (q : ScriptEvent → Bool) → q x ≡ b
     → cond (a && b) (x ∷ filter q xs) (filter q xs) ≡ filter q (cond a (x ∷ xs) xs)
 cond_and true b x xs q e = ap (λ c. cond c (x ∷ filter q xs) (filter q xs)) (sym e)
@@ -130,7 +131,8 @@ paused_before ss (x ∷ xs) h =
     (paused_here (is_left ss x) (is_session_paused ss (event_session x)) h.0 yes, paused_before ss xs h.1))
     (λ no. subst (λ b. P (cond b (x ∷ events_left ss xs) (events_left ss xs))) (sym no) (paused_before ss xs h.1))
 
--- events of paused sessions aren't of a session that isn't paused, nor of one above a bound of the table's numbers
+-- events of paused sessions aren't of a session that isn't paused, nor of one above a bound of the
+-- table's numbers
 pub apart_before : (ss : List ScriptSessionState) (n : ℕ) (e : ScriptEvent) (xs : List ScriptEvent)
     → ((s : ℕ) (x : ScriptSessionState) → session_entry ss s ≡ Some x → s ≤ n) → is_session_paused ss (event_session e) ≡ false
     → AllByRecursion (λ (x : ScriptEvent). is_session_paused ss (event_session x) ≡ true) xs → AllByRecursion (IsApart n e) xs
@@ -155,15 +157,16 @@ pub record AroundFirst (p : Player) (e : ScriptEvent) (before after : List Scrip
       → TakenOut (newest p.sessions) (is_session_open p.sessions) e
       (events_left p.sessions before ++ events_left p.sessions after)
 
--- what is left of a list around an event that is left: what is left before it, the event, what is left after it
+-- what is left of a list around an event that is left: what is left before it, the event, what is
+-- left after it
 pub left_with : (ss : List ScriptSessionState) (xs : List ScriptEvent) (e : ScriptEvent) (ys : List ScriptEvent)
     → is_left ss e ≡ true
     → events_left ss (xs ++ e ∷ ys) ≡ events_left ss xs ++ e ∷ events_left ss ys
 left_with ss xs e ys stays = filter-append (is_left ss) xs (e ∷ ys)
     ∙ ap (λ b. events_left ss xs ++ cond b (e ∷ events_left ss ys) (events_left ss ys)) stays
 
--- only events of paused sessions are left in front of the first that a consistent player may play now,
--- and where the script may be played as it stands, this one may come before them
+-- only events of paused sessions are left in front of the first that a consistent player may play
+-- now, and where the script may be played as it stands, this one may come before them
 pub around : (p : Player) (e : ScriptEvent) → IsPlayerConsistent p → (f : IsFirst p e)
     → AroundFirst p e p.events.aside f.after
 around p e k f =
@@ -187,8 +190,8 @@ around p e k f =
 
 -- ---- one more entry of the list
 
--- if one more record is about one session, and only its entry changes, and as the record says, the table still agrees
--- with the list
+-- if one more record is about one session, and only its entry changes, and as the record says, the
+-- table still agrees with the list
 pub each_step : (ss ss' : List ScriptSessionState) (l l' : List PortRecord) (x : PortRecord) (s : ℕ)
     → ((t : ℕ) → Agrees (session_entry ss t) (port_facts l t)) → l' ≡ l ++ x ∷ []
     → ((t : ℕ) → t ≢ s → about t x ≡ false)
@@ -290,7 +293,8 @@ and_yes : (a b : Bool) → b ≡ false → (a && not b) ≡ a
 and_yes true b e = ap not e
 and_yes false b e = refl
 
--- if a session is closed and the others are as before, the events that are left are those of before without the session's
+-- if a session is closed and the others are as before, the events that are left are those of before
+-- without the session's
 pub left_without : (ss ss' : List ScriptSessionState) (s : ℕ) (xs : List ScriptEvent) → was_closed ss' s ≡ true
     → ((t : ℕ) → t ≢ s → was_closed ss' t ≡ was_closed ss t) → events_left ss' xs ≡ events_without s (events_left ss xs)
 left_without ss ss' s xs closed others =
@@ -305,7 +309,8 @@ left_without ss ss' s xs closed others =
 
 -- ---- what was put aside
 
--- if each event that may not be played in one table may not be in another, none of those aside may be
+-- if each event that may not be played in one table may not be in another, none of those aside may
+-- be
 pub none_ready : (ss ss' : List ScriptSessionState) (xs : List ScriptEvent)
     → ((x : ScriptEvent) → is_ready ss x ≡ false → is_ready ss' x ≡ false) → NoneReady ss xs → NoneReady ss' xs
 none_ready ss ss' [] h k = tt
@@ -361,7 +366,8 @@ brought_back stay r =
 
 -- ---- what one session's change makes of the list
 
--- if bytes are put after a session's output and recorded as accepted, its entry still agrees with the list
+-- if bytes are put after a session's output and recorded as accepted, its entry still agrees with
+-- the list
 pub agrees_accepted : (ss ss' : List ScriptSessionState) (l : List PortRecord) (s : ℕ) (b : List ℕ)
     (x : ScriptSessionState)
     → ChangesScriptSession ss s (with_output b) ss' → session_entry ss s ≡ Some x → Agrees (session_entry ss s) (port_facts l s)
@@ -407,7 +413,8 @@ agrees_shut ss ss' l s x a e h =
     (sym (a.here ∙ ap (option_map (with_stage Closed)) e))
     (subst (Agrees (Some (with_stage Closed x))) (sym (shut_here l s)) new)
 
--- if a session that stays open, or stays closed, gets another stage, its entry still agrees with the list
+-- if a session that stays open, or stays closed, gets another stage, its entry still agrees with
+-- the list
 pub agrees_stage : (ss ss' : List ScriptSessionState) (l : List PortRecord) (s : ℕ) (stage : Stage)
     (x : ScriptSessionState)
     → ChangesScriptSession ss s (with_stage stage) ss' → session_entry ss s ≡ Some x → is_closed stage ≡ is_closed x.stage
@@ -425,7 +432,8 @@ agrees_stage ss ss' l s stage x a e same h =
 none_some : (x : ScriptSessionState) → None ≡ Some x → ⊥
 none_some x e = cc
 
--- a player that hasn't ended, with no sessions, no records, no `give` to fail and its whole script to play, is consistent
+-- a player that hasn't ended, with no sessions, no records, no `give` to fail and its whole script
+-- to play, is consistent
 pub no_sessions : (p : Player) → p.sessions ≡ [] → p.records ≡ [] → p.ended ≡ false → p.fail_give ≡ 0
     → (is_playable p.script ≡ true → plays_from 0 (λ (t : ℕ). false) (in_order p.events) ≡ true)
     → in_order p.events ≡ p.script → p.events.aside ≡ []

@@ -51,7 +51,8 @@ replaced (suc ahead) [] e x after is = absurd (cc)
 replaced (suc ahead) (y ∷ ring) e x after is =
     let rest_is : take ahead ring ≡ after = cc in λ i. record { aside = drop ahead ring; rest = x ∷ rest_is i }
 
--- once the ring is turned back by all but the events of the rest and those that stay aside, the others are of the rest
+-- once the ring is turned back by all but the events of the rest and those that stay aside, the
+-- others are of the rest
 pub turned_back : (ahead stay n m : ℕ) (ring : List ScriptEvent) → ahead + stay ≤ length ring → n ≡ length ring
     → m ≡ length ring
     → in_ring (ahead + (n - ahead - stay)) (drop (m - (n - ahead - stay)) ring ++ take (m - (n - ahead - stay)) ring)

@@ -96,7 +96,8 @@ numbers_set [] i y lt e = absurd (omega arith)
 numbers_set (x ∷ xs) zero y lt e = λ j. sym (e x) j ∷ numbers xs
 numbers_set (x ∷ xs) (suc i) y lt e = ap (λ l. x.number ∷ l) (numbers_set xs i y (omega arith) (λ d. e d))
 
--- an entry that replaces one with the same number is found under this number, if no entry before it has the number
+-- an entry that replaces one with the same number is found under this number, if no entry before it
+-- has the number
 set_here : (xs : List ScriptSessionState) (i : ℕ) (y : ScriptSessionState)
     → ((j : ℕ) (e : ScriptSessionState) → j < i → (get_or xs j e).number ≢ y.number) → i < length xs
     → session_entry (slice_set xs i y) y.number ≡ Some y
@@ -108,7 +109,8 @@ set_here (x ∷ xs) (suc i) y other lt =
     (ne_eqb x.number y.number (other 0 x (omega arith)))
     ∙ set_here xs i y (λ j e below. other (suc j) e (omega arith)) (omega arith)
 
--- if the entry at a place is replaced by one with the same number, each other number is found as before
+-- if the entry at a place is replaced by one with the same number, each other number is found as
+-- before
 pub set_other : (xs : List ScriptSessionState) (i : ℕ) (y : ScriptSessionState) (t : ℕ) → i < length xs
     → ((d : ScriptSessionState) → (get_or xs i d).number ≡ y.number) → t ≢ y.number
     → session_entry (slice_set xs i y) t ≡ session_entry xs t
@@ -153,7 +155,8 @@ pub rises_set : (xs : List ScriptSessionState) (s at : ℕ) (y : ScriptSessionSt
     → IsStrictlyIncreasing (numbers (slice_set xs at y))
 rises_set xs s at y h lt is y_is = subst IsStrictlyIncreasing (sym (numbers_set xs at y lt (λ d. is d ∙ sym y_is))) h
 
--- if the entry at a session's place is replaced by what a change makes of it, the session changes so, and the others stay
+-- if the entry at a session's place is replaced by what a change makes of it, the session changes
+-- so, and the others stay
 changed : (xs : List ScriptSessionState) (s at : ℕ) (f : ScriptSessionState → ScriptSessionState)
     (x : ScriptSessionState) → IsStrictlyIncreasing (numbers xs)
     → at < length xs → ((e : ScriptSessionState) → (get_or xs at e).number ≡ s) → x ≡ get_or xs at x → (f x).number ≡ s
@@ -176,7 +179,8 @@ pub stage_changed : (xs : List ScriptSessionState) (s at : ℕ) (stage : Stage) 
 stage_changed xs s at stage x h lt is x_is =
     changed xs s at (with_stage stage) x h lt is x_is (ap (λ (z : ScriptSessionState). z.number) x_is ∙ is x)
 
--- if the entry at an open session's place gets bytes after its output, the session accepts them, and the others stay
+-- if the entry at an open session's place gets bytes after its output, the session accepts them,
+-- and the others stay
 pub output_added : (xs : List ScriptSessionState) (s at : ℕ) (bytes : List ℕ) (x : ScriptSessionState)
     → IsStrictlyIncreasing (numbers xs)
     → at < length xs → ((e : ScriptSessionState) → (get_or xs at e).number ≡ s) → x ≡ get_or xs at x

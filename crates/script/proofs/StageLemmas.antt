@@ -40,7 +40,8 @@ stage_left : (p : Player) (ss' : List ScriptSessionState) (r : RemainingState) (
 stage_left p ss' r s stage h = ap (events_left ss') h.order
     ∙ left_same p.sessions ss' (in_order p.events) (stage_closed p ss' r s stage h)
 
--- a player that is consistent is so with another stage of an open session, if none of those aside may be played
+-- a player that is consistent is so with another stage of an open session, if none of those aside
+-- may be played
 pub stage_consistent : (p : Player) (ss' : List ScriptSessionState) (r : RemainingState) (s : ℕ) (stage : Stage)
     → IsPlayerConsistent p → ChangesStage p ss' r s stage → NoneReady ss' r.aside
     → IsPlayerConsistent (record p { sessions = ss'; events = r })

@@ -83,8 +83,8 @@ first_of_rest p q e same is ready running =
 abbrev pub fresh : ℕ → ScriptSessionState
 fresh s = record { number = s; stage = Playing; output = [] }
 
--- a player opens a session with a number above all before it and records it; the event is gone from those to play,
--- and nothing else changes
+-- a player opens a session with a number above all before it and records it; the event is gone from
+-- those to play, and nothing else changes
 pub record OpensTo (p q : Player) (s : ℕ) (after : List ScriptEvent) : Type 0 where
   pub newer : newest p.sessions < s
   pub sessions_are : q.sessions ≡ p.sessions ++ fresh s ∷ []
@@ -125,7 +125,8 @@ test_added p ss s none failed t =
     ∙ sym (ap (λ (u : ℕ). is_some_and p (session_entry ss u)) eq ∙ ap (is_some_and p) none))
     (λ ne. ap (is_some_and p) (entry_behind ss (fresh s) t (λ e. ne (sym e))))
 
--- with a new session after the table, those sessions are open that are open after the event that opens it
+-- with a new session after the table, those sessions are open that are open after the event that
+-- opens it
 open_added : (ss : List ScriptSessionState) (s : ℕ) → session_entry ss s ≡ None → (t : ℕ)
     → is_session_open (ss ++ fresh s ∷ []) t ≡ open_after t (is_session_open ss t) (Open s)
 open_added ss s none t =
@@ -139,7 +140,8 @@ open_added ss s none t =
     (entry_behind ss (fresh s) t (λ e. ne (sym e)))
     ∙ sym (ap (λ b. cond b true (is_session_open ss t)) (ne_eqb s t (λ e. ne (sym e)))))
 
--- where the list said nothing of a session and now says that it was opened, the entry of a new session agrees with it
+-- where the list said nothing of a session and now says that it was opened, the entry of a new
+-- session agrees with it
 agrees_opened : (l : List PortRecord) (s : ℕ) → Agrees None (port_facts l s)
     → Agrees (Some (fresh s)) (port_facts (l ++ was.Opened s ∷ []) s)
 agrees_opened l s h = subst (Agrees (Some (fresh s))) (sym (opened_here l s)) (refl, (λ i. h.1 i || h.2 i), h.3)
@@ -221,7 +223,8 @@ pub old_sessions : (p : Player) → IsPlayerConsistent p → (t : ℕ) → is_in
 old_sessions p k t e = let x = not_opened (session_entry p.sessions t) (port_facts p.records t) (k.each t) e in
     k.rising t x.0 x.1
 
--- where the script may be played as it stands, a session that a running player opens next comes as it may
+-- where the script may be played as it stands, a session that a running player opens next comes as
+-- it may
 pub open_told : (p q : Player) (s : ℕ) (k : IsPlayerConsistent p) (f : IsFirst p (Open s))
     → OpensTo p q s f.after
     → p.ended ≡ false → is_playable p.script ≡ true
@@ -262,8 +265,8 @@ open_told p q s k f o running tells =
 
 -- ---- the next piece of a send
 
--- a player hands out the next piece of a send and records it; what is left of the send takes its place,
--- and nothing else changes
+-- a player hands out the next piece of a send and records it; what is left of the send takes its
+-- place, and nothing else changes
 pub record SendsTo (p q : Player) (s : ℕ) (bytes : List ℕ) (after : List ScriptEvent) : Type 0 where
   pub sessions_are : q.sessions ≡ p.sessions
   pub records_are : q.records ≡ p.records ++ was.Data s (take 16384 bytes) ∷ []
@@ -292,7 +295,8 @@ left_around : (ss : List ScriptSessionState) (xs ys zs : List ScriptEvent)
 left_around ss xs ys zs = filter-append (is_left ss) (xs ++ ys) zs
     ∙ ap (λ (l : List ScriptEvent). l ++ events_left ss zs) (filter-append (is_left ss) xs ys)
 
--- once a piece is handed out, what is left of the send stands in its place among the events that are left
+-- once a piece is handed out, what is left of the send stands in its place among the events that
+-- are left
 send_left : (p q : Player) (s : ℕ) (bytes : List ℕ) (after : List ScriptEvent) → SendsTo p q s bytes after
     → is_left p.sessions (Send s bytes) ≡ true
     → events_left q.sessions (in_order q.events)
@@ -305,7 +309,8 @@ send_left p q s bytes after o stays =
     ∙ left_around ss before (send_after s bytes) after
     ∙ ap (λ (l : List ScriptEvent). events_left ss before ++ l ++ events_left ss after) (rest_left ss s bytes stays)
 
--- events that may come with a send among them, and once it was taken out first, may come with its rest in its place
+-- events that may come with a send among them, and once it was taken out first, may come with its
+-- rest in its place
 rest_plays : (n : ℕ) (o : ℕ → Bool) (xs : List ScriptEvent) (s : ℕ) (bytes : List ℕ) (ys : List ScriptEvent)
     → plays_from n o (xs ++ Send s bytes ∷ ys) ≡ true → TakenOut n o (Send s bytes) (xs ++ ys)
     → plays_from n o (xs ++ send_after s bytes ++ ys) ≡ true
@@ -369,7 +374,8 @@ send_consistent p q s bytes k f o =
 short_take : (n : ℕ) (xs : List ℕ) → length (take n xs) ≤ n
 short_take n xs = omega (arith, length-take n xs)
 
--- where the script may be played as it stands, a piece that a running player hands out next comes as it may
+-- where the script may be played as it stands, a piece that a running player hands out next comes
+-- as it may
 pub send_told : (p q : Player) (s : ℕ) (bytes : List ℕ) (k : IsPlayerConsistent p) (f : IsFirst p (Send s bytes))
     → SendsTo p q s bytes f.after → p.ended ≡ false → is_playable p.script ≡ true
     → TellsNext (player_state p) (event.Data s (take 16384 bytes)) (player_state q)
@@ -437,7 +443,8 @@ without_gone s xs ys =
     (eq-eqb s s refl)
     ∙ sym (filter-append (λ (e : ScriptEvent). not (event_session e == s)) xs ys)
 
--- once a session is closed, the same events are left when the one with which its peer goes is taken away
+-- once a session is closed, the same events are left when the one with which its peer goes is taken
+-- away
 gone_left : (p m q : Player) (s : ℕ) (f : IsFirst p (Gone s)) → RecordsClose p s (was.Gone s) m
     → GoesTo m q f.after
     → events_left m.sessions (in_order q.events) ≡ events_left m.sessions (in_order m.events)
@@ -447,7 +454,8 @@ gone_left p m q s f c g =
     ∙ ap (λ (l : List ScriptEvent). events_left m.sessions (m.events.aside ++ l))
     (sym (ap (λ (e : RemainingState). e.rest) c.events_are ∙ f.rest_is))
 
--- a player that is consistent once it has closed a session is so once the event with which the peer goes is taken away
+-- a player that is consistent once it has closed a session is so once the event with which the peer
+-- goes is taken away
 pub gone_consistent : (p m q : Player) (s : ℕ) → IsPlayerConsistent p → (f : IsFirst p (Gone s))
     → RecordsClose p s (was.Gone s) m
     → GoesTo m q f.after → IsPlayerConsistent m → IsPlayerConsistent q
@@ -467,7 +475,8 @@ gone_consistent p m q s old f c g k =
       may_fail = k.may_fail;
     })
 
--- where the script may be played as it stands, a peer that goes next from a running player goes as it may
+-- where the script may be played as it stands, a peer that goes next from a running player goes as
+-- it may
 pub gone_told : (p m q : Player) (s : ℕ) (k : IsPlayerConsistent p) (f : IsFirst p (Gone s))
     → RecordsClose p s (was.Gone s) m
     → GoesTo m q f.after → p.ended ≡ false → is_playable p.script ≡ true
@@ -562,7 +571,8 @@ IsFirstOf r e = (r.rest ≡ e ∷ drop 1 r.rest) ⊎ ((r.rest ≡ []) × (r.asid
 some_length : (xs : List ScriptEvent) (e : ScriptEvent) (ys : List ScriptEvent) → xs ≡ e ∷ ys → 0 < length xs
 some_length xs e ys is = let k = ap length is in omega (arith, k)
 
--- the first event, of a closed session, is dropped: the same ones are left, and none of those aside may be played
+-- the first event, of a closed session, is dropped: the same ones are left, and none of those aside
+-- may be played
 pub record DropsDead (ss : List ScriptSessionState) (old new : RemainingState) : Type 0 where
   pub left : events_left ss (in_order new) ≡ events_left ss (in_order old)
   pub aside : NoneReady ss old.aside → NoneReady ss new.aside

@@ -26,8 +26,8 @@ open_after session was (Gone other) = if other == session then false else was
 abbrev pub is_open_in_script : List ScriptEvent → ℕ → Bool
 is_open_in_script events session = fold (open_after session) false events
 
--- A session that begins has a number above each that was opened before. Bytes come, and a peer goes, only
--- where the session is open.
+-- A session that begins has a number above each that was opened before. Bytes come, and a peer
+-- goes, only where the session is open.
 abbrev pub MayFollow : List ScriptEvent → ScriptEvent → Type 0
 MayFollow before (Open session) = newest_of before < session
 MayFollow before (Send session bytes) = IsTrue (is_open_in_script before session)

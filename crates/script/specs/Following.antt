@@ -12,9 +12,10 @@ use Rattle.script.specs.Records.{opened_sessions}
 abbrev pub MayGo : List ScriptEvent → Bool → ℕ → Type 0
 MayGo played can_fail s = (script.goes_in_script played s ≡ true) ⊎ (can_fail ≡ true)
 
--- So far: what was opened and what is left to open are the sessions of the script; and of a session that isn't closed,
--- what came and what is left to come are the bytes that the script sends it. Of a closed one a beginning came. What is
--- left to go are peers of which the script says it; and those that have gone might.
+-- So far: what was opened and what is left to open are the sessions of the script; and of a session
+-- that isn't closed, what came and what is left to come are the bytes that the script sends it. Of
+-- a closed one a beginning came. What is left to go are peers of which the script says it; and
+-- those that have gone might.
 pub record Follows (played left : List ScriptEvent) (records : List PortRecord) (closed : ℕ → Bool)
     (can_fail : Bool) : Type 0 where
   pub opened_are : script.sessions_opened played ≡ opened_sessions records ++ script.sessions_opened left
@@ -24,10 +25,10 @@ pub record Follows (played left : List ScriptEvent) (records : List PortRecord) 
   pub gone_by : (s : ℕ) → is_in (was.Gone s) records ≡ true → MayGo played can_fail s
   pub never_over : (s : ℕ) → is_in (was.EndOfInput s) records ≡ false
 
--- The list says what the script does: the sessions that were opened are the first of the script's, and what came of
--- each is a beginning of the bytes that the script sends it; once the list has Ended all were opened, and all bytes
--- came of a session that was neither gone nor shut. No session has gone of which the script doesn't say it, unless a
--- `give` can fail.
+-- The list says what the script does: the sessions that were opened are the first of the script's,
+-- and what came of each is a beginning of the bytes that the script sends it; once the list has
+-- Ended all were opened, and all bytes came of a session that was neither gone nor shut. No session
+-- has gone of which the script doesn't say it, unless a `give` can fail.
 pub record IsPlayed (played : List ScriptEvent) (records : List PortRecord) (can_fail : Bool) : Type 0 where
   pub opened_first : StartsWith (script.sessions_opened played) (opened_sessions records)
   pub fed_first : (s : ℕ) → StartsWith (script.sent_bytes played s) (fed s records)

@@ -1,5 +1,5 @@
--- The lines of a script, and what each says. As in the grammar of messages, it is told from the event to
--- the line: the words with single spaces between them, a number as its plain decimal.
+-- The lines of a script, and what each says. As in the grammar of messages, it is told from the
+-- event to the line: the words with single spaces between them, a number as its plain decimal.
 use Rattle.std.specs.Prelude.{◌≡◌, ℕ, ◌<◌, ◌^◌, ◌==◌, List, [], ◌∷◌, length, codes, decimal, if◌then◌else◌, Ok}
 use Rattle.std.specs.List.{onto_first}
 use Rattle.hex.specs.Hex.{decode_of}

@@ -1,5 +1,5 @@
--- A plain reader of a script's line, as functions on its words. It isn't part of what scripts mean: what a
--- line says is. It is proved to find what a line says, and nothing where it says nothing.
+-- A plain reader of a script's line, as functions on its words. It isn't part of what scripts mean:
+-- what a line says is. It is proved to find what a line says, and nothing where it says nothing.
 use Rattle.std.specs.Prelude.{ℕ, ◌^◌, ◌==◌, not, List, [], ◌∷◌, length, codes, bytes_eq, nat_lt, Option, Some}
 use Rattle.std.specs.Prelude.{None, if◌then◌else◌}
 use Rattle.std.specs.Result.{result_ok}

@@ -85,7 +85,8 @@ pub record IsPlayerConsistent (p : Player) : Type 0 where
 abbrev pub PlayerGoesOn : Player → Player → Type 0
 PlayerGoesOn old new = (new.script ≡ old.script) × (new.accept ≡ old.accept) × (new.can_fail ≡ old.can_fail)
 
--- the port hasn't ended, and the event in front of the rest may be played now, so it is the first that may
+-- the port hasn't ended, and the event in front of the rest may be played now, so it is the first
+-- that may
 pub record IsFirst (p : Player) (e : ScriptEvent) : Type 0 where
   pub running : p.ended ≡ false
   pub after : List ScriptEvent

@@ -23,9 +23,9 @@ use Rattle.script.specs.Remaining.{RemainingState}
 
 -- ---- what is played
 
--- The script that was handed in, the events of it that are left, the sessions that were opened, the list of the
--- port's events, the most bytes that a `give` accepts, and the number of the `give` from now that fails; 0 is
--- none for either. And whether one could fail from the beginning.
+-- The script that was handed in, the events of it that are left, the sessions that were opened, the
+-- list of the port's events, the most bytes that a `give` accepts, and the number of the `give`
+-- from now that fails; 0 is none for either. And whether one could fail from the beginning.
 pub record PlayerState : Type 0 where
   pub script : List ScriptEvent
   pub left : List ScriptEvent
@@ -50,7 +50,8 @@ pub record PlayerParts : Type 0 where
 abbrev pub KeepsOthers : ℕ → PlayerState → PlayerState → Type 0
 KeepsOthers session old new = (t : ℕ) → t ≢ session → is_session_paused new.sessions t ≡ is_session_paused old.sessions t
 
--- the first event left whose session isn't paused is this one; after the call this stands in its place
+-- the first event left whose session isn't paused is this one; after the call this stands in its
+-- place
 pub record TakesEvent (old : PlayerState) (e : ScriptEvent) (rest : List ScriptEvent)
     (left : List ScriptEvent) : Type 0 where
   pub before : List ScriptEvent
@@ -60,8 +61,8 @@ pub record TakesEvent (old : PlayerState) (e : ScriptEvent) (rest : List ScriptE
   pub free : is_session_paused old.sessions (event_session e) ≡ false
   pub left_is : left ≡ before ++ rest ++ after
 
--- The next event: the first one left whose session isn't paused, of a send its next piece. Behind Gone no event
--- of the session is left. A script ends no input of a session that is open.
+-- The next event: the first one left whose session isn't paused, of a send its next piece. Behind
+-- Gone no event of the session is left. A script ends no input of a session that is open.
 abbrev pub Plays : PlayerState → PortEvent → PlayerState → Type 0
 Plays old (event.Opened s) new = TakesEvent old (script.Open s) [] new.left
 Plays old (event.Data s piece) new =
@@ -90,8 +91,8 @@ Fails player bytes = (player.fail_give ≡ 1) × (0 < length bytes)
 abbrev pub most_accepted : ℕ → List ℕ → ℕ
 most_accepted accept bytes = if accept == 0 then length bytes else min accept (length bytes)
 
--- A `give`: it fails exactly at the offer that was said to, and the session's events that are left are dropped.
--- Else it accepts all that it may, or, out of memory, nothing.
+-- A `give`: it fails exactly at the offer that was said to, and the session's events that are left
+-- are dropped. Else it accepts all that it may, or, out of memory, nothing.
 abbrev pub Gives : PlayerState → ℕ → List ℕ → Result ℕ Gone → PlayerState → Type 0
 Gives old s bytes (Err e) new =
     Fails old bytes × (new.left ≡ events_without s old.left) × (is_session_paused new.sessions s ≡ false) × KeepsOthers s old new
@@ -138,8 +139,9 @@ new_player events = record {
 
 -- ---- the port
 
--- What it plays, the sizes by which histories are judged, the dialect of what its sessions send, its worker's number,
--- the exchange of that worker's end, and the history by which bytes were given last.
+-- What it plays, the sizes by which histories are judged, the dialect of what its sessions send,
+-- its worker's number, the exchange of that worker's end, and the history by which bytes were given
+-- last.
 pub record PortState : Type 0 where
   pub player : PlayerState
   pub sizes : Sizes

@@ -1,4 +1,5 @@
-//! Scripts: what the peers of a run do, as lines of text; and the clock and the port that play one to a group.
+//! Scripts: what the peers of a run do, as lines of text; and the clock and the port that play one
+//! to a group.
 #![tactic(auto)]
 
 mod clock;

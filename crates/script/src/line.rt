@@ -32,7 +32,8 @@ fn bytes_of(alloc: Global, word: &[u8]) -> Result<Option<Bytes>, NoMemory>
     }
 }
 
-/// The event of a session, from the first word of its line and the word after the number, if there is one.
+/// The event of a session, from the first word of its line and the word after the number, if there
+/// is one.
 fn event(
     alloc: Global,
     verb: &[u8],

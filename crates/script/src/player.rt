@@ -193,8 +193,8 @@ impl Player {
         PortEvent::Ended
     }
 
-    /// The first remaining event whose session isn't paused; for a send, its next piece. `Idle` if there is none, once
-    /// `Ended` was given, and if out of memory.
+    /// The first remaining event whose session isn't paused; for a send, its next piece. `Idle` if
+    /// there is none, once `Ended` was given, and if out of memory.
     pub(crate) fn next(&mut self) -> PortEvent
         ensures { PlaysNext self.old result self.new }
     {

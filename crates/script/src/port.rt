@@ -15,7 +15,7 @@ ghost use Rattle.script.specs.States.{DropsSession, IsNewPort, IsOpenWhereTold, 
 use crate::ScriptEvent;
 use crate::player::Player;
 use crate::sessions::{ScriptSession, Stage};
-use exchange::{ExchangeName, WorkerBatch};
+use exchange::{ExchangeName, WorkerLane};
 use proto::{Dialect, Geometry};
 use std::alloc::Global;
 use std::marker::Model;
@@ -23,8 +23,9 @@ use worker_port::{Gone, Port, PortEvent, PortNote, ToldHistory};
 
 /// Plays the events of a script in order, and keeps what each session is given.
 ///
-/// It tells where each event of the script may come after those before it. A session that has gone or was shut has
-/// no event left. Its list takes no memory. If it is out of memory, `next` answers `Idle` and `give` accepts no bytes.
+/// It tells where each event of the script may come after those before it. A session that has gone
+/// or was shut has no event left. Its list takes no memory. If it is out of memory, `next` answers
+/// `Idle` and `give` accepts no bytes.
 #[derive(Drop)]
 pub struct ScriptPort {
     player: Player,
@@ -33,7 +34,8 @@ pub struct ScriptPort {
     worker: usize,
     /// The exchange of its worker's end, for clauses alone.
     exchange: ExchangeName,
-    /// By which bytes were given last, for clauses alone. It is kept until the next give, so that it can be compared.
+    /// By which bytes were given last, for clauses alone. It is kept until the next give, so that
+    /// it can be compared.
     history: Option<ToldHistory>,
 }
 
@@ -55,8 +57,8 @@ impl Model for ScriptPort {
 }
 
 impl ScriptPort {
-    /// The port of a worker of an exchange, over a store of these sizes, whose sessions write in this dialect. All
-    /// events are left, and none was played.
+    /// The port of a worker of an exchange, over a store of these sizes, whose sessions write in
+    /// this dialect. All events are left, and none was played.
     pub fn new(
         alloc: Global,
         geometry: Geometry,
@@ -78,8 +80,9 @@ impl ScriptPort {
         }
     }
 
-    /// From now on each `give` accepts at most `accept` bytes, and the `fail_give`th that is offered at least one
-    /// byte accepts none and answers that the peer has gone. 0 turns either off.
+    /// From now on each `give` accepts at most `accept` bytes, and the `fail_give`th that is
+    /// offered at least one byte accepts none and answers that the peer has gone. 0 turns either
+    /// off.
     pub fn with_faults(mut self, accept: usize, fail_give: u64) -> ScriptPort
         ensures { result ≡ record self { player = with_faults accept fail_give self.player } }
     {
@@ -120,7 +123,7 @@ impl Port for ScriptPort {
     ghost leads_transitive = { plays_later };
 
     /// It never waits.
-    fn next(&mut self, _may_wait: bool, _sender: &WorkerBatch) -> PortEvent
+    fn next(&mut self, _may_wait: bool, _sender: &WorkerLane) -> PortEvent
         ensures leads { PlaysOn self.old self.new }
         ensures told { trace_told self.new ≡ option_map (then_told (event_records result)) (trace_told self.old) }
         ensures may { (trace : PortTrace) → trace_told self.old ≡ Some trace → MayCome trace result }

@@ -93,7 +93,8 @@ impl<'a> ScriptReader<'a> {
     ///
     /// # Errors
     ///
-    /// Line with what is wrong with the line; NoMemory if out of memory. Either leaves the reader as it was.
+    /// Line with what is wrong with the line; NoMemory if out of memory. Either leaves the reader
+    /// as it was.
     pub fn next_line(&mut self) -> Result<bool, ScriptFault>
         ensures read { IfOk result (λ more. MatchBool more (ReadsLine self.old self.new) ((self.old.left ≡ [])
             × (self.new ≡ self.old))) }
@@ -119,8 +120,9 @@ impl<'a> ScriptReader<'a> {
 ///
 /// # Errors
 ///
-/// TooLarge if the script has more than 16,777,216 bytes; Line for the first line that is none of a script or says an event
-/// that may not come there; NoMemory if out of memory, also if a line has a fault.
+/// TooLarge if the script has more than 16,777,216 bytes; Line for the first line that is none of a
+/// script or says an event that may not come there; NoMemory if out of memory, also if a line has a
+/// fault.
 pub fn read_script(
     alloc: Global,
     script: &[u8],

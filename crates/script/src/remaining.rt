@@ -25,8 +25,9 @@ pub(crate) fn event_session(event: &ScriptEvent) -> u64
     }
 }
 
-/// The events left, those that were put aside before the rest. All stand in one ring, the rest in front: an event goes
-/// aside by a turn of the ring, and comes back by a turn the other way, for which no memory is needed.
+/// The events left, those that were put aside before the rest. All stand in one ring, the rest in
+/// front: an event goes aside by a turn of the ring, and comes back by a turn the other way, for
+/// which no memory is needed.
 #[derive(Drop)]
 pub(crate) struct Remaining {
     ring: VecDeque<ScriptEvent>,
@@ -92,7 +93,8 @@ impl Remaining {
         self.ahead = self.ahead.saturating_sub(1);
     }
 
-    /// Takes the next piece off the send in front of the rest, and the send away with its last piece.
+    /// Takes the next piece off the send in front of the rest, and the send away with its last
+    /// piece.
     pub(crate) fn take_piece(&mut self)
         requires { 0 < length self.old.rest }
         ensures { TakesFromSend self.old self.new }

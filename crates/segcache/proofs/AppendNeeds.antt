@@ -34,7 +34,8 @@ appended_other p after bucket t i j place r a e =
       | inr n ↦ a.items r ∙ rw n e
     ]
 
--- after an append an index that stayed is right for the new pool, and its current places are the same
+-- after an append an index that stayed is right for the new pool, and its current places are the
+-- same
 pub appended_current : (p after : PoolState) (bucket t : ℕ) (i : Item) (place : Place) (index : Table)
     → IsIndex (key_at p) index
     → IsAppended p bucket t i after place
@@ -44,7 +45,8 @@ appended_current p after bucket t i place index indexed a =
     (λ q r h. let x = current_item p index q r h in
     item_key after r x.0 (appended_other p after bucket t i x.0 place r a x.1) ∙ sym (item_key p r x.0 x.1))
 
--- after an append the index has a slot to spare: with one place more at most half of its slots are used
+-- after an append the index has a slot to spare: with one place more at most half of its slots are
+-- used
 pub appended_room : (p after : PoolState) (bucket t : ℕ) (i : Item) (place : Place) (index : Table) (marks : Marks)
     → IsTied p index marks → IsPool after → IsAppended p bucket t i after place
     → 2 * (used_in index.slots + 1) ≤ index.room

@@ -47,7 +47,8 @@ use Rattle.segments.specs.Places.{same_place}
 use Rattle.segments.proofs.MovedPlaces.{same_place_is}
 use Rattle.segments.specs.Pools.{shared_at}
 
--- the item went to a segment of its bucket that it may join at the moment t and that could be opened by then; the others stay
+-- the item went to a segment of its bucket that it may join at the moment t and that could be
+-- opened by then; the others stay
 pub record IsIn (p : PoolState) (bucket t : ℕ) (i : Item) (after : PoolState) (place : Place) : Type 0 where
   pub used : Used
   pub is_at : segment_at after place.segment ≡ Some used
@@ -58,7 +59,8 @@ pub record IsIn (p : PoolState) (bucket t : ℕ) (i : Item) (after : PoolState) 
   pub takes : may_join (has_own i) bucket used.opened t ≡ true
   pub others : (n : ℕ) → (n == place.segment) ≡ false → segment_at after n ≡ segment_at p n
 
--- the open tail for an item of a size is the last segment of the bucket's chain, and takes an item of that size
+-- the open tail for an item of a size is the last segment of the bucket's chain, and takes an item
+-- of that size
 tail_number : (p : PoolState) (bucket t : ℕ) (own : Bool) (size n : ℕ) → open_tail p bucket t own size ≡ Some n → (tail p bucket ≡ Some n)
     × (option_map_or (takes p.sizes t own size) (segment_at p n) false ≡ true)
 tail_number p bucket t own size n e =
@@ -67,7 +69,8 @@ tail_number p bucket t own size n e =
     let c = cond_some (option_map_or (takes p.sizes t own size) (segment_at p m) false) m n passes in
     (is_tail ∙ ap Some c.1, subst (λ k. option_map_or (takes p.sizes t own size) (segment_at p k) false ≡ true) c.1 c.0))
 
--- an appended item is in a segment of its bucket that it may join at the moment and that was opened by then; the others stay
+-- an appended item is in a segment of its bucket that it may join at the moment and that was opened
+-- by then; the others stay
 pub in_segment : (p : PoolState) (bucket t : ℕ) (i : Item) (after : PoolState) (place : Place) → IsPool p → IsPast p t
     → IsAddedToTail p bucket t i after place ⊎ IsAddedToFree p bucket t i after place → IsIn p bucket t i after place
 in_segment p bucket t i after place pool past (inl a) =
@@ -205,7 +208,8 @@ shared_before t bucket opened (Some asked) waits is was d e =
     let same : asked ≡ d = cc in
     subst (λ n. has_arrived (bucket_deadline bucket opened) n ≡ true) same (rw f early)
 
--- what an item gets that is appended where it may join: it has its own deadline, or the segment's may be given
+-- what an item gets that is appended where it may join: it has its own deadline, or the segment's
+-- may be given
 appended_gets : (p : PoolState) (t bucket opened : ℕ) (i : Item) (asked : Option ℕ) → has_arrived asked t ≡ false
     → bucket ≡ bucket_of (time_to_live asked t) → opened ≤ t → i.own_deadline ≡ own_deadline_by p.exact asked
     → may_join (has_own i) bucket opened t ≡ true → MayStand p.exact t asked (bucket_deadline bucket opened)

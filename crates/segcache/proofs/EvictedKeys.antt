@@ -1,5 +1,5 @@
--- What is forgotten where room is made: keys of shown entries, of which there are as many as segments, and not too many
--- bytes of them.
+-- What is forgotten where room is made: keys of shown entries, of which there are as many as
+-- segments, and not too many bytes of them.
 use Rattle.std.proofs.Common.{◌≡◌, ℕ, zero, suc, ◌+◌, ◌-◌, ◌*◌, ◌<◌, ◌≤◌, Bool, true, false, cond, List, [], ◌∷◌, map}
 use Rattle.std.proofs.Common.{Option, Some, None, refl, sym, ap, subst, ◌∙◌, inl, inr, arith}
 use Rattle.std.specs.Prelude.{bytes_eq, IsSome, All, ◌||◌, ◌⊎◌, option_map, sum_by, filter, is_some, ◌==◌, if◌then◌else◌}
@@ -42,7 +42,8 @@ use Rattle.segcache.proofs.LeftPlaces.{is_left, standing_all, standing_left}
 abbrev pub IsCurrent : PoolState → Table → Standing → Type 0
 IsCurrent p index s = (item_in p s.place ≡ Some s.item) × (finite.get (current p index) s.item.key ≡ Some s.place)
 
--- where no current deadline has come, a current item is shown as the entry that it keeps, with its deadline
+-- where no current deadline has come, a current item is shown as the entry that it keeps, with its
+-- deadline
 pub shown_item : (p : PoolState) (index : Table) (t : ℕ) (s : Standing) → AllWait p (current p index) t
     → IsCurrent p index s
     → finite.get (shown_entries p index t) s.item.key ≡ Some (kept_entry (place_deadline p s.place) s.item)
@@ -68,7 +69,8 @@ all_shown p index t (s ∷ ss) wait all =
     ap is_some (shown_item p index t s wait (All-head (IsCurrent p index) s ss all)) in
     rw here (all_shown p index t ss wait (All-tail (IsCurrent p index) s ss all))
 
--- where no current deadline has come, the entries shown at the keys of current items take the bytes that these items take
+-- where no current deadline has come, the entries shown at the keys of current items take the bytes
+-- that these items take
 pub shown_sizes : (p : PoolState) (index : Table) (t : ℕ) (ss : List Standing) → AllWait p (current p index) t
     → All (IsCurrent p index) ss
     → sum_by (size_at (shown_entries p index t)) (map key_in ss) ≡ sum_by size_in ss
@@ -107,7 +109,8 @@ one_less e q h =
           omega (arith, is, some)
     ]
 
--- where each segment below a number has a key with a place in it and an entry, there are at least that many entries
+-- where each segment below a number has a key with a place in it and an entry, there are at least
+-- that many entries
 pub many_keys : (k : ℕ) (m : Places) (entries : Entries) → ((n : ℕ) → n < k → HasKeyIn m entries n)
     → k ≤ finite.len entries
 many_keys zero m entries h = omega arith
@@ -135,7 +138,8 @@ many_keys (suc k) m entries h =
         absurd (omega (arith, lt, s))
     other n y x lt (inr apart) = rw apart y.entry
 
--- of items that all have a property, and of which some pass a test, one passes it and has the property
+-- of items that all have a property, and of which some pass a test, one passes it and has the
+-- property
 found_live : (t : Standing → Bool) (xs : List Standing) → list_any t xs ≡ true → (P : Standing → Type 0) → All P xs
     → (s : Standing) × (t s ≡ true) × P s
 found_live t [] h P all = absurd (false≢true h)
@@ -166,7 +170,8 @@ many_shown p index marks t tied wait live =
 
 -- ---- all that is forgotten
 
--- a key with a place is one of the keys of some current items exactly where its place is one of theirs
+-- a key with a place is one of the keys of some current items exactly where its place is one of
+-- theirs
 key_left : (p : PoolState) (index : Table) (ss : List Standing) (q : List ℕ) (r : Place) → All (IsCurrent p index) ss
     → finite.get (current p index) q ≡ Some r
     → contains_bytes (map key_in ss) q ≡ is_left ss r
@@ -206,7 +211,8 @@ no_entry : (b : Bool) → ◌≡◌ {A = Option Entry} None (cond b None None)
 no_entry true = refl
 no_entry false = refl
 
--- where some current items leave and the others stay, a key of theirs shows nothing, and any other shows what it did
+-- where some current items leave and the others stay, a key of theirs shows nothing, and any other
+-- shows what it did
 shown_but : (p : PoolState) (index : Table) (after : PoolState) (new : Places) (t : ℕ) (ss : List Standing) (q : List ℕ)
     (o : Option Place) → All (IsCurrent p index) ss
     → HaveStayed p (current p index) after new ss → finite.get (current p index) q ≡ o
@@ -355,7 +361,8 @@ cleared_key : (p : PoolState) (n : ℕ) (r : Place) → IsSome (segment_at p n) 
     → item_in (without_segment p n) r ≡ item_in p r
 cleared_key p n r some ne = let f = ne_eqb r.segment n ne in cleared_item p n r some ∙ rw f refl
 
--- where a segment is cleared in which no key has its current place, all stays tied, and the current places stay
+-- where a segment is cleared in which no key has its current place, all stays tied, and the current
+-- places stay
 pub tied_cleared : (p after : PoolState) (n : ℕ) (index : Table) (marks : Marks) → IsTied p index marks → IsPool after
     → after ≡ without_segment p n → IsSome (segment_at p n)
     → ((q : List ℕ) (r : Place) → finite.get (current p index) q ≡ Some r → r.segment ≡ n → ⊥)
@@ -417,8 +424,8 @@ cleared_stayed p after n index found marks others tied left pool is some h =
           ));
     }
 
--- where all current items are live, and no fewer than the segments, clearing a segment whose keys have left makes room,
--- and forgets no more than may be forgotten for it
+-- where all current items are live, and no fewer than the segments, clearing a segment whose keys
+-- have left makes room, and forgets no more than may be forgotten for it
 pub cleared_made : (p after : PoolState) (n : ℕ) (index found : Table) (marks others : Marks) (t : ℕ)
     → IsTied p index marks
     → IsTied p found others → IsPool after → after ≡ without_segment p n → IsSome (segment_at p n)

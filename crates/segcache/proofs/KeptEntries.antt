@@ -1,4 +1,5 @@
--- What a segmented map keeps of what was stored, where an entry is written, and where items leave or are read.
+-- What a segmented map keeps of what was stored, where an entry is written, and where items leave
+-- or are read.
 use Rattle.std.proofs.Common.{◌≡◌, ℕ, ◌≤◌, Bool, true, false, cond, List, [], Option, Some, None, refl, sym, ap, subst, ◌∙◌, inl, inr}
 use Rattle.std.proofs.Common.{arith, le-leb}
 use Rattle.std.specs.Prelude.{◌==◌, option_map}
@@ -67,7 +68,8 @@ undated_place p r dated all =
 abbrev asked_at : Option Entry → Option ℕ
 asked_at o = option_map_or (λ (e : Entry). e.deadline) o None
 
--- what is shown of a place without a deadline has none either; where no item stands there, nothing is shown
+-- what is shown of a place without a deadline has none either; where no item stands there, nothing
+-- is shown
 undated_item : (t : ℕ) (d : Option ℕ) (o : Option Item) → d ≡ None
     → asked_at (if_live t (Some (option_map_or (kept_entry d) o dead_entry))) ≡ None
 undated_item t d None none = let z = le-leb 0 t (omega arith) in rw z refl
@@ -106,7 +108,8 @@ entry_there after place b key e here undated none =
     entry_is after place (unread_by b key e) here
     ∙ ap (λ (d : Option ℕ). kept_entry d (unread_by b key e)) (undated ∙ sym none)
 
--- An entry that is written where little is stored, and nothing with a deadline, is kept with what was.
+-- An entry that is written where little is stored, and nothing with a deadline, is kept with what
+-- was.
 pub keeps_entry : (lives : Liveness) (old new : MapState) (key : List ℕ) (e : Entry) → IsPool old.pool
     → IsPast old.pool old.moment
     → IsStorable (item_limit old.pool.sizes) (unread old key e)

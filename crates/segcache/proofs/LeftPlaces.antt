@@ -1,4 +1,5 @@
--- Items of a segment that leave one after the other, segments whose items leave, and all items at once.
+-- Items of a segment that leave one after the other, segments whose items leave, and all items at
+-- once.
 use Rattle.std.proofs.Common.{◌≡◌, ◌≢◌, ℕ, ◌+◌, ◌<◌, ◌≤◌, ◌*◌, ◌/◌, Bool, true, false, List, [], ◌∷◌}
 use Rattle.std.proofs.Common.{get_or, Some, refl, sym, ap, subst, ◌∙◌, inl, inr, arith}
 use Rattle.std.specs.Prelude.{All, ◌⊎◌, Option}
@@ -147,7 +148,8 @@ has_left p n old index t left h none =
 
 -- ---- items of a segment whose deadline has come
 
--- Of the keys of a segment those after a point of a walk haven't left yet whose deadline is at or before the moment t.
+-- Of the keys of a segment those after a point of a walk haven't left yet whose deadline is at or
+-- before the moment t.
 pub record IsArriving (p : PoolState) (t n : ℕ) (old : Places) (index : Table) (marks : Marks)
     (left : List Standing) : Type 0 where
   pub tied : IsTied p index marks
@@ -234,7 +236,8 @@ arriving_more p t n old index found marks u s left h there arrived tied is =
           h.standing;
     }
 
--- at the end of the walk exactly the keys have left with a place in the segment whose deadline has come
+-- at the end of the walk exactly the keys have left with a place in the segment whose deadline has
+-- come
 pub has_arrived_left : (p : PoolState) (t n : ℕ) (old : Places) (index : Table) (marks : Marks) (left : List Standing)
     → IsArriving p t n old index marks left → left ≡ [] → HaveArrivedLeft p t n old (current p index)
 has_arrived_left p t n old index marks left h none =

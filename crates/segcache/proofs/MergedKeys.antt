@@ -1,4 +1,5 @@
--- The keys that a merge forgets are those of the items that it doesn't keep; and what a clearing forgets.
+-- The keys that a merge forgets are those of the items that it doesn't keep; and what a clearing
+-- forgets.
 use Rattle.std.proofs.Common.{◌≡◌, ℕ, ◌+◌, Bool, true, false, List, [], ◌∷◌, length, map, Some, None, refl, sym, ap, ◌∙◌, subst, inl}
 use Rattle.std.proofs.Common.{inr, arith}
 use Rattle.std.specs.Prelude.{IsSome, All, filter, not, is_some, if◌then◌else◌}
@@ -41,7 +42,8 @@ going m = (m.source, is_some m.target)
 abbrev keeping : Judged → Place × Bool
 keeping j = (j.place, j.is_kept)
 
--- with a move in front that goes somewhere exactly where a test holds, a list of moves has its source and the test in front
+-- with a move in front that goes somewhere exactly where a test holds, a list of moves has its
+-- source and the test in front
 going_by : (n offset : ℕ) (b : Bool) (source : Place) (xs ys : List Move) (zs : List (Place × Bool)) → map going xs ≡ zs
     → map going ys ≡ zs
     → map going
@@ -67,8 +69,8 @@ all_of P f [] all = All-nil (λ y. P (f y))
 all_of P f (y ∷ ys) all = All-cons (λ x. P (f x)) y ys (All-head P (f y) (map f ys) all)
     (all_of P f ys (All-tail P (f y) (map f ys) all))
 
--- moves that go somewhere exactly where the judged item of the same turn is kept put an item's place somewhere exactly
--- where it is kept
+-- moves that go somewhere exactly where the judged item of the same turn is kept put an item's
+-- place somewhere exactly where it is kept
 kept_judged : (moves : List Move) (js : List Judged) → AreInTurn moves → map going moves ≡ map keeping js
     → All (λ j. is_some (moved_by moves j.place) ≡ j.is_kept) js
 kept_judged moves js turn e =
@@ -123,7 +125,8 @@ merged_evicted p plan after index found marks w =
           ∙ ap (without_keys (shown_entries p index t)) keys;
     }
 
--- where nothing can be merged, the segment that is evicted is cleared, and exactly its keys are forgotten
+-- where nothing can be merged, the segment that is evicted is cleared, and exactly its keys are
+-- forgotten
 pub cleared_evicted : (p after : PoolState) (n : ℕ) (index found : Table) (marks others : Marks) → IsTied p index marks
     → IsTied p found others → IsPool after → after ≡ without_segment p n
     → IsSome (segment_at p n) → HasLeft n (current p index) (current p found) → IsVictim p n

@@ -1,4 +1,5 @@
--- What ties pool, index and marks together, after a merge by which the index was relocated and the marks carried.
+-- What ties pool, index and marks together, after a merge by which the index was relocated and the
+-- marks carried.
 use Rattle.std.proofs.Common.{◌≡◌, ℕ, zero, suc, ◌*◌, ◌/◌, ◌<◌, ◌≤◌, Bool, true, false, List, [], ◌∷◌, length, get_or, Option}
 use Rattle.std.proofs.Common.{Some, None, refl, sym, ap, subst, ◌∙◌, inl, inr, arith}
 use Rattle.std.specs.Prelude.{IsSome, IfSome, All, option_map, option_and_then, if◌then◌else◌}
@@ -137,7 +138,8 @@ target_place (Some x) n k h = (x, refl, h)
 
 -- ---- a merge by which the index was relocated and the marks carried
 
--- What is known where a planned merge was carried out, the index relocated by it and the marks carried.
+-- What is known where a planned merge was carried out, the index relocated by it and the marks
+-- carried.
 pub record IsMergeRelocated (p : PoolState) (plan : Plan) (after : PoolState) (index found : Table)
     (marks : Marks) : Type 0 where
   pub tied : IsTied p index marks

@@ -60,7 +60,8 @@ filled_opened items (Some s) u e = (
   (let f : with_items items s ≡ u = cc in sym (ap (λ (x : Used). x.bucket) f)),
 )
 
--- a segment that stays, or becomes another one with other items, unless it is freed, was opened by a moment by which both were
+-- a segment that stays, or becomes another one with other items, unless it is freed, was opened by
+-- a moment by which both were
 opened_by : (rule : Eviction) (c e : Bool) (items : List Item) (f o : Option Used) (t : ℕ) (u : Used)
     → (if c then None else (if e then option_map (with_items items) f else o)) ≡ Some u
     → ((s : Used) → f ≡ Some s → s.opened ≤ opening_moment rule s.bucket t)

@@ -35,7 +35,8 @@ no_mark s p t n k is = ap (λ (u : Marks). mark_at u n k) is ∙ rows s.segments
     rows (suc count) zero = nothing_at false (s.segment_size / 32) k
     rows (suc count) (suc m) = rows count m
 
--- an index without a key, with slots enough, and marks of which none is set are tied to a pool of their sizes
+-- an index without a key, with slots enough, and marks of which none is set are tied to a pool of
+-- their sizes
 pub tied_start : (p : PoolState) (index : Table) (t : Marks) → IsPool p → t ≡ no_marks p.sizes
     → IsMap (key_at p) index finite.empty
     → 2 * (p.sizes.segments * (p.sizes.segment_size / 32)) ≤ index.room → IsLayoutOf p.sizes index.layout

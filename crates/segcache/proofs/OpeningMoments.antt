@@ -28,7 +28,8 @@ use Rattle.segments.specs.Places.{same_place}
 use Rattle.segments.proofs.MovedPlaces.{same_place_is}
 use Rattle.segments.specs.Pools.{shared_at}
 
--- where segments stand in order and none was opened after a moment, it is so at each later moment within the limit
+-- where segments stand in order and none was opened after a moment, it is so at each later moment
+-- within the limit
 pub past_later : (p : PoolState) (t u : ℕ) → IsPast p t → t ≤ u → u ≤ 4611686018427387904 → IsPast p u
 past_later p t u past le within = record {
   within = within;
@@ -37,7 +38,8 @@ past_later p t u past le within = record {
   dated = past.dated;
 }
 
--- a segment that is there once one of its items was changed was there before, of the same bucket, opened at the same moment
+-- a segment that is there once one of its items was changed was there before, of the same bucket,
+-- opened at the same moment
 pub was_opened : (change : Item → Item) (o : Option Used) (offset : ℕ) (u : Used)
     → option_map (change_in change offset) o ≡ Some u
     → (s : Used) × (o ≡ Some s) × (u.opened ≡ s.opened) × (u.bucket ≡ s.bucket)
@@ -105,7 +107,8 @@ part_of : (b : Bool) (o : Option Used) (u : Used) → (if b then o else None) �
 part_of true o u e = e
 part_of false o u e = absurd (none-some u e)
 
--- where segments are given back, the others still stand in order, and none was opened after the moment
+-- where segments are given back, the others still stand in order, and none was opened after the
+-- moment
 pub past_given : (lives : Liveness) (p after : PoolState) (t : ℕ) → IsPast p t → IsGivenBack lives p after
     → IsPast after t
 past_given lives p after t past g =
@@ -166,6 +169,7 @@ opened_all p t (n ∷ later) used past =
     (subst (λ (b : ℕ). u.opened ≤ opening_moment p.eviction b t) (sym of) (past.opened n u used.0.1)))
     (opened_all p t later used.1 past)
 
--- where no segment was opened after a moment, none that the pool's order names was, and they stand in the order of opening
+-- where no segment was opened after a moment, none that the pool's order names was, and they stand
+-- in the order of opening
 pub in_time_past : (p : PoolState) (t : ℕ) → IsPool p → IsPast p t → IsInTime p t
 in_time_past p t pool past = record { order = past.in_order; past = opened_all p t p.order (order_used p pool) past }

@@ -68,7 +68,8 @@ may_before t (Some a) (Some s) may d e =
     let same : a ≡ d = cc in
     subst (λ (n : ℕ). nat_le s n ≡ true) same (le-leb s a may.1)
 
--- an item that has the deadline asked for, where the segment's comes no later, is dated as it may be there
+-- an item that has the deadline asked for, where the segment's comes no later, is dated as it may
+-- be there
 pub own_dated : (exact : Bool) (asked shared : Option ℕ) (i : Item) → i.own_deadline ≡ own_deadline_by exact asked
     → ((d : ℕ) → asked ≡ Some d → has_arrived shared d ≡ true) → IsDatedIn exact shared i
 own_dated false asked shared i own h = inl own
@@ -166,8 +167,8 @@ own_lives exact t (Some d) shared e near h p =
       exactly = λ f g. is;
     }
 
--- an item that has none of its own has the segment's, if that may be given; where it has its own, the segment's may be any that
--- comes no later
+-- an item that has none of its own has the segment's, if that may be given; where it has its own,
+-- the segment's may be any that comes no later
 pub stands_appended : (exact : Bool) (t : ℕ) (asked shared : Option ℕ) → has_arrived asked t ≡ false
     → ((d : ℕ) → asked ≡ Some d → has_arrived shared d ≡ true)
     → (own_deadline_by exact asked ≡ 0 → MayLive t asked shared) → MayStand exact t asked shared

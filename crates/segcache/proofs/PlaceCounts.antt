@@ -1,4 +1,5 @@
--- How many places of items a pool has, and that the index has a slot for one more item where one was appended.
+-- How many places of items a pool has, and that the index has a slot for one more item where one
+-- was appended.
 use Rattle.std.proofs.Common.{◌≡◌, ℕ, zero, suc, ◌+◌, ◌*◌, ◌/◌, ◌<◌, ◌≤◌, List, [], ◌∷◌, ◌++◌, length, get_or, map}
 use Rattle.std.proofs.Common.{Some, sym, ap, subst, ◌∙◌, inl, inr, arith, length-append}
 use Rattle.std.specs.Prelude.{Contains}
@@ -27,7 +28,8 @@ pub places_below : PoolState → ℕ → List Place
 places_below p zero = []
 places_below p (suc n) = map place_in (standing p n) ++ places_below p n
 
--- in the segments below a number there are at most as many places of items as these segments have whole 32 bytes
+-- in the segments below a number there are at most as many places of items as these segments have
+-- whole 32 bytes
 pub few_places : (p : PoolState) (n : ℕ) → IsPool p → length (places_below p n) ≤ n * (p.sizes.segment_size / 32)
 unfolding places_below
 few_places p zero k = omega arith

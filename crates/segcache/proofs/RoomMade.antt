@@ -27,7 +27,8 @@ use Rattle.segcache.proofs.GivenBack.{all_alive}
 use Rattle.segcache.proofs.EvictedKeys.{many_shown, still_none}
 use Rattle.segments.specs.Items.{item_deadline}
 
--- What was found where the expired keys left and segments were given back: the same is shown, and no key came.
+-- What was found where the expired keys left and segments were given back: the same is shown, and
+-- no key came.
 pub record IsSwept (p : PoolState) (index : Table) (t : ℕ) (after : PoolState) (found : Table)
     (marks : Marks) : Type 0 where
   pub sizes : after.sizes ≡ p.sizes
@@ -38,7 +39,8 @@ pub record IsSwept (p : PoolState) (index : Table) (t : ℕ) (after : PoolState)
   pub waiting : AllWait after (current after found) t
   pub entries : shown_entries after found t ≡ shown_entries p index t
 
--- where the expired keys have left and segments without a current item were given back, the same is shown, and no key came
+-- where the expired keys have left and segments without a current item were given back, the same is
+-- shown, and no key came
 pub swept : (p after : PoolState) (index found : Table) (marks : Marks) (t : ℕ) → IsPast p t → IsTied p found marks
     → IsPool after
     → IsGivenBack (lives_by marks) p after
@@ -95,7 +97,8 @@ kept_after : (one other : Sizes) (old mid new : Entries) → other ≡ one → m
 kept_after one other old mid new same is k =
     subst (λ (s : Sizes). AreKept s old new) same (subst (λ (e : Entries). AreKept other e new) is k)
 
--- room that is made once expired keys have left and segments were given back is room made of what was before that
+-- room that is made once expired keys have left and segments were given back is room made of what
+-- was before that
 pub swept_evicted : (p : PoolState) (index : Table) (t : ℕ) (mid : PoolState) (between : Table) (marks : Marks)
     (after : PoolState)
     (found : Table) → IsSwept p index t mid between marks
@@ -128,7 +131,8 @@ alive_given marks p after pool other full g none n lt =
         (λ (o : Option Used). list_any (λ (s : Standing). lives s.place s.item (item_deadline s.item (deadline_in o)))
         (standing_from n 0 (items_of o))) e
 
--- so where the pool that segments were given back in is that of the map before and after the expired keys left
+-- so where the pool that segments were given back in is that of the map before and after the
+-- expired keys left
 pub swept_left : (old left : MapState) (after : PoolState) → IsSegmentedMap old → IsSegmentedMap left
     → left.pool ≡ old.pool → left.moment ≡ old.moment
     → HaveExpiredLeft old.pool old.moment (current old.pool old.index) (current left.pool left.index)

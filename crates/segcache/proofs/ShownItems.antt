@@ -166,7 +166,8 @@ left_by p t (Some s) None a b c =
       | inr n ↦ absurd (none-some s (c s refl n))
     ]
 
--- where exactly those keys leave a map whose deadline has come, it shows at that moment what it showed with them
+-- where exactly those keys leave a map whose deadline has come, it shows at that moment what it
+-- showed with them
 pub shown_left : (p : PoolState) (t : ℕ) (old new : Places) → HaveExpiredLeft p t old new
     → live_entries p new t ≡ live_entries p old t
 shown_left p t old new h =

@@ -73,7 +73,8 @@ record IsLeftFilled (t : ℕ) (found : MapState) (done : Outcome) (reply : Reply
 abbrev items_by : ℕ → Outcome → Reply → List StoredItem
 items_by t done reply = if is_no_memory reply then [] else item_stored t done done.stored
 
--- where segments are filled, and so little is held that a stored item has room, nothing is forgotten, and segments stay filled
+-- where segments are filled, and so little is held that a stored item has room, nothing is
+-- forgotten, and segments stay filled
 abbrev LeavesFilled : ℕ → MapState → Outcome → Reply → MapState → Type 0
 LeavesFilled t found done reply after =
     IsFilled found.pool → AllByRecursion (λ (i : StoredItem). HoldsLittle found.pool i.bucket t) (items_by t done reply)
@@ -215,8 +216,8 @@ same_filled t found after done reply items (inl none) filled held =
 same_filled t found after done reply items (inr refused) filled held =
     record { dated = inr (inl refused); filled = filled; held = omega arith }
 
--- each outcome leaves segments filled where little is held, be it that an item is written, reads are counted, the pool stays,
--- or memory is refused
+-- each outcome leaves segments filled where little is held, be it that an item is written, reads
+-- are counted, the pool stays, or memory is refused
 leaves_filled : (way : Way) (found after : MapState) (done : Outcome) (reply : Reply) → IsSegmentedMap found
     → (done.reply ≡ NoMemory → ⊥)
     → LeavesSegments way found done after reply

@@ -147,7 +147,8 @@ removed_other m key q r differ h =
       | inr apart ↦ get-remove m key q ∙ rw apart h
     ]
 
--- a key that has a place once a key was put in is that key with its new place, or another one with the place that it had
+-- a key that has a place once a key was put in is that key with its new place, or another one with
+-- the place that it had
 pub inserted_at : (m : Places) (key q : List ℕ) (place r : Place) → finite.get (finite.insert m key place) q ≡ Some r
     → ((q ≡ key) × (place ≡ r)) ⊎ ((q ≡ key → ⊥) × (finite.get m q ≡ Some r))
 inserted_at m key q place r h = by (cases_Bool (bytes_eq q key)) (sym (get-insert m key place q) ∙ h)
@@ -277,7 +278,8 @@ tied_hit p after index t n tied pool is =
     }))
     (ap (λ (q : PoolState). q.sizes) is) (λ r _. ap (λ (q : PoolState). key_at q r) is ∙ hit_key p n r)
 
--- where segments without a marked item are given back, a marked place keeps its key, or still has none
+-- where segments without a marked item are given back, a marked place keeps its key, or still has
+-- none
 given_key : (t : Marks) (p after : PoolState) (r : Place) (o : Option Item) → IsGivenBack (lives_by t) p after
     → item_in p r ≡ o → is_marked t r ≡ true
     → option_map (λ (i : Item). i.key) (item_in after r) ≡ option_map (λ (i : Item). i.key) o
@@ -334,7 +336,8 @@ inserted_here places after place r i j here e y =
     ∙ get-insert places i.key place i.key
     ∙ (let z = (bytes_eq-Decides i.key i.key).1 refl in rw z refl) ∙ ap Some (sym same)
 
--- where an item of a key without a place is appended, its key put into the index and its place marked, all stays tied
+-- where an item of a key without a place is appended, its key put into the index and its place
+-- marked, all stays tied
 pub tied_appended : (p after : PoolState) (bucket moment : ℕ) (i : Item) (place : Place) (index found : Table)
     (t : Marks) → IsTied p index t → IsPool after
     → IsAppended p bucket moment i after place → finite.get (current p index) i.key ≡ None

@@ -75,7 +75,8 @@ some_of : (o : Option Place) (p : PoolState) (t : ℕ) → is_some (if_live t (o
 some_of None p t h = absurd (false≢true h)
 some_of (Some r) p t h = (r, refl)
 
--- a segment can hold an item that may be written, whose cas number and flags are in range, and which nobody has read
+-- a segment can hold an item that may be written, whose cas number and flags are in range, and
+-- which nobody has read
 pub may_store : (p : PoolState) (index : Table) (marks : Marks) (t : ℕ) (i : Item) → IsTied p index marks
     → MayBeWritten p.sizes (shown_entries p index t) i.key i.value
     → i.cas < 2 ^ 64 → i.flags < 2 ^ 32 → i.reads ≡ 0 → i.own_deadline < 2 ^ 48 → IsStorable (item_limit p.sizes) i

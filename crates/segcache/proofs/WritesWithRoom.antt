@@ -1,4 +1,5 @@
--- An item that is written where little is held: nothing is given back or evicted for it, and segments stay filled.
+-- An item that is written where little is held: nothing is given back or evicted for it, and
+-- segments stay filled.
 use Rattle.std.proofs.Common.{◌≡◌, ℕ, ◌+◌, ◌-◌, ◌*◌, ◌≤◌, Bool, true, false, List, [], ◌∷◌, ◌++◌, map, Option}
 use Rattle.std.proofs.Common.{Some, refl, sym, ap, subst, ◌∙◌, inl, inr, arith}
 use Rattle.std.specs.Prelude.{◌⊎◌, ◌==◌, ◌||◌, if◌then◌else◌}
@@ -45,8 +46,8 @@ room_there lives p bucket t i after (has_room there) fits = record { same = refl
 room_there lives p bucket t i _ (gives_back after full dead given) fits = absurd (fits full)
 room_there lives p bucket t i _ (evicts after full none evicted) fits = absurd (fits full)
 
--- What an item leaves at its place that was written where little was held: nothing was given back, evicted or forgotten for
--- it, segments stay filled, and what is held grows by the item.
+-- What an item leaves at its place that was written where little was held: nothing was given back,
+-- evicted or forgotten for it, segments stay filled, and what is held grows by the item.
 pub record IsKeptWith (p : PoolState) (index : Table) (bucket t : ℕ) (i : Item) (after : PoolState) (found : Table)
     (place : Place) : Type 0 where
   pub added : IsAddedToTail p bucket t i after place ⊎ IsAddedToFree p bucket t i after place
@@ -103,7 +104,8 @@ series_of_one g (h ∷ series) all =
     same_itself g = and_from (g.bucket == g.bucket) (g.opened == g.opened) (eq-eqb g.bucket g.bucket refl)
         (eq-eqb g.opened g.opened refl)
 
--- where each segment is of the bucket of what has no deadline, segments of chains are all of that bucket's one series
+-- where each segment is of the bucket of what has no deadline, segments of chains are all of that
+-- bucket's one series
 series_last : (p : PoolState) (t : ℕ) (numbers : List ℕ) → AreUsed p numbers → AllLast p
     → AreOf (series_for lasting t) (map (series_of p) numbers)
 series_last p t [] used all = tt
@@ -150,11 +152,13 @@ pub all_last : (items : List StoredItem) (one : StoredItem) → AreLast items �
 all_last [] one all is = (is, tt)
 all_last (i ∷ items) one all is = (all.0, all_last items one all.1 is)
 
--- what is, with something added, no more than all but one of some equal parts is with one part no more than all of them
+-- what is, with something added, no more than all but one of some equal parts is with one part no
+-- more than all of them
 within_bound : (held d more s one : ℕ) → one ≡ 1 → 1 ≤ s → held + more ≤ (s - one) * d → held + 1 * d ≤ s * d
 within_bound held d more s one is some h = grind arith
 
--- Where all that was written is within the bound together with an item, so little is held that the item has room.
+-- Where all that was written is within the bound together with an item, so little is held that the
+-- item has room.
 pub holds_little : (p : PoolState) (t : ℕ) (items : List StoredItem) (one : StoredItem) → IsPool p → AllLast p
     → AreLast items → one.bucket ≡ lasting → held_size p ≤ written items
     → written (items ++ one ∷ []) ≤ (p.sizes.segments - spread

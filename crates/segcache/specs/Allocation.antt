@@ -6,9 +6,8 @@ use Rattle.segments.specs.Pools.{PoolState, Liveness}
 use Rattle.segments.specs.Changes.{HasNoRoom, IsGivenBack, IsAddedToTail, IsAddedToFree, dead_segments}
 use Rattle.segments.specs.Merges.{Evicts}
 
--- Room is made for an item of a bucket at the moment t, where these items are live: none is needed; or what has no live
--- item is given back; or, where
--- each segment has one, something is evicted.
+-- Room is made for an item of a bucket at the moment t, where these items are live: none is needed;
+-- or what has no live item is given back; or, where each segment has one, something is evicted.
 pub data MakesRoom (lives : Liveness) (p : PoolState) (bucket t : ℕ) (i : Item) : PoolState → Type 0 where
   has_room : ¬ (HasNoRoom p bucket t i) → MakesRoom lives p bucket t i p
   gives_back : (after : PoolState) → HasNoRoom p bucket t i → 0 < dead_segments lives p → IsGivenBack lives p after

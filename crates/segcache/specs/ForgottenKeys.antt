@@ -12,7 +12,8 @@ use Rattle.segcache.specs.Shown.{current, shown_entries, entry_at}
 use Rattle.segcache.specs.Allocation.{MakesRoom, IsWrittenTo}
 use Rattle.segcache.specs.Allocation.MakesRoom.{has_room, gives_back, evicts}
 
--- the keys of the items that a merge doesn't keep, or of the live items of the segment that was cleared
+-- the keys of the items that a merge doesn't keep, or of the live items of the segment that was
+-- cleared
 abbrev pub keys_evicted : (lives : Liveness) (p after : PoolState) → Evicts lives p after → List (List ℕ)
 keys_evicted lives p after (inl m) = map (λ j. j.item.key) (filter (λ j. not j.is_kept) m.judged)
 keys_evicted lives p after (inr c) = map (λ s. s.item.key) (live_standing lives p c.segment)
@@ -31,15 +32,16 @@ pub record IsEvicted (lives : Liveness) (p : PoolState) (index : Table) (after :
   pub entries : (t : ℕ) → shown_entries after found t
       ≡ without_keys (shown_entries p index t) (keys_evicted lives p after evicted)
 
--- Room was made for an item at the moment t, and of what was shown exactly the keys are forgotten that had to be.
+-- Room was made for an item at the moment t, and of what was shown exactly the keys are forgotten
+-- that had to be.
 pub record HasMadeRoom (lives : Liveness) (p : PoolState) (index : Table) (bucket t : ℕ) (i : Item) (after : PoolState)
     (found : Table) : Type 0 where
   pub room : MakesRoom lives p bucket t i after
   pub entries : shown_entries after found t
       ≡ without_keys (shown_entries p index t) (keys_forgotten lives p bucket t i after room)
 
--- The item was written at the moment t and stands at its key's place; of what was shown exactly the keys are forgotten
--- that had to be.
+-- The item was written at the moment t and stands at its key's place; of what was shown exactly the
+-- keys are forgotten that had to be.
 pub record PlacesItem (lives : Liveness) (p : PoolState) (index : Table) (bucket t : ℕ) (i : Item) (after : PoolState)
     (found : Table) : Type 0 where
   pub place : Place

@@ -14,8 +14,9 @@ use Rattle.index.specs.Table.{Table, IsIndex}
 use Rattle.segments.specs.Pools.{key_at}
 use Rattle.segcache.specs.Shown.{current}
 
--- The marks are exactly at the current places, those that the index has, each of which holds an item of its key; and
--- the index has a slot to spare for each item that fits into the pool, and its slots can say each place of the pool.
+-- The marks are exactly at the current places, those that the index has, each of which holds an
+-- item of its key; and the index has a slot to spare for each item that fits into the pool, and its
+-- slots can say each place of the pool.
 pub record IsTied (p : PoolState) (index : Table) (marks : Marks) : Type 0 where
   pub known : KnowsPool marks p
   pub indexed : IsIndex (key_at p) index
@@ -26,7 +27,8 @@ pub record IsTied (p : PoolState) (index : Table) (marks : Marks) : Type 0 where
   pub roomy : 2 * (p.sizes.segments * (p.sizes.segment_size / 32)) ≤ index.room
   pub layout : IsLayoutOf p.sizes index.layout
 
--- An item has the deadline of its segment; or one of its own that comes no earlier, where items have their own.
+-- An item has the deadline of its segment; or one of its own that comes no earlier, where items
+-- have their own.
 abbrev pub IsDatedIn : Bool → Option ℕ → Item → Type 0
 IsDatedIn exact shared i = (i.own_deadline ≡ 0) ⊎ ((exact ≡ true) × (has_arrived shared i.own_deadline ≡ true))
 
@@ -34,9 +36,9 @@ IsDatedIn exact shared i = (i.own_deadline ≡ 0) ⊎ ((exact ≡ true) × (has_
 abbrev pub AreDated : PoolState → Type 0
 AreDated p = (place : Place) (i : Item) → item_in p place ≡ Some i → IsDatedIn p.exact (shared_at p place) i
 
--- no segment has a later opening moment than one that is opened for a write at the moment t, which is within its limit,
--- and those of chains stand in the order of their opening moments, as far as the pool's rule keeps it; and items have deadlines
--- of their own only where they may
+-- no segment has a later opening moment than one that is opened for a write at the moment t, which
+-- is within its limit, and those of chains stand in the order of their opening moments, as far as
+-- the pool's rule keeps it; and items have deadlines of their own only where they may
 pub record IsPast (p : PoolState) (t : ℕ) : Type 0 where
   pub within : t ≤ max_moment
   pub opened : (n : ℕ) (u : Used) → segment_at p n ≡ Some u → u.opened ≤ opening_moment p.eviction u.bucket t

@@ -10,8 +10,9 @@ use Rattle.segcache.specs.State.{MapState}
 abbrev pub AllLast : PoolState → Type 0
 AllLast p = (n : ℕ) (u : Used) → segment_at p n ≡ Some u → u.bucket ≡ lasting
 
--- These items were stored so far, none with a deadline, and nothing was forgotten: each segment but the last one has no
--- room left for a largest item, and together they hold no more than was written.
+-- These items were stored so far, none with a deadline, and nothing was forgotten: each segment but
+-- the last one has no room left for a largest item, and together they hold no more than was
+-- written.
 pub record KeepsStored (m : MapState) (items : List StoredItem) : Type 0 where
   pub filled : IsFilled m.pool
   pub all_last : AllLast m.pool

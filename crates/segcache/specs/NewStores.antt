@@ -8,8 +8,8 @@ use Rattle.segcache.specs.StoreState.{Store, sizes_in, segmented_cache, last_mom
 use Rattle.segcache.specs.Keeping.{KeepsStored}
 use Rattle.segcache.specs.Promises.{IsMadeFor}
 
--- It hashes this seed before each key, changes values in place or writes them anew, keeps the limit of this dialect's answers,
--- evicts by this rule, and its items have deadlines of their own or not.
+-- It hashes this seed before each key, changes values in place or writes them anew, keeps the limit
+-- of this dialect's answers, evicts by this rule, and its items have deadlines of their own or not.
 pub record IsNewStore (sizes : Sizes) (seed : ℕ) (in_place : Bool) (d : Dialect) (eviction : Eviction) (exact : Bool) (store : Store)
     : Type 0 where
   pub sizes_are : sizes_in store ≡ sizes

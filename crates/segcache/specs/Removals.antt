@@ -14,7 +14,8 @@ pub record HasLeft (segment : ℕ) (old new : Places) : Type 0 where
   pub others : (key : List ℕ) (place : Place) → finite.get old key ≡ Some place → place.segment ≢ segment
       → finite.get new key ≡ Some place
 
--- exactly the keys have left with a place in the segment whose deadline is at or before the moment t
+-- exactly the keys have left with a place in the segment whose deadline is at or before the moment
+-- t
 pub record HaveArrivedLeft (p : PoolState) (t segment : ℕ) (old new : Places) : Type 0 where
   pub before : (key : List ℕ) (place : Place) → finite.get new key ≡ Some place → finite.get old key ≡ Some place
   pub waiting : (key : List ℕ) (place : Place) → finite.get new key ≡ Some place → place.segment ≡ segment

@@ -18,16 +18,18 @@ use Rattle.segcache.specs.State.{MapState, IsSegmentedMap}
 use Rattle.segcache.specs.StoreState.{sizes_in, segmented_cache}
 use Rattle.segcache.specs.Writes.{WritesToSegments, ChangesSegments, DatesSegments, IsReadAgain}
 
--- What a request finds at the moment t: the pool as it was, and an index and marks of what is live then.
+-- What a request finds at the moment t: the pool as it was, and an index and marks of what is live
+-- then.
 pub record FindsLive (before : Engine SegmentMap) (t : ℕ) (found : MapState) : Type 0 where
   pub pool : found.pool ≡ before.map.pool
   pub kept : IsSegmentedMap found
   pub moment : found.moment ≡ t
   pub entries : shown_entries found.pool found.index t ≡ (found_at (segmented_cache before) t).entries
 
--- What an outcome leaves of what was found. Where an item is stored, it is written, and room made for it, or it is changed in place,
--- or, where only its deadline is to change, it is left if it may be. Of each hit that is shown one read is counted. Else, and
--- where memory is refused, the pool stays.
+-- What an outcome leaves of what was found. Where an item is stored, it is written, and room made
+-- for it, or it is changed in place, or, where only its deadline is to change, it is left if it may
+-- be. Of each hit that is shown one read is counted. Else, and where memory is refused, the pool
+-- stays.
 pub data LeavesSegments (way : Way) (found : MapState) (done : Outcome) (after : MapState) : Reply → Type 0 where
   writes : (key : List ℕ) (entry : Entry) → done.stored ≡ Some key → way ≡ as_written
       → done.entries ≡ finite.insert (shown_entries found.pool found.index found.moment) key entry

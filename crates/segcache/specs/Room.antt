@@ -40,8 +40,8 @@ pub record IsRoomMade (p : PoolState) (index : Table) (t : ℕ) (after : PoolSta
   pub absent : (key : List ℕ) → finite.get (current p index) key ≡ None → finite.get (current after found) key ≡ None
   pub kept : AreKept p.sizes (shown_entries p index t) (shown_entries after found t)
 
--- The item was written at the moment t with a deadline that it may get in place of the one asked for, or with that, beside these
--- other entries, of which some may have been forgotten.
+-- The item was written at the moment t with a deadline that it may get in place of the one asked
+-- for, or with that, beside these other entries, of which some may have been forgotten.
 pub record IsPutBeside (others : Entries) (s : Sizes) (exact : Bool) (t : ℕ) (i : Item) (asked : Option ℕ) (after : PoolState)
     (found : Table) : Type 0 where
   pub sizes : after.sizes ≡ s

@@ -10,9 +10,9 @@ use Rattle.segments.specs.Filling.{IsFilled, HoldsLittle, held_size}
 use Rattle.segcache.specs.declared.segment_map.SegmentMap.{SegmentMap}
 use Rattle.segcache.specs.StoreState.{sizes_in, segmented_cache}
 
--- Where each segment but the last of its series is filled, and segments hold so little that an item of the stored
--- one's bucket surely has room, the request forgets nothing, segments stay filled, and what they hold grows by the
--- size of the item that it stores at most.
+-- Where each segment but the last of its series is filled, and segments hold so little that an item
+-- of the stored one's bucket surely has room, the request forgets nothing, segments stay filled,
+-- and what they hold grows by the size of the item that it stores at most.
 abbrev pub StaysFilled : Engine SegmentMap → ℕ → Request → Reply → Engine SegmentMap → Type 0
 StaysFilled before t q reply after =
     let items = stored_in (sizes_in before) (segmented_cache before) t q reply in

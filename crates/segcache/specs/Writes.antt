@@ -40,7 +40,8 @@ unread m key e = unread_by m.pool.exact key e
 abbrev pub with_value : Entry → Item → Item
 with_value e i = record i { value = e.value; cas = e.cas }
 
--- whether a life, of which what is above 8,388,608 seconds doesn't count, loses less than two widths of its bucket
+-- whether a life, of which what is above 8,388,608 seconds doesn't count, loses less than two
+-- widths of its bucket
 abbrev pub loses_little : ℕ → ℕ → ℕ → Bool
 loses_little t asked given = nat_lt (min asked (t + 8388608)) (given + 2 * life_width (asked - t))
 
@@ -50,7 +51,8 @@ may_give t None None = true
 may_give t (Some asked) (Some given) = nat_lt t given && nat_le given asked && loses_little t asked given
 may_give t _ _ = false
 
--- whether a touch at the moment t that asks for the first deadline leaves an entry that has the second one, which it may
+-- whether a touch at the moment t that asks for the first deadline leaves an entry that has the
+-- second one, which it may
 abbrev pub stays_as : ℕ → Option ℕ → Option ℕ → Bool
 stays_as t None None = true
 stays_as t (Some asked) (Some given) =
@@ -58,29 +60,30 @@ stays_as t (Some asked) (Some given) =
     && (loses_little t asked given || nat_le (asked - given) ((asked - t) / 8))
 stays_as t _ _ = false
 
--- whether an item with the first deadline of its own, which hasn't come at the moment t, goes into a segment with the second one:
--- that is the same or little earlier, and may have come
+-- whether an item with the first deadline of its own, which hasn't come at the moment t, goes into
+-- a segment with the second one: that is the same or little earlier, and may have come
 abbrev pub suits_segment : ℕ → Option ℕ → Option ℕ → Bool
 suits_segment t None None = true
 suits_segment t (Some own) (Some shared) =
     nat_lt t own && nat_le shared own && (loses_little t own shared || nat_le (own - shared) ((own - t) / 8))
 suits_segment t _ _ = false
 
--- whether an item that asks for the one deadline may stand in a segment with the other one: a write may give that, or the item has
--- its own, which goes in there
+-- whether an item that asks for the one deadline may stand in a segment with the other one: a write
+-- may give that, or the item has its own, which goes in there
 abbrev pub may_share_segment : Bool → ℕ → Option ℕ → Option ℕ → Bool
 may_share_segment exact t asked shared =
     may_give t asked shared || (exact && is_storable_deadline asked && suits_segment t asked shared)
 
--- Whether an item goes over the one of its key at a place: by the rule of the least read, or where items have their own
--- deadlines, if it takes as many bytes and may stand in that segment.
+-- Whether an item goes over the one of its key at a place: by the rule of the least read, or where
+-- items have their own deadlines, if it takes as many bytes and may stand in that segment.
 abbrev pub goes_over : MapState → Option ℕ → Item → Place → Bool
 goes_over m asked i place =
     goes_over_by m.pool.eviction m.pool.exact && may_share_segment m.pool.exact m.moment asked (shared_at m.pool place)
     && fits_over i (item_in m.pool place)
 
--- The item went over the one of its key, of which the read count stays. It has its own deadline, the one asked for, or that
--- of the segment. Nothing else changed, and of what was shown nothing was forgotten.
+-- The item went over the one of its key, of which the read count stays. It has its own deadline,
+-- the one asked for, or that of the segment. Nothing else changed, and of what was shown nothing
+-- was forgotten.
 pub record GoesOver (old : MapState) (i : Item) (asked : Option ℕ) (new : MapState) : Type 0 where
   pub place : Place
   pub stands : StandsAt old i.key place
@@ -94,8 +97,9 @@ pub record GoesOver (old : MapState) (i : Item) (asked : Option ℕ) (new : MapS
       ≡ finite.insert (shown_entries old.pool old.index old.moment) i.key
       (kept_entry (item_deadline i (shared_at old.pool place)) i)
 
--- The entry's item, which a segment can hold and which doesn't go over another, was placed in the bucket of its time to live, at the map's moment,
--- where the key's old item is no longer live; the entry stands there with a deadline that it may get.
+-- The entry's item, which a segment can hold and which doesn't go over another, was placed in the
+-- bucket of its time to live, at the map's moment, where the key's old item is no longer live; the
+-- entry stands there with a deadline that it may get.
 pub record WritesAnew (old : MapState) (key : List ℕ) (entry : Entry) (new : MapState) : Type 0 where
   pub anew : (place : Place) → StandsAt old key place → goes_over old entry.deadline (unread old key entry) place ≡ false
   pub storable : IsStorable (item_limit old.pool.sizes) (unread old key entry)
@@ -111,8 +115,9 @@ pub record WritesAnew (old : MapState) (key : List ℕ) (entry : Entry) (new : M
 abbrev pub WritesToSegments : MapState → List ℕ → Entry → MapState → Type 0
 WritesToSegments old key entry new = GoesOver old (unread old key entry) entry.deadline new ⊎ WritesAnew old key entry new
 
--- The key's item stands where it stood, with its flags and its deadline, and has the entry's value and cas number: it
--- takes as many bytes. Nothing else changed, and of what was shown nothing was forgotten.
+-- The key's item stands where it stood, with its flags and its deadline, and has the entry's value
+-- and cas number: it takes as many bytes. Nothing else changed, and of what was shown nothing was
+-- forgotten.
 pub record ChangesInPlace (old : MapState) (key : List ℕ) (entry : Entry) (new : MapState) : Type 0 where
   pub place : Place
   pub stands : StandsAt old key place
@@ -143,8 +148,8 @@ is_same None None = true
 is_same (Some one) (Some other) = one == other
 is_same _ _ = false
 
--- whether a touch that asks for the first deadline leaves an entry that has the second one: if it may; and where items have their
--- own deadlines, if it is that one, as far as an item can have it
+-- whether a touch that asks for the first deadline leaves an entry that has the second one: if it
+-- may; and where items have their own deadlines, if it is that one, as far as an item can have it
 abbrev pub touch_leaves_by : Bool → ℕ → Option ℕ → Option ℕ → Bool
 touch_leaves_by exact t asked given = if exact && is_storable_deadline asked then is_same asked given else stays_as t asked given
 
@@ -157,7 +162,8 @@ pub record IsTouched (old : MapState) (key : List ℕ) (new : MapState) : Type 0
   pub stands : StandsAt old key place
   pub new_is : new ≡ record old { pool = with_segment_hit old.pool place.segment }
 
--- the key's entry was left as it is, whose deadline may stand for the one asked for, and the touch was counted
+-- the key's entry was left as it is, whose deadline may stand for the one asked for, and the touch
+-- was counted
 pub record StaysDated (old : MapState) (key : List ℕ) (entry : Entry) (reply : Reply) (new : MapState) : Type 0 where
   pub deadline : Option ℕ
   pub there : finite.get (shown_entries old.pool old.index old.moment) key ≡ Some (record entry { deadline = deadline })

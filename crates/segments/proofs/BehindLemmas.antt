@@ -94,7 +94,8 @@ pub end_is : (us : List (Option Used)) (b : ℕ) (chain : List ℕ) → end_of u
 end_is us b [] = refl
 end_is us b (f ∷ r) = end_by us b f r (eqb b lasting) refl
 
--- So far the walk has seen a part of the order: what it has to find is what it finds behind the last segment that it saw.
+-- So far the walk has seen a part of the order: what it has to find is what it finds behind the
+-- last segment that it saw.
 abbrev pub IsWalking : List (Option Used) → ℕ → List ℕ → List ℕ → Option ℕ → Type 0
 IsWalking us b order rest None = chain_in us rest b ≡ chain_in us order b
 IsWalking us b order rest (Some n) = end_of us b (n ∷ chain_in us rest b) ≡ end_of us b (chain_in us order b)
@@ -229,9 +230,10 @@ moment_by us f n r false e h =
     let q : ℕ → Bool = λ m. eqb (opened_in us m) (opened_in us f) in
     eqb-true (opened_in us n) (opened_in us f) (while_passes q (take (length r) (f ∷ r)) n h)
 
--- What is known of the segment that follows the front, where the merge's first segment is another one: it isn't merged, is
--- of the same bucket, and stands behind the first one; and those of the bucket between the two are of the front, so
--- that they were opened at the moment of the first one, unless their items have no deadline.
+-- What is known of the segment that follows the front, where the merge's first segment is another
+-- one: it isn't merged, is of the same bucket, and stands behind the first one; and those of the
+-- bucket between the two are of the front, so that they were opened at the moment of the first one,
+-- unless their items have no deadline.
 pub record IsBehind (p : PoolState) (c : Choice) (first : ℕ) : Type 0 where
   pub kept : times (behind_front p.segments c.bucket (chain_of p c)) (merged_segments p c) ≡ 0
   pub of_first : in_bucket p.segments c.bucket first ≡ true

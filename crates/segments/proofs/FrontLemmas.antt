@@ -118,8 +118,8 @@ nothing_by most us true = ap (λ xs. take (length xs - 1) xs) (take-none (most +
 nothing_by most us false =
     ap (λ xs. same_opening us (take (length xs - 1) xs)) (take-none (most + 1)) ∙ sym (take-none most)
 
--- of the first segments of a chain, one more than so many, all but the last, cut where a moment differs, are the first of
--- its front
+-- of the first segments of a chain, one more than so many, all but the last, cut where a moment
+-- differs, are the first of its front
 pub front_cut : (most : ℕ) (us : List (Option Used)) (b : ℕ) (xs : List ℕ)
     → (if eqb b lasting then first_most most xs else same_opening us (first_most most xs)) ≡ take most (front_of us b xs)
 front_cut most us b [] = nothing_by most us (eqb b lasting)

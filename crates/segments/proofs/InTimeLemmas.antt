@@ -1,4 +1,5 @@
--- The segments of chains stand in the order of their opening moments, whatever is written and whatever becomes free.
+-- The segments of chains stand in the order of their opening moments, whatever is written and
+-- whatever becomes free.
 use Rattle.std.proofs.Common.{◌≡◌, ℕ, ◌+◌, ◌<◌, ◌≤◌, Bool, true, false, List, [], ◌∷◌, length, Option, Some, None, refl, sym, ap, subst, ◌∙◌}
 use Rattle.std.proofs.Common.{inl, inr, arith, add-one}
 use Rattle.std.specs.Prelude.{◌==◌, ◌⊎◌, if◌then◌else◌, All, IfSome, IsSome, IsTrue, MatchOption}

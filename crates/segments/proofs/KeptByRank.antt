@@ -12,7 +12,8 @@ use Rattle.segments.specs.Choosing.{candidate_in, weight}
 abbrev pub ranks_above : Candidate → Candidate → Bool
 ranks_above a b = nat_lt b.reads a.reads || ((a.reads == b.reads) && nat_lt b.cas a.cas)
 
--- each is kept exactly where its size and the sizes of the kept ones ranked before it are within the limit
+-- each is kept exactly where its size and the sizes of the kept ones ranked before it are within
+-- the limit
 abbrev pub AreKeptByRank : ℕ → List Candidate → List Candidate → Type 0
 AreKeptByRank limit earlier [] = ⊤
 AreKeptByRank limit earlier (c ∷ later) =

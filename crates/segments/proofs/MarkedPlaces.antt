@@ -571,8 +571,8 @@ kept_mark true b x e h = absurd (false≢true (sym e))
 kept_mark false true x e h = absurd (false≢true h)
 kept_mark false false x e h = (refl, h)
 
--- A merge was planned with these marks, or with a test that says the same of each item, and carried out; the marks were
--- carried along.
+-- A merge was planned with these marks, or with a test that says the same of each item, and carried
+-- out; the marks were carried along.
 pub knows_carried : (t : Marks) (p : PoolState) (plan : Plan) (after : PoolState) → KnowsPool t p → IsPool after
     → IsPlan (lives_by t) p plan → FollowsPlan p plan after
     → All (λ m. IsSome (item_in p m.source)) plan.moves → KnowsPool (carried_marks t plan.moves) after
@@ -625,7 +625,8 @@ planned_within t lives p plan known h k starts =
     targets_within t p plan (carried_out (with_merge_planned p plan) plan) known k
     (carried lives p plan (carried_out (with_merge_planned p plan) plan) known.pool h refl) starts
 
--- ---- the calls of a merge, by what their contracts say: `plan_merge`, `moves`, `carry` and `merge_next`
+-- ---- the calls of a merge, by what their contracts say: `plan_merge`, `moves`, `carry` and
+-- `merge_next`
 
 -- what `plan_merge` says where it answers true
 abbrev pub IsPlanned : Marks → PoolState → PoolState → Type 0

@@ -89,7 +89,8 @@ abbrev pub times_behind : ℕ → ℕ → List ℕ → ℕ
 times_behind k n [] = 0
 times_behind k n (m ∷ xs) = if m == n then times k xs else times_behind k n xs
 
--- what is known of the number before which another one is to stand: it passes the test, and stands behind the other
+-- what is known of the number before which another one is to stand: it passes the test, and stands
+-- behind the other
 abbrev pub IsAhead : (ℕ → Bool) → ℕ → ℕ → List ℕ → Type 0
 IsAhead q next n xs = (q next ≡ true) × (1 ≤ times_behind next n xs)
 
@@ -377,7 +378,8 @@ swap_mid pre n m later i e =
     ∙ ap (λ ys. set ys (i + 1) n) (set_at pre n (m ∷ later) m i e ∙ sym (append_assoc pre (m ∷ []) (m ∷ later)))
     ∙ set_at (pre ++ m ∷ []) m later n (i + 1) more
 
--- So far a number moved up to a place: with it and the numbers behind it put in order, the list is as it is to be.
+-- So far a number moved up to a place: with it and the numbers behind it put in order, the list is
+-- as it is to be.
 pub record IsMoving (next n : ℕ) (old now : List ℕ) (place : ℕ) : Type 0 where
   pub before : List ℕ
   pub later : List ℕ

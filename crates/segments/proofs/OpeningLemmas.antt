@@ -1,4 +1,5 @@
--- Opening moments: how far they are rounded down, and that a segment that was just opened takes items.
+-- Opening moments: how far they are rounded down, and that a segment that was just opened takes
+-- items.
 use Rattle.std.proofs.Common.{◌≡◌, ℕ, zero, suc, ◌+◌, ◌-◌, ◌*◌, ◌/◌, ◌%◌, ◌<◌, ◌≤◌, Bool, true, false, refl, ap, arith, inl, inr}
 use Rattle.std.specs.Prelude.{◌==◌, ◌||◌, not, if◌then◌else◌, max, nat_le, nat_lt}
 use Rattle.std.proofs.lemmas.Bool.{cases_Bool, or_from, or_parts, lt-leb, eqb-false}

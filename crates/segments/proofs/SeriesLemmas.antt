@@ -1,4 +1,5 @@
--- The series of segments, each those of one bucket and one opening moment, and that all segments are in chains.
+-- The series of segments, each those of one bucket and one opening moment, and that all segments
+-- are in chains.
 use Rattle.std.proofs.Common.{◌≡◌, ℕ, suc, ◌+◌, ◌*◌, ◌<◌, ◌≤◌, Bool, true, false, eqb, List, [], ◌∷◌, ◌++◌, length}
 use Rattle.std.proofs.Common.{map, Option, Some, None, refl, sym, ap, subst, ◌∙◌, arith, inl, inr, add-one}
 use Rattle.std.specs.Prelude.{nat_lt, nat_le, ◌==◌, ◌&&◌, ◌||◌, if◌then◌else◌, IsTrue, All, is_some, filter, option_and_then}
@@ -187,7 +188,8 @@ pub bucket_of_in : (o : Option Used) (b : ℕ) → option_map_or (λ (s : Used).
 bucket_of_in None b h = absurd (false≢true h)
 bucket_of_in (Some u) b h = eqb-true u.bucket b h
 
--- segments in order that are of one bucket with deadlines were opened in that order, whatever the rule
+-- segments in order that are of one bucket with deadlines were opened in that order, whatever the
+-- rule
 ordered : (e : Eviction) (p : PoolState) (n m : ℕ) → bucket_in p n ≡ bucket_in p m → (bucket_in p n == lasting) ≡ false
     → OpensNoLater e p n m → opened_at p n ≤ opened_at p m
 ordered Oldest p n m same dated h = h
@@ -260,7 +262,8 @@ tail_filled p b t n u i s tail_is none e same moment =
     let held : held_in p n ≡ size_of_all u.items = ap (λ o. size_of_all (items_of o)) e in
     omega arith
 
--- a segment of the item's series holds so much: one that goes with it is after it, or it is the tail
+-- a segment of the item's series holds so much: one that goes with it is after it, or it is the
+-- tail
 pub series_filled : (p : PoolState) (b t n : ℕ) (u : Used) (later : List ℕ) (o : Option ℕ) (i : Item)
     → IsStorable (item_limit p.sizes) i → open_tail p b t (has_own i) (size_of_item i) ≡ None
     → last_or o (filter (in_bucket p.segments b) (n ∷ later)) ≡ tail p b → segment_at p n ≡ Some u → u.bucket ≡ b
@@ -307,7 +310,8 @@ unfolding with_new
 new_length p [] g = refl
 new_length p (n ∷ numbers) g = ap suc (new_length p numbers g)
 
--- a segment of the series of a bucket and a moment is one of the bucket, and of the moment where that counts
+-- a segment of the series of a bucket and a moment is one of the bucket, and of the moment where
+-- that counts
 series_moment : (p : PoolState) (b t n : ℕ) (u : Used) → segment_at p n ≡ Some u
     → same_series (series_of p n) (series_for b t) ≡ true
     → (u.bucket ≡ b) × (((b == lasting) || (u.opened == t)) ≡ true)
@@ -321,7 +325,8 @@ series_moment p b t n u e h =
     (λ (x : ℕ). if x == lasting then 0 else u.opened) (sym buckets) ∙ moments in
     (buckets, moment_by (b == lasting) u.opened t one)
 
--- where no tail takes an item, each segment is full or the last of its series, the item's own series among them
+-- where no tail takes an item, each segment is full or the last of its series, the item's own
+-- series among them
 full_by : (p : PoolState) (b t : ℕ) (i : Item) (numbers : List ℕ) (o : Option ℕ) → IsStorable (item_limit p.sizes) i
     → open_tail p b t (has_own i) (size_of_item i) ≡ None
     → last_or o (filter (in_bucket p.segments b) numbers) ≡ tail p b → AreUsed p numbers

@@ -16,7 +16,8 @@ opened_at p n = opened_in p.segments n
 abbrev pub go_together : List (Option Used) → ℕ → ℕ → ℕ → Bool
 go_together us bucket n m = (bucket == lasting) || (opened_in us m == opened_in us n)
 
--- of a chain all but the tail, and of a bucket with deadlines only the first ones of one opening moment
+-- of a chain all but the tail, and of a bucket with deadlines only the first ones of one opening
+-- moment
 abbrev pub front_of : List (Option Used) → ℕ → List ℕ → List ℕ
 front_of us bucket [] = []
 front_of us bucket (first ∷ rest) =
@@ -44,7 +45,8 @@ qualifies p c = nat_le 2 (length (front p c))
 abbrev pub number_at : List ℕ → ℕ → ℕ
 number_at order k = slice_index_or order k 0
 
--- the segment of a chain that follows its front: the first that can't become one with those of the front, or the tail
+-- the segment of a chain that follows its front: the first that can't become one with those of the
+-- front, or the tail
 abbrev pub behind_front : List (Option Used) → ℕ → List ℕ → ℕ
 behind_front us bucket chain = number_at chain (length (front_of us bucket chain))
 

@@ -27,7 +27,8 @@ with_hit h n = record h { counts = slice_set h.counts n (min (segment_hits h n +
 abbrev pub with_hits : HitCounts → ℕ → ℕ → HitCounts
 with_hits h n hits = record h { counts = slice_set h.counts n hits }
 
--- a segment is opened, without a hit; each time half as many were opened as there are, all hits are halved
+-- a segment is opened, without a hit; each time half as many were opened as there are, all hits are
+-- halved
 abbrev pub with_opened : HitCounts → ℕ → HitCounts
 with_opened h n =
     let counts = slice_set h.counts n 0 in

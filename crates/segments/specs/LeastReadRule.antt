@@ -1,4 +1,5 @@
--- The rule of the least read: the first places of the order are looked at, and what it notes to find a mate.
+-- The rule of the least read: the first places of the order are looked at, and what it notes to
+-- find a mate.
 use Rattle.std.specs.Prelude.{◌≡◌, ℕ, ◌-◌, ◌/◌, ◌<◌, ◌≤◌, ◌%◌, Bool, true, false, ◌||◌, List, [], ◌∷◌, length, take, drop, min}
 use Rattle.std.specs.Prelude.{◌==◌, slice_index_or, if◌then◌else◌, Option, IsTrue, IsFalse}
 use Rattle.segments.specs.declared.merge.Choice.{Choice}
@@ -8,8 +9,8 @@ use Rattle.proto.specs.Buckets.{width_of, lower_end}
 use Rattle.segments.specs.Pools.{bucket_count, lasting, PoolState, Used, in_bucket, chain_in}
 use Rattle.segments.specs.Chains.{opened_in, number_at, qualifies_in}
 
--- The moment, rounded down to a multiple of half the bucket's width. It isn't rounded for lives that have no end or
--- begin at 0.
+-- The moment, rounded down to a multiple of half the bucket's width. It isn't rounded for lives
+-- that have no end or begin at 0.
 abbrev pub rounded_moment : ℕ → ℕ → ℕ
 rounded_moment bucket t =
     if (bucket == lasting) || (lower_end bucket == 0) then t else t - t % (width_of bucket / 2)
@@ -26,7 +27,8 @@ look_count p = min (third p) (length p.order)
 abbrev pub candidates : PoolState → List ℕ
 candidates p = take (look_count p) p.order
 
--- the segment at a place of the order has no mate behind it: its chain can't be merged from there on
+-- the segment at a place of the order has no mate behind it: its chain can't be merged from there
+-- on
 abbrev pub HasNoMate : List (Option Used) → List ℕ → ℕ → Type 0
 HasNoMate us order k =
     (b : ℕ) → in_bucket us b (number_at order k) ≡ true → IsFalse (qualifies_in us (drop k order) b)
@@ -54,7 +56,8 @@ abbrev pub moved_before : ℕ → ℕ → List ℕ → List ℕ
 moved_before next n [] = []
 moved_before next n (m ∷ later) = if m == n then put_before next n later else m ∷ moved_before next n later
 
--- what a chain has from a place on: nothing, its tail alone, or more, of which the first was opened at a moment
+-- what a chain has from a place on: nothing, its tail alone, or more, of which the first was opened
+-- at a moment
 abbrev pub rest_of : List (Option Used) → List ℕ → Rest
 rest_of us [] = Nothing
 rest_of us (n ∷ []) = Tail

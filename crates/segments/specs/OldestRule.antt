@@ -1,4 +1,5 @@
--- The rule of the oldest: chains take turns, each with its front, and what it notes to find the next one.
+-- The rule of the oldest: chains take turns, each with its front, and what it notes to find the
+-- next one.
 use Rattle.std.specs.Prelude.{◌≡◌, ℕ, ◌+◌, ◌-◌, ◌<◌, ◌%◌, List, [], ◌∷◌, slice_index_or, if◌then◌else◌, Option, IsTrue, IsFalse}
 use Rattle.segments.specs.declared.rules.oldest.Start.{Start}
 use Rattle.segments.specs.declared.rules.oldest.Start.TheVariants.{Empty, One, Apart, Pair, Mergeable}

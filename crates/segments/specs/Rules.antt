@@ -1,4 +1,5 @@
--- The rules of eviction: what each of them says. What only one of them speaks of stands in its own file.
+-- The rules of eviction: what each of them says. What only one of them speaks of stands in its own
+-- file.
 use Rattle.std.specs.Prelude.{◌≡◌, ℕ, ◌≤◌, Bool, true, false, ◌==◌, List, [], take, Option, Some}
 use Rattle.proto.specs.declared.eviction.Eviction.{Eviction}
 use Rattle.proto.specs.declared.eviction.Eviction.TheVariants.{Oldest, LeastRead}
@@ -9,19 +10,20 @@ use Rattle.segments.specs.Chains.{opened_at, bucket_in}
 use Rattle.segments.specs.OldestRule.{IsNextIn, NoneIn}
 use Rattle.segments.specs.LeastReadRule.{rounded_moment, NoneBetween, IsFirstBetween, moved_before, look_count}
 
--- the opening moment of a segment that is opened for a write at the moment t: by the rule of the oldest t itself, by that
--- of the least read t rounded down
+-- the opening moment of a segment that is opened for a write at the moment t: by the rule of the
+-- oldest t itself, by that of the least read t rounded down
 abbrev pub opening_moment : Eviction → ℕ → ℕ → ℕ
 opening_moment Oldest bucket t = t
 opening_moment LeastRead bucket t = rounded_moment bucket t
 
--- whether a rule lets an item go over the one of its key; both do where items have deadlines of their own
+-- whether a rule lets an item go over the one of its key; both do where items have deadlines of
+-- their own
 abbrev pub goes_over_by : Eviction → Bool → Bool
 goes_over_by Oldest exact = exact
 goes_over_by LeastRead exact = true
 
--- what a rule merges next: of the first chain from the cursor on that can be merged its front; or of the places looked
--- at the first whose segment has a mate
+-- what a rule merges next: of the first chain from the cursor on that can be merged its front; or
+-- of the places looked at the first whose segment has a mate
 abbrev pub IsNextBy : Eviction → List (Option Used) → List ℕ → ℕ → ℕ → Choice → Type 0
 IsNextBy Oldest us order cursor looked c = (c.from ≡ 0) × IsNextIn us order cursor c.bucket
 IsNextBy LeastRead us order cursor looked c = IsFirstBetween us order 0 looked c
@@ -36,20 +38,22 @@ abbrev pub most_merged : Eviction → ℕ
 most_merged Oldest = 4
 most_merged LeastRead = 3
 
--- where a rule lets the segment stand that a merge fills: in its place, or directly before the one behind the front
+-- where a rule lets the segment stand that a merge fills: in its place, or directly before the one
+-- behind the front
 abbrev pub order_by : Eviction → ℕ → ℕ → List ℕ → List ℕ
 order_by Oldest next n order = order
 order_by LeastRead next n order = moved_before next n order
 
--- The one segment's opening moment is no later than the other's, which stands behind it: by the rule of the oldest
--- always, by that of the least read where both are of one bucket, whose items have deadlines.
+-- The one segment's opening moment is no later than the other's, which stands behind it: by the
+-- rule of the oldest always, by that of the least read where both are of one bucket, whose items
+-- have deadlines.
 abbrev pub OpensNoLater : Eviction → PoolState → ℕ → ℕ → Type 0
 OpensNoLater Oldest p n m = opened_at p n ≤ opened_at p m
 OpensNoLater LeastRead p n m =
     bucket_in p n ≡ bucket_in p m → (bucket_in p n == lasting) ≡ false → opened_at p n ≤ opened_at p m
 
--- the segment that is evicted: the one that was opened first, or of those at the places looked at the one with the fewest
--- hits
+-- the segment that is evicted: the one that was opened first, or of those at the places looked at
+-- the one with the fewest hits
 abbrev pub IsVictimOf : Eviction → ℕ → List ℕ → HitCounts → ℕ → Type 0
 IsVictimOf Oldest looked order hits n = oldest order ≡ Some n
 IsVictimOf LeastRead looked order hits n = IsFewest hits (take looked order) n

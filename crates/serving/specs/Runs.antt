@@ -35,7 +35,8 @@ abbrev pub IsStoreFor : Sizes → ℕ → ServeOptions → Store → Type 0
 IsStoreFor sizes seed options store = IsNewStore sizes seed options.update_in_place options.dialect options.eviction
     options.exact_ttls store
 
--- what is served over, as the options say: a new store, an exchange, and a new port of each of its workers
+-- what is served over, as the options say: a new store, an exchange, and a new port of each of its
+-- workers
 pub record IsSetUp {R : Type 0} (sizes : Sizes) (seed : ℕ) (options : ServeOptions) (exchange : ExchangeView)
     (ports : List (MioPort R)) (store : Store) : Type 0 where
   pub workers : exchange.workers ≡ options.workers
@@ -44,9 +45,9 @@ pub record IsSetUp {R : Type 0} (sizes : Sizes) (seed : ℕ) (options : ServeOpt
   pub count : length ports ≡ options.workers
   pub new_store : IsStoreFor sizes seed options store
 
--- A group ran as the options say over new ports and a new store, both of these sizes, and over the system's clock, which
--- was not read yet, and left this report. The store hashes this seed before each key. Each answer of the clock is the seconds of a
--- reading.
+-- A group ran as the options say over new ports and a new store, both of these sizes, and over the
+-- system's clock, which was not read yet, and left this report. The store hashes this seed before
+-- each key. Each answer of the clock is the seconds of a reading.
 pub record IsServed {R : Type 0} (sizes : Sizes) (seed : ℕ) (options : ServeOptions)
     (report : GroupReport (MioPort R) ClockLog) : Type 0 where
   pub exchange : TableId

@@ -5,7 +5,8 @@ use proto::FatalKind;
 use std::fmt;
 use worker_port::CloseReason;
 
-/// Shows the connection's peer, the reason, its line in quotes if it is closed for that, and how many more there were.
+/// Shows the connection's peer, the reason, its line in quotes if it is closed for that, and how
+/// many more there were.
 #[derive(Drop)]
 pub(crate) struct ClosingText<'a> {
     pub(crate) closing: &'a Closing,
@@ -40,7 +41,8 @@ fn reason_text(reason: CloseReason) -> &'static str {
     }
 }
 
-/// Bytes as text in quotes: printable ASCII as it is, but for quotes and backslashes, and other bytes in hexadecimal.
+/// Bytes as text in quotes: printable ASCII as it is, but for quotes and backslashes, and other
+/// bytes in hexadecimal.
 #[derive(Drop)]
 struct Escaped<'a> {
     line: &'a [u8],

@@ -37,7 +37,8 @@ pub enum Fault {
 }
 
 impl Fault {
-    /// The exit status: 2 if the options ask for what can't be, 3 if the address can't be had, else 1.
+    /// The exit status: 2 if the options ask for what can't be, 3 if the address can't be had, else
+    /// 1.
     pub fn status(&self) -> u8
         ensures { result ≡ fault_status self.now }
     {

@@ -22,7 +22,8 @@ const REQUESTS: u64 = 64;
 
 const KEYS: u64 = 255;
 
-/// The output of all connections of a worker, above which large replies wait, unless the server is told another sum.
+/// The output of all connections of a worker, above which large replies wait, unless the server is
+/// told another sum.
 const OUTPUT: u64 = 64 * MIB;
 
 /// What a connection takes beside its output: its state, the input that is kept, and a piece.
@@ -45,7 +46,8 @@ fn more_than_block(dialect: Dialect) -> u64 {
     dialect.most_data().saturating_sub(MAX_BLOCK)
 }
 
-/// What a worker takes for the values of replies on their way, and for one reply above the most output.
+/// What a worker takes for the values of replies on their way, and for one reply above the most
+/// output.
 fn answers_of(dialect: Dialect) -> (u64, u64) {
     match dialect {
         Dialect::Lenient(_) => {
@@ -73,7 +75,8 @@ fn connections_of(dialect: Dialect, connections: u64) -> u64 {
     connections.saturating_mul(CONNECTION).saturating_add(large)
 }
 
-/// The store: segments, room for merges, live marks, and an index for as many of the smallest items as there may be.
+/// The store: segments, room for merges, live marks, and an index for as many of the smallest items
+/// as there may be.
 fn store_bytes(geometry: Geometry) -> u64 {
     let segment = u64::from(geometry.segment_size());
     let segments = u64::from(geometry.segments()).saturating_mul(segment);
@@ -86,8 +89,9 @@ fn store_bytes(geometry: Geometry) -> u64 {
         .saturating_add(index)
 }
 
-/// About the most bytes that the options let a server take, without the system's buffers of its connections: how large a reply gets is
-/// only estimated. Output takes up to three times its bytes while clients read a part of it.
+/// About the most bytes that the options let a server take, without the system's buffers of its
+/// connections: how large a reply gets is only estimated. Output takes up to three times its bytes
+/// while clients read a part of it.
 pub(crate) fn most_bytes(options: &ServeOptions, geometry: Geometry) -> u64 {
     let (values, reply) = answers_of(options.dialect);
     let connections = options.connections.unwrap_or(CONNECTIONS);
@@ -112,7 +116,8 @@ pub(crate) fn mebibytes(bytes: u64) -> u64 {
     bytes / MIB + u64::from(bytes % MIB > 0)
 }
 
-/// The first bytes of a file as text, without its line's end. None if it can't be read, or has more.
+/// The first bytes of a file as text, without its line's end. None if it can't be read, or has
+/// more.
 fn line_of<R: Files>(rt: &R, alloc: Global, path: &str) -> Option<String> {
     let mut file = fs::open(rt, path).ok()?;
     let mut room = [0u8; 4096];
@@ -135,7 +140,8 @@ fn least_of(one: Option<u64>, other: Option<u64>) -> Option<u64> {
     }
 }
 
-/// The least limit on memory of this control group and of those that it is part of. None if there is none.
+/// The least limit on memory of this control group and of those that it is part of. None if there
+/// is none.
 fn least_limit<R: Files>(rt: &R, alloc: Global, group: &str) -> Option<u64> {
     let mut group = group;
     let mut least = None;
@@ -159,7 +165,8 @@ fn group_in(said: &str) -> &str {
     }
 }
 
-/// The least limit on memory of the process's control group and of those that it is part of. None if there is none.
+/// The least limit on memory of the process's control group and of those that it is part of. None
+/// if there is none.
 pub(crate) fn group_limit<R: Files>(rt: &R, alloc: Global) -> Option<u64> {
     let said = line_of(rt, alloc, "/proc/self/cgroup")?;
     least_limit(rt, alloc, group_in(said.as_str()))

@@ -22,7 +22,8 @@ pub(crate) struct Watch {
 }
 
 impl Watch {
-    /// None if standard error can't be watched, as where it is a file, which keeps no writer waiting.
+    /// None if standard error can't be watched, as where it is a file, which keeps no writer
+    /// waiting.
     pub(crate) fn new<H: Net>(rt: &H, alloc: Global) -> Option<Watch> {
         let poll = Poll::new(rt).ok()?;
         let events = Events::with_capacity(alloc, 1).ok()?;
@@ -32,8 +33,8 @@ impl Watch {
         Some(Watch { poll, events })
     }
 
-    /// A pipe that takes anything takes at least 4,096 bytes. It is registered anew, since a poll tells only of what has
-    /// changed.
+    /// A pipe that takes anything takes at least 4,096 bytes. It is registered anew, since a poll
+    /// tells only of what has changed.
     fn takes_a_line(&mut self) -> bool {
         let registered = self.poll.registry().reregister(
             &mut SourceFd(&STANDARD_ERROR),
@@ -49,8 +50,8 @@ impl Watch {
     }
 }
 
-/// Tells the operator on standard error, a line each. It never waits: a line that standard error doesn't take at once
-/// is dropped.
+/// Tells the operator on standard error, a line each. It never waits: a line that standard error
+/// doesn't take at once is dropped.
 #[derive(Drop)]
 pub(crate) struct Operator<H: Drop> {
     pub(crate) rt: H,
@@ -85,7 +86,8 @@ impl<H: Eprint + Drop> Operator<H> {
         }
     }
 
-    /// Tells how much memory it may take at most, and warns if its control group has a limit below that.
+    /// Tells how much memory it may take at most, and warns if its control group has a limit below
+    /// that.
     pub(crate) fn may_take(&mut self, most: u64, limit: Option<u64>) {
         let most_mebibytes = mebibytes(most);
         if self.can_write() {

@@ -3,7 +3,8 @@
 use std::random::RandomSource;
 use std::time::{self, SystemTime, UNIX_EPOCH};
 
-/// Eight random bytes of the system's, or if it gives none its clock's nanoseconds since 1970, 0 if that can't be read.
+/// Eight random bytes of the system's, or if it gives none its clock's nanoseconds since 1970, 0 if
+/// that can't be read.
 pub fn seed_of<R: RandomSource + time::Clock>(rt: &R) -> u64 {
     let mut bytes = [0; 8];
     if rt.fill_bytes(&mut bytes).is_ok() {

@@ -76,8 +76,8 @@ fn set_limits<H: Wait + Net + time::Clock + Copy + Drop>(
     }
 }
 
-/// The listener's end of the hand of a worker of the exchange, which takes as many streams as it opens sessions in a run,
-/// and its port, with the limits of the options.
+/// The listener's end of the hand of a worker of the exchange, which takes as many streams as it
+/// opens sessions in a run, and its port, with the limits of the options.
 fn make_port<H: Wait + Net + time::Clock + Copy + Drop>(
     rt: H,
     alloc: Global,
@@ -164,7 +164,8 @@ fn listening_line(alloc: Global, options: &ServeOptions, port: u16) -> Result<St
     address_line(alloc, listen, port)
 }
 
-/// Tells the operator the options in force and the memory that they may take, and prints that it listens, with the real port.
+/// Tells the operator the options in force and the memory that they may take, and prints that it
+/// listens, with the real port.
 fn announce<H: Eprint + Net + Files + Drop, W: Write>(
     rt: H,
     alloc: Global,
@@ -199,8 +200,8 @@ fn terms_of(geometry: Geometry) -> Terms
     }
 }
 
-/// What is made before the line is printed: the listener with its ends of the hands, the exchange, its workers' ports and
-/// the store.
+/// What is made before the line is printed: the listener with its ends of the hands, the exchange,
+/// its workers' ports and the store.
 #[derive(Drop)]
 struct Opened<H: Drop> {
     listener: Listener,
@@ -265,7 +266,8 @@ fn open<H: Wait + Net + Files + time::Clock + Copy + Drop>(
     })
 }
 
-/// Runs a worker of the exchange for each port over the store, as the options say, until all have ended.
+/// Runs a worker of the exchange for each port over the store, as the options say, until all have
+/// ended.
 fn run_workers<H: Runtime + Copy + Drop + Send + 'static>(
     rt: H,
     alloc: Global,
@@ -291,7 +293,8 @@ fn run_workers<H: Runtime + Copy + Drop + Send + 'static>(
     Ok(report)
 }
 
-/// Accepts streams in a thread, up to the options' limit. The address is free again once that thread has ended.
+/// Accepts streams in a thread, up to the options' limit. The address is free again once that
+/// thread has ended.
 fn start_listening<H: Runtime + Net + Eprint + Copy + Drop + Send + 'static>(
     rt: H,
     alloc: Global,
@@ -313,17 +316,18 @@ fn start_listening<H: Runtime + Net + Eprint + Copy + Drop + Send + 'static>(
     .map_err(|_| Fault::NoThread)
 }
 
-/// Listens on the options' address, prints it, and serves: a thread accepts streams, a group of workers serves them,
-/// and moments are Unix seconds. Keys are hashed with the seed. With a number of sessions it accepts that many streams,
-/// and ends once their sessions have ended; else it goes on until each worker was given as many streams as it opens in
-/// a run, and ends in the same way. It leaves what the group left.
+/// Listens on the options' address, prints it, and serves: a thread accepts streams, a group of
+/// workers serves them, and moments are Unix seconds. Keys are hashed with the seed. With a number
+/// of sessions it accepts that many streams, and ends once their sessions have ended; else it goes
+/// on until each worker was given as many streams as it opens in a run, and ends in the same way.
+/// It leaves what the group left.
 ///
 /// # Errors
 ///
-/// CannotListen if the address is none, can't be bound or can't be watched; CannotWrite if the line of the address
-/// can't be printed; NoThread if the thread that accepts can't be started; Exchange if out of memory for the
-/// exchange; Group if the group doesn't run, since a thread of it can't be started or it has no memory; NoMemory if
-/// memory is missing elsewhere.
+/// CannotListen if the address is none, can't be bound or can't be watched; CannotWrite if the line
+/// of the address can't be printed; NoThread if the thread that accepts can't be started; Exchange
+/// if out of memory for the exchange; Group if the group doesn't run, since a thread of it can't be
+/// started or it has no memory; NoMemory if memory is missing elsewhere.
 pub fn serve<H: System, W: Write>(
     rt: H,
     alloc: Global,

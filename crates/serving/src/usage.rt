@@ -11,7 +11,8 @@ const LINE_ROOM: usize = 1024;
 /// How many words stand between the program's name, in parentheses, and the first of the two times.
 const WORDS_BEFORE: usize = 11;
 
-/// The two times of a line of `/proc/self/stat`. The name before them may hold anything, also spaces and parentheses.
+/// The two times of a line of `/proc/self/stat`. The name before them may hold anything, also
+/// spaces and parentheses.
 pub(crate) fn times_of(line: &str) -> Option<ProcessorTimes> {
     let (_, behind) = line.rsplit_once(')')?;
     let mut words = behind.split_whitespace().skip(WORDS_BEFORE);
@@ -23,7 +24,8 @@ pub(crate) fn times_of(line: &str) -> Option<ProcessorTimes> {
     })
 }
 
-/// The processor times of the process, to a hundredth of a second; None if the system doesn't tell them.
+/// The processor times of the process, to a hundredth of a second; None if the system doesn't tell
+/// them.
 pub(crate) fn processor_times() -> Option<ProcessorTimes> {
     let mut room = [0u8; LINE_ROOM];
     let file = os::open_read(b"/proc/self/stat");

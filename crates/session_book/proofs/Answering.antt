@@ -26,8 +26,8 @@ said-append (Local kind ∷ ms) ns rs le = onto _ _ _ _ (said-append ms ns rs le
 said-append (Quit ∷ ms) ns rs le = said-append ms ns rs le
 said-append (Fatal kind ∷ ms) ns rs le = onto _ _ _ _ (said-append ms ns rs le)
 
--- of joined messages that is left which is left of the later ones put onto what was left of the first, where no reply
--- was too many
+-- of joined messages that is left which is left of the later ones put onto what was left of the
+-- first, where no reply was too many
 pub left-append : (ms ns : List Message) (rs : List Reply) → length rs ≤ length (asks ms)
     → messages_left (ms ++ ns) rs ≡ messages_left (messages_left ms rs ++ ns) []
 left-append [] ns [] le = refl

@@ -255,7 +255,8 @@ abbrev pub OnlySession : List (ℕ × SessionState) → List (ℕ × SessionStat
 OnlySession before after session o = (q : ℕ)
     → lookup (nat_eq q) after ≡ cond (q == session) o (lookup (nat_eq q) before)
 
--- a map that was updated by a session's number has the new value there, or none, and the old ones elsewhere
+-- a map that was updated by a session's number has the new value there, or none, and the old ones
+-- elsewhere
 pub updated_only : {S : Type 0} (m n : HashMap ℕ SessionState S) (session : ℕ) (o : Option SessionState)
     → UpdatesBy nat_eq (nat_eq session) m n o → OnlySession m.entries n.entries session o
 updated_only m n session o h q = h.0 q ∙ ap (λ (b : Bool). cond b o (lookup (nat_eq q) m.entries))
@@ -268,8 +269,8 @@ set_same (e ∷ es) zero k s at =
     let e_is : e ≡ (k, s) = cc in ap (λ (x : ℕ × SessionState). (e.0, x.1) ∷ es) (sym e_is)
 set_same (e ∷ es) (suc i) k s at = ap (λ (rest : List (ℕ × SessionState)). e ∷ rest) (set_same es i k s at)
 
--- a session s that stands at place i: it is open; what is written there is written at its number alone, and stands there; and writing
--- it back changes nothing
+-- a session s that stands at place i: it is open; what is written there is written at its number
+-- alone, and stands there; and writing it back changes nothing
 pub record Placed (es : List (ℕ × SessionState)) (i session : ℕ) (s : SessionState) : Type 0 where
   pub there : lookup (nat_eq session) es ≡ Some s
   pub only : (t : SessionState) → OnlySession es (set_value_at es i t) session (Some t)

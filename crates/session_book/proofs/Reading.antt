@@ -8,7 +8,8 @@ use Rattle.proto.specs.Reading.{ends_session}
 use Rattle.session_book.specs.declared.causes.EndCause.{EndCause}
 use Rattle.session_book.specs.Session.{ended_by}
 
--- what has ended a session behind two lists of messages is found by reading one list and then the other
+-- what has ended a session behind two lists of messages is found by reading one list and then the
+-- other
 pub ended_by-append : (ended : Option EndCause) (ms ns : List Message)
     → ended_by ended (ms ++ ns) ≡ ended_by (ended_by ended ms) ns
 ended_by-append ended [] ns = refl

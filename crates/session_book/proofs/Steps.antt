@@ -148,8 +148,8 @@ no_asks (Local kind ∷ ms) e = no_ask_first (Local kind) ms refl (no_asks ms e)
 no_asks (Quit ∷ ms) e = no_ask_first Quit ms refl (no_asks ms e)
 no_asks (Fatal kind ∷ ms) e = no_ask_first (Fatal kind) ms refl (no_asks ms e)
 
--- messages were read, none of them a request, with at most a call of the parser for each; where there were fewer
--- bytes than needed nothing was read
+-- messages were read, none of them a request, with at most a call of the parser for each; where
+-- there were fewer bytes than needed nothing was read
 pub record HasReadLocals (before : SessionState) (looks : ℕ) (now : SessionState) (looks_now : ℕ) : Type 0 where
   pub messages : List Message
   pub reads : ReadsMessages before messages now

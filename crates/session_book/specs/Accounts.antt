@@ -9,8 +9,8 @@ use Rattle.proto.specs.Answers.{said}
 use Rattle.session_book.specs.Session.{SessionState, new_session, messages_left, ended_by, once_fed, ReadsMessages}
 use Rattle.session_book.specs.Session.{with_reply, gave}
 
--- Of a session with lines of this dialect the bytes fed were read as the messages ms; once Quit or a fatal message was read, further bytes
--- were dropped.
+-- Of a session with lines of this dialect the bytes fed were read as the messages ms; once Quit or
+-- a fatal message was read, further bytes were dropped.
 pub record HasRead (d : Dialect) (fed_bytes : List ℕ) (ms : List Message) (s : SessionState) : Type 0 where
   pub read : List ℕ
   pub dropped : List ℕ
@@ -20,8 +20,9 @@ pub record HasRead (d : Dialect) (fed_bytes : List ℕ) (ms : List Message) (s :
   pub ended : s.ended ≡ ended_by None ms
   pub nothing_dropped : s.ended ≡ None → dropped ≡ []
 
--- Of a session the messages ms were read and these replies settled: the bytes given and the output after them
--- are what was said, the queue is what is left to say, and each unsettled request is in it.
+-- Of a session the messages ms were read and these replies settled: the bytes given and the output
+-- after them are what was said, the queue is what is left to say, and each unsettled request is in
+-- it.
 pub record HasSaid (ms : List Message) (replies : List Reply) (given : List ℕ) (s : SessionState) : Type 0 where
   pub whole : given ++ s.out ≡ said ms replies
   pub queue : s.queue ≡ messages_left ms replies

@@ -25,9 +25,10 @@ use Rattle.session_book.specs.declared.load.TheConstants.{SMALL_ANSWER}
 use Rattle.session_book.specs.declared.input.TheConstants.{MAX_SMALL_MESSAGE}
 use Rattle.session_book.specs.Session.{SessionState, begins_asked, TakesPiece, IsInputFull, held_fed, ReadsUpTo, IsReady, Stops, with_reply, IsEmptied}
 
--- A worker's book: the worker's number; the dialect of its sessions' lines; the open sessions by their numbers; how many requests got a number;
--- the unsettled requests in the order of their numbers; the greatest number of a session opened, and how many
--- were; and how often the parser was called.
+-- A worker's book: the worker's number; the dialect of its sessions' lines; the open sessions by
+-- their numbers; how many requests got a number; the unsettled requests in the order of their
+-- numbers; the greatest number of a session opened, and how many were; and how often the parser was
+-- called.
 pub record BookState : Type 0 where
   pub worker : ℕ
   pub dialect : Dialect
@@ -46,8 +47,8 @@ session_of book session = lookup (nat_eq session) book.sessions
 abbrev pub unsettled_in : List Unsettled → ℕ → ℕ
 unsettled_in unsettled session = length (filter (λ u. u.session == session) unsettled)
 
--- The unsettled requests of each open session are those in its queue, which is empty or begins with one; and no
--- number above the greatest one opened is in use.
+-- The unsettled requests of each open session are those in its queue, which is empty or begins with
+-- one; and no number above the greatest one opened is in use.
 pub record IsBook (book : BookState) : Type 0 where
   pub asked : (session : ℕ) (s : SessionState) → session_of book session ≡ Some s → begins_asked s.queue ≡ true
   pub queued : (session : ℕ) (s : SessionState) → session_of book session ≡ Some s
@@ -93,8 +94,8 @@ Receives before session piece received.Held after =
 Receives before session piece received.Refused after = IsSome (session_of before session) × (after ≡ before)
 Receives before session piece received.Unknown after = (session_of before session ≡ None) × (after ≡ before)
 
--- What becomes of the held piece: it is fed where it fits, or there is none, or it doesn't fit yet. Out of memory,
--- nothing changes.
+-- What becomes of the held piece: it is fed where it fits, or there is none, or it doesn't fit yet.
+-- Out of memory, nothing changes.
 abbrev pub FeedsHeldOf : BookState → ℕ → Result Bool NoMemory → BookState → Type 0
 FeedsHeldOf before session (Ok true) after =
     ChangesOpen before after session (λ s t. ¬ (IsInputFull s s.held) × (t ≡ held_fed s))
@@ -116,14 +117,15 @@ given_in (Err e) = []
 abbrev pub unsettled_of : ℕ → Request × ℕ → Unsettled
 unsettled_of session a = record { number = a.1; session = session }
 
--- why no request is given: the window is full, all numbers were given, or the session reads no further
+-- why no request is given: the window is full, all numbers were given, or the session reads no
+-- further
 pub data GivesNone (before : BookState) (s : SessionState) : Type 0 where
   full : WINDOW ≤ length before.unsettled → GivesNone before s
   spent : MAX_POSTS ≤ before.numbered → GivesNone before s
   stops : Stops s → GivesNone before s
 
--- The session s is read up to the request that is given, with the worker's next number. Of the rest of the book
--- only what is said here changes.
+-- The session s is read up to the request that is given, with the worker's next number. Of the rest
+-- of the book only what is said here changes.
 pub record NextAsk (before : BookState) (session : ℕ) (s : SessionState)
     (result : Result (Option (Request × ℕ)) Unasked) (after : BookState) : Type 0 where
   pub messages : List Message
@@ -167,8 +169,9 @@ pub record Starves (before after : BookState) (answered : Answered) : Type 0 whe
   pub something : ¬ (said s.queue (answered.reply ∷ []) ≡ [])
   pub settles : SettlesOldest before after answered None
 
--- What becomes of an answer: it is a stranger where it isn't that of the oldest unsettled request; else it is
--- dropped where its session was closed, or its bytes go to its session, which is closed where they find no room.
+-- What becomes of an answer: it is a stranger where it isn't that of the oldest unsettled request;
+-- else it is dropped where its session was closed, or its bytes go to its session, which is closed
+-- where they find no room.
 abbrev pub Settles : BookState → Answered → Settled → BookState → Type 0
 Settles before answered outcomes.Stranger after = ¬ (IsOldest before answered) × (after ≡ before)
 Settles before answered outcomes.Dropped after =
@@ -182,7 +185,8 @@ pub record IsUnemptied (book : BookState) (session : ℕ) : Type 0 where
   pub there : session_of book session ≡ Some s
   pub left : ¬ (IsEmptied s)
 
--- the session has more output that wasn't given than a small answer has, or its next message needs room of its own
+-- the session has more output that wasn't given than a small answer has, or its next message needs
+-- room of its own
 abbrev pub MayStall : SessionState → Type 0
 MayStall s = (SMALL_ANSWER < length s.out) ⊎ (MAX_SMALL_MESSAGE < s.need)
 

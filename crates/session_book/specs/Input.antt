@@ -10,19 +10,20 @@ use Rattle.proto.specs.Needs.{IsUnfinished}
 use Rattle.session_book.specs.declared.input.Found.{Found}
 use Rattle.session_book.specs.declared.input.Found.TheVariants as found
 
--- the dialect of the lines, the bytes, and how many there have to be before the parser is asked again
+-- the dialect of the lines, the bytes, and how many there have to be before the parser is asked
+-- again
 pub record InputState : Type 0 where
   pub dialect : Dialect
   pub unread : List ℕ
   pub need : ℕ
 
--- the most unread bytes of a session that are kept: 262,144, but where its next message is kept and needs more than 196,608, 65,536
--- more than that needs
+-- the most unread bytes of a session that are kept: 262,144, but where its next message is kept and
+-- needs more than 196,608, 65,536 more than that needs
 abbrev pub max_unread : Dialect → ℕ → ℕ
 max_unread d need = if nat_lt (most_kept d) need then 262144 else max 262144 (need + 65536)
 
--- How many of the unread bytes are kept. If more are needed than a message has that is kept, the bytes of one that is too large are
--- dropped as they come: then those behind it.
+-- How many of the unread bytes are kept. If more are needed than a message has that is kept, the
+-- bytes of one that is too large are dropped as they come: then those behind it.
 abbrev pub kept_length : Dialect → List ℕ → ℕ → ℕ
 kept_length d unread need = if nat_lt (most_kept d) need then length unread - need else length unread
 
@@ -51,7 +52,8 @@ pub record Takes (before : InputState) (m : Message) (n : ℕ) (after : InputSta
   pub begins : Begins before m n
   pub taken : after ≡ record before { unread = drop n before.unread; need = 1 }
 
--- A message is found, which may be taken, or none is there yet and more bytes are needed; or there was no memory for its copy.
+-- A message is found, which may be taken, or none is there yet and more bytes are needed; or there
+-- was no memory for its copy.
 abbrev pub Finds : InputState → Result Found NoMemory → InputState → Type 0
 Finds before (Ok (found.Copied m n)) after = Begins before m n × (after ≡ before)
 Finds before (Ok (found.Taken q quiet n)) after = Takes before (Ask q quiet) n after

@@ -20,10 +20,11 @@ use Rattle.session_book.specs.declared.causes.Unasked.{Unasked}
 use Rattle.session_book.specs.declared.causes.Received.TheVariants as received
 use Rattle.session_book.specs.declared.session.TheConstants.{MAX_WAITING}
 
--- An open session: the dialect of its lines; its unread bytes; the messages read, from its oldest unsettled request on; its output that
--- wasn't given yet; whether it has read Quit or a fatal message; how many unread bytes there have to be
--- before the parser is asked again; the piece of input that is held until it fits, empty where none is; and whether its input has
--- ended, so that nothing comes after that.
+-- An open session: the dialect of its lines; its unread bytes; the messages read, from its oldest
+-- unsettled request on; its output that wasn't given yet; whether it has read Quit or a fatal
+-- message; how many unread bytes there have to be before the parser is asked again; the piece of
+-- input that is held until it fits, empty where none is; and whether its input has ended, so that
+-- nothing comes after that.
 pub record SessionState : Type 0 where
   pub dialect : Dialect
   pub unread : List ℕ
@@ -38,8 +39,8 @@ pub record SessionState : Type 0 where
 abbrev pub new_session : Dialect → SessionState
 new_session d = record { dialect = d; unread = []; queue = []; out = []; ended = None; need = 1; held = []; input_ended = false }
 
--- the messages from the first request on for which no reply is left, where the requests use up the replies
--- one after the other: those that `said` stops before
+-- the messages from the first request on for which no reply is left, where the requests use up the
+-- replies one after the other: those that `said` stops before
 abbrev pub messages_left : List Message → List Reply → List Message
 messages_left [] replies = []
 messages_left (Ask q quiet ∷ ms) [] = Ask q quiet ∷ ms
@@ -61,7 +62,8 @@ abbrev pub need_after : ℕ → List Message → ℕ
 need_after need [] = need
 need_after need (m ∷ ms) = 1
 
--- A piece of input goes after the unread bytes; once Quit or a fatal message was read it is dropped.
+-- A piece of input goes after the unread bytes; once Quit or a fatal message was read it is
+-- dropped.
 abbrev pub once_fed : SessionState → List ℕ → SessionState
 once_fed s piece = if is_some s.ended then s else record s { unread = s.unread ++ piece }
 
@@ -70,9 +72,9 @@ abbrev pub begins_asked : List Message → Bool
 begins_asked [] = true
 begins_asked (m ∷ ms) = is_ask m
 
--- Bytes at the front of the unread ones are read as the messages ms, and leave them. The messages go after the
--- queue; then those before the queue's first request leave it, and their answers go after the output. The need
--- is what the parser said where it found no message in what is left.
+-- Bytes at the front of the unread ones are read as the messages ms, and leave them. The messages
+-- go after the queue; then those before the queue's first request leave it, and their answers go
+-- after the output. The need is what the parser said where it found no message in what is left.
 pub record ReadsMessages (before : SessionState) (ms : List Message) (after : SessionState) : Type 0 where
   pub read : List ℕ
   pub reads : Reads before.dialect read ms []
@@ -86,8 +88,8 @@ pub record ReadsMessages (before : SessionState) (ms : List Message) (after : Se
   pub held : after.held ≡ before.held
   pub input_ended : after.input_ended ≡ before.input_ended
 
--- The queue's first request gets its reply; then the messages before the next request leave the queue, and
--- the answers go after the output.
+-- The queue's first request gets its reply; then the messages before the next request leave the
+-- queue, and the answers go after the output.
 abbrev pub with_reply : SessionState → Reply → SessionState
 with_reply s reply = record s { queue = messages_left s.queue (reply ∷ []); out = s.out ++ said s.queue (reply ∷ []) }
 
@@ -99,7 +101,8 @@ gave s n = record s { out = drop n s.out }
 abbrev pub once_input_ended : SessionState → SessionState
 once_input_ended s = record s { input_ended = true }
 
--- what ends the session: a message; or its input has ended, none of it is held, and no message is left in it
+-- what ends the session: a message; or its input has ended, none of it is held, and no message is
+-- left in it
 abbrev pub ending_of : SessionState → Option EndCause
 ending_of s =
     if is_some s.ended then s.ended
@@ -109,7 +112,8 @@ ending_of s =
 abbrev pub finished_by : SessionState → Option EndCause
 finished_by s = if length s.queue == 0 && length s.out == 0 then ending_of s else None
 
--- where a session has finished with its input, all of that was read: no beginning of the unread bytes spells a message
+-- where a session has finished with its input, all of that was read: no beginning of the unread
+-- bytes spells a message
 abbrev pub HasReadAll : Option SessionState → Option EndCause → Type 0
 HasReadAll o cause = cause ≡ Some causes.EndOfInput → (s : SessionState) → o ≡ Some s → s.ended ≡ None
     → SpellsNone s.dialect s.unread
@@ -120,8 +124,8 @@ AskAtLast [] = ⊤
 AskAtLast (m ∷ []) = ⊤
 AskAtLast (m ∷ n ∷ ms) = (is_ask m ≡ false) × AskAtLast (n ∷ ms)
 
--- why a session reads no further: it has ended, too much output waits, or no message is left, and the parser
--- isn't called again before its need is there
+-- why a session reads no further: it has ended, too much output waits, or no message is left, and
+-- the parser isn't called again before its need is there
 pub data Stops (s : SessionState) : Type 0 where
   ended : is_some s.ended ≡ true → Stops s
   waiting : MAX_WAITING < length s.out → Stops s
@@ -134,7 +138,8 @@ pub record IsEmptied (s : SessionState) : Type 0 where
   pub unfinished : finished_by s ≡ None
   pub stops : Stops s
 
--- the piece doesn't fit after the unread bytes that are kept; it always does once the session drops its input
+-- the piece doesn't fit after the unread bytes that are kept; it always does once the session drops
+-- its input
 abbrev pub IsInputFull : SessionState → List ℕ → Type 0
 IsInputFull s piece =
     (s.ended ≡ None) × (max_unread s.dialect s.need < kept_length s.dialect s.unread s.need + length piece)
@@ -147,16 +152,17 @@ holding s piece = record s { held = piece }
 abbrev pub held_fed : SessionState → SessionState
 held_fed s = record (once_fed s s.held) { held = [] }
 
--- What becomes of a piece that came: it is fed exactly where it fits, or held where it doesn't. None is fed or held over
--- a held one; one for which there is no memory, or that isn't the only one, changes nothing.
+-- What becomes of a piece that came: it is fed exactly where it fits, or held where it doesn't.
+-- None is fed or held over a held one; one for which there is no memory, or that isn't the only
+-- one, changes nothing.
 abbrev pub TakesPiece : SessionState → List ℕ → Received → SessionState → Type 0
 TakesPiece s piece received.Fed after = (s.held ≡ []) × ¬ (IsInputFull s piece) × (after ≡ once_fed s piece)
 TakesPiece s piece received.Held after = (s.held ≡ []) × IsInputFull s piece × (after ≡ holding s piece)
 TakesPiece s piece received.Refused after = after ≡ s
 TakesPiece s piece received.Unknown after = ⊥
 
--- What becomes of the held piece: it is fed where it fits, or there is none, or it doesn't fit yet. Out of memory,
--- nothing changes.
+-- What becomes of the held piece: it is fed where it fits, or there is none, or it doesn't fit yet.
+-- Out of memory, nothing changes.
 abbrev pub FeedsHeld : SessionState → Result Bool NoMemory → SessionState → Type 0
 FeedsHeld s (Ok true) after = ¬ (IsInputFull s s.held) × (after ≡ held_fed s)
 FeedsHeld s (Ok false) after = ((s.held ≡ []) ⊎ IsInputFull s s.held) × (after ≡ s)
@@ -186,13 +192,15 @@ pub record TakesNothing (before after : SessionState) : Type 0 where
   pub unfinished : IsUnfinished before.dialect after.unread after.need
   pub rest : after ≡ record before { need = after.need }
 
--- The next message is read, or there is none yet; or there was no memory for it, or it waits, and it stays unread.
+-- The next message is read, or there is none yet; or there was no memory for it, or it waits, and
+-- it stays unread.
 abbrev pub ReadsNext : SessionState → Result (Option Message) Unasked → SessionState → Type 0
 ReadsNext before (Ok (Some m)) after = ReadsMessage before m after
 ReadsNext before (Ok None) after = TakesNothing before after
 ReadsNext before (Err e) after = after ≡ before
 
--- The next message is looked for, and the call of the parser counted, where the session is ready; where it stops, nothing changes.
+-- The next message is looked for, and the call of the parser counted, where the session is ready;
+-- where it stops, nothing changes.
 pub data TriesNext (before : SessionState) (looks : ℕ) (result : Result (Option Message) Unasked) (after : SessionState)
     (looks_after : ℕ) : Type 0 where
   looked : IsReady before → looks_after ≤ looks + 1 → ReadsNext before result after
@@ -200,8 +208,8 @@ pub data TriesNext (before : SessionState) (looks : ℕ) (result : Result (Optio
   at_rest : Stops before → result ≡ Ok None → after ≡ before → looks_after ≡ looks
       → TriesNext before looks result after looks_after
 
--- Messages of a session are read, none where too much output waits, and looks counts the calls of the parser.
--- Only the last message may be a request: these are the requests read.
+-- Messages of a session are read, none where too much output waits, and looks counts the calls of
+-- the parser. Only the last message may be a request: these are the requests read.
 pub record ReadsUpTo (before : SessionState) (looks : ℕ) (messages : List Message) (requests : List Request)
     (after : SessionState)
     (looks_after : ℕ) : Type 0 where
@@ -217,8 +225,8 @@ given_request (Ok (Some q)) = q ∷ []
 given_request (Ok None) = []
 given_request (Err e) = []
 
--- A session is read up to its next request; there is none only where it stops, and one waits or finds no memory only where the
--- parser is to be asked.
+-- A session is read up to its next request; there is none only where it stops, and one waits or
+-- finds no memory only where the parser is to be asked.
 pub record ReadsAsk (before : SessionState) (looks : ℕ) (result : Result (Option Request) Unasked)
     (after : SessionState) (looks_after : ℕ) : Type 0 where
   pub messages : List Message

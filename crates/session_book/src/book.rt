@@ -1,4 +1,5 @@
-//! The sessions of one worker: reading what they were fed, and answering in the order of their messages.
+//! The sessions of one worker: reading what they were fed, and answering in the order of their
+//! messages.
 
 ghost use Rattle.std.specs.Prelude.{ℕ, ◌≡◌, ◌⊎◌, ◌+◌, ◌≤◌, ◌<◌, ◌↔◌, [], length, is_some, option_map};
 ghost use Rattle.std.specs.Prelude.{slice_get};
@@ -25,8 +26,9 @@ use std::alloc::Global;
 use std::collections::VecDeque;
 use std::marker::Model;
 
-/// The most bytes that are reserved for one hit, unless larger items than an eighth of a segment are asked for: an item takes
-/// 131,072 at most, of which 24 are neither key nor value, and 80 go to the words and numbers beside them.
+/// The most bytes that are reserved for one hit, unless larger items than an eighth of a segment
+/// are asked for: an item takes 131,072 at most, of which 24 are neither key nor value, and 80 go
+/// to the words and numbers beside them.
 pub const MAX_HIT: usize = 131_128;
 
 /// The same for items that may fill a segment.
@@ -34,8 +36,8 @@ pub const MAX_LARGE_HIT: usize = 1_048_632;
 
 /// The sessions of a worker. Contracts see it as a `BookState`.
 ///
-/// It keeps which sessions have something to do, in eight ready queues. Calls put a session into one, and its owner takes it
-/// out and does it; no clause says that a session stands in one.
+/// It keeps which sessions have something to do, in eight ready queues. Calls put a session into
+/// one, and its owner takes it out and does it; no clause says that a session stands in one.
 #[derive(Drop)]
 pub struct Book {
     alloc: Global,
@@ -93,8 +95,8 @@ impl Book {
         }
     }
 
-    /// A `get` waits from now on whose answer is likely to bring output and the answers on their way above so many bytes, in place
-    /// of 67,108,864.
+    /// A `get` waits from now on whose answer is likely to bring output and the answers on their
+    /// way above so many bytes, in place of 67,108,864.
     pub fn set_output_budget(&mut self, bytes: usize)
         ensures { self.new ≡ self.old }
     {
@@ -126,8 +128,8 @@ impl Book {
         Ok(())
     }
 
-    /// Puts a piece of input after the unread bytes, or holds it until it fits. A session that has read Quit or a fatal
-    /// message drops it.
+    /// Puts a piece of input after the unread bytes, or holds it until it fits. A session that has
+    /// read Quit or a fatal message drops it.
     pub fn receive(&mut self, session: u64, piece: Bytes) -> Received
         ensures { Receives self.old session piece result self.new }
     {
@@ -157,10 +159,10 @@ impl Book {
         self.unsettled.len() as u64 >= WINDOW
     }
 
-    /// The next request of a session with its number, which the caller posts. Messages that the book answers
-    /// itself are answered in their order; nothing is read while the window is full or all numbers were given. On Err
-    /// the messages before that one stay read; a session whose `get` waits is asked again once it needn't wait. A `get` is lent a
-    /// spare buffer for its hits.
+    /// The next request of a session with its number, which the caller posts. Messages that the
+    /// book answers itself are answered in their order; nothing is read while the window is full or
+    /// all numbers were given. On Err the messages before that one stay read; a session whose `get`
+    /// waits is asked again once it needn't wait. A `get` is lent a spare buffer for its hits.
     pub fn next_ask(&mut self, session: u64) -> Result<Option<(Request, u64)>, Unasked>
         ensures closed { session_of self.old session ≡ None → (result ≡ Ok None) × (self.new ≡ self.old) }
         ensures open { (s : SessionState) → session_of self.old session ≡ Some s
@@ -187,8 +189,8 @@ impl Book {
         Ok(Some((request, number)))
     }
 
-    /// Puts the answer to the oldest unsettled request after the output of its session, and after it the answers
-    /// that waited for it. The memory of its hits is kept for another request.
+    /// Puts the answer to the oldest unsettled request after the output of its session, and after
+    /// it the answers that waited for it. The memory of its hits is kept for another request.
     pub fn settle(&mut self, mut answered: Answered) -> Settled
         ensures { Settles self.old answered result self.new }
     {
@@ -269,7 +271,8 @@ impl Book {
         open.gave(session, n, &mut self.upkeep)
     }
 
-    /// Drops a session with its input and output. The answers to its unsettled requests are dropped when they come.
+    /// Drops a session with its input and output. The answers to its unsettled requests are dropped
+    /// when they come.
     pub fn close(&mut self, session: u64)
         ensures { ChangesSession self.old self.new session None }
     {
@@ -315,7 +318,8 @@ impl Book {
         }
     }
 
-    /// Whether no session waits for memory, or is to: not for room for its next answer, and not for its large message.
+    /// Whether no session waits for memory, or is to: not for room for its next answer, and not for
+    /// its large message.
     pub fn has_memory_for_all(&self) -> bool {
         self.upkeep.ready.none_waits_for_memory()
     }
@@ -342,8 +346,9 @@ impl Book {
         self.upkeep.seconds = self.upkeep.seconds.saturating_add(1);
     }
 
-    /// A lenient session whose client has stopped for ten of the seconds that were counted, if it holds memory that others wait for: it
-    /// took none of more than 16,384 bytes of output, or sent no more of a large message.
+    /// A lenient session whose client has stopped for ten of the seconds that were counted, if it
+    /// holds memory that others wait for: it took none of more than 16,384 bytes of output, or sent
+    /// no more of a large message.
     pub fn find_stalled(&self) -> Option<u64>
         ensures { IfSome result (IsStalled self.now) }
     {
@@ -376,8 +381,9 @@ impl Book {
         Some(session)
     }
 
-    /// Takes out the session that has waited longest for room for its large message, once there is some, and that too where the port
-    /// has ended. It is to be resumed, unless a piece of it is held, which is fed before.
+    /// Takes out the session that has waited longest for room for its large message, once there is
+    /// some, and that too where the port has ended. It is to be resumed, unless a piece of it is
+    /// held, which is fed before.
     pub fn next_to_resume(&mut self, has_ended: bool) -> Option<u64>
         ensures same { self.new ≡ self.old }
         ensures open { IfSome result (MayResume self.old) }
@@ -399,7 +405,8 @@ impl Book {
         self.upkeep.reads_on
     }
 
-    /// The line of the fatal message that ended the session, if it was asked last and that was read then.
+    /// The line of the fatal message that ended the session, if it was asked last and that was read
+    /// then.
     pub fn fault(&self, session: u64) -> Option<&FaultLine> {
         if self.upkeep.asked != session {
             return None;
@@ -407,8 +414,9 @@ impl Book {
         self.upkeep.fault.as_ref()
     }
 
-    /// Takes out the next session that is to be asked. One whose `get` waits comes once it has room and no large answer is on its
-    /// way, if no other is to be asked, or once as many others as a window has requests went before it.
+    /// Takes out the next session that is to be asked. One whose `get` waits comes once it has room
+    /// and no large answer is on its way, if no other is to be asked, or once as many others as a
+    /// window has requests went before it.
     pub fn next_to_ask(&mut self) -> Option<u64>
         ensures { self.new ≡ self.old }
     {
@@ -430,7 +438,8 @@ impl Book {
         self.upkeep.ready.count(task)
     }
 
-    /// How many bytes of output were given, over all sessions. After the greatest number it goes on from 0.
+    /// How many bytes of output were given, over all sessions. After the greatest number it goes on
+    /// from 0.
     pub fn written(&self) -> u64 {
         self.upkeep.load.written()
     }
@@ -440,9 +449,10 @@ impl Book {
         self.upkeep.ready.are_empty()
     }
 
-    /// Whether more than 255 keys stand in unsettled requests, over all sessions, or these are likely to be answered with more than
-    /// 1,048,576 bytes. Its owner then asks for one request at a time: so the hits of the unsettled ones take 41,943,040 bytes at
-    /// most, or in the strict dialect 167,772,160.
+    /// Whether more than 255 keys stand in unsettled requests, over all sessions, or these are
+    /// likely to be answered with more than 1,048,576 bytes. Its owner then asks for one request at
+    /// a time: so the hits of the unsettled ones take 41,943,040 bytes at most, or in the strict
+    /// dialect 167,772,160.
     pub fn is_crowded(&self) -> bool {
         self.upkeep.load.is_crowded()
     }
@@ -492,8 +502,8 @@ impl Book {
     }
 }
 
-/// The place of a session in the table. One that doesn't stand at `place` is looked up, and `place` is its place then: so one
-/// call after another finds the session where the last one did.
+/// The place of a session in the table. One that doesn't stand at `place` is looked up, and `place`
+/// is its place then: so one call after another finds the session where the last one did.
 fn find(sessions: &IndexMap<u64, Session>, session: u64, place: &mut usize) -> Option<usize>
     ensures none { result ≡ None → lookup (nat_eq session) sessions.now.entries ≡ None }
     ensures some { IsSome result → IsSome (lookup (nat_eq session) sessions.now.entries) }

@@ -13,12 +13,13 @@ use std::mem;
 /// The bytes of a message from which on its value stands in the memory of the input.
 pub(crate) const LARGE_MESSAGE: usize = 4096;
 
-/// How many times as many bytes that memory has at most, so that few bytes don't stand in much memory.
+/// How many times as many bytes that memory has at most, so that few bytes don't stand in much
+/// memory.
 const LARGEST_MEMORY: usize = 4;
 
-/// A queue of bytes that lends them as one slice. The bytes in front that have gone out are kept until they are
-/// at least half of all, so each byte is moved at most once for each byte that goes out. Its first bytes borrow the memory of
-/// a spare buffer, and its last ones give it back.
+/// A queue of bytes that lends them as one slice. The bytes in front that have gone out are kept
+/// until they are at least half of all, so each byte is moved at most once for each byte that goes
+/// out. Its first bytes borrow the memory of a spare buffer, and its last ones give it back.
 #[derive(Drop)]
 pub struct Buffer {
     bytes: Vec<u8>,
@@ -35,7 +36,8 @@ impl Model for Buffer {
     ghost invariant = { λ a. a.start ≤ length a.bytes.items };
 }
 
-/// Takes the first `n` bytes out, and moves the others to the front. (`drain` fills a room on the stack with zeros first.)
+/// Takes the first `n` bytes out, and moves the others to the front. (`drain` fills a room on the
+/// stack with zeros first.)
 fn remove_front(bytes: &mut Vec<u8>, n: usize)
     requires { n ≤ length bytes.old.items }
     ensures { bytes.new.items ≡ drop n bytes.old.items }
@@ -67,7 +69,8 @@ impl Buffer {
         &self.bytes.as_slice()[self.start..]
     }
 
-    /// Puts input after the others, with room for as many bytes as there have to be. None at all needs no memory.
+    /// Puts input after the others, with room for as many bytes as there have to be. None at all
+    /// needs no memory.
     pub fn append(
         &mut self,
         piece: &[u8],
@@ -87,14 +90,16 @@ impl Buffer {
         Ok(())
     }
 
-    /// Whether the first `n` bytes are to be taken out with the memory of all, and the others copied: they are many, and most.
+    /// Whether the first `n` bytes are to be taken out with the memory of all, and the others
+    /// copied: they are many, and most.
     pub fn is_worth_taking(&self, n: usize) -> bool {
         n >= LARGE_MESSAGE
             && n >= self.len().saturating_sub(n)
             && n >= self.bytes.capacity() / LARGEST_MEMORY
     }
 
-    /// Takes the first `n` bytes out. Those from `from` up to `to` are answered in the memory of all; what is left gets other memory.
+    /// Takes the first `n` bytes out. Those from `from` up to `to` are answered in the memory of
+    /// all; what is left gets other memory.
     pub fn take_part(
         &mut self,
         from: usize,
@@ -134,8 +139,8 @@ impl Buffer {
         Ok(())
     }
 
-    /// Takes bytes away in front, and answers how many are left. The memory of a buffer that is empty then is kept for another one
-    /// of this use.
+    /// Takes bytes away in front, and answers how many are left. The memory of a buffer that is
+    /// empty then is kept for another one of this use.
     pub fn discard(&mut self, n: usize, usage: Use, spares: &mut SpareBuffers) -> usize
         requires { n ≤ length self.old }
         ensures bytes { self.new ≡ drop n self.old }
@@ -155,7 +160,8 @@ impl Buffer {
         left
     }
 
-    /// Frees memory that has no bytes, if it is more than a quarter of all. Room for so many bytes is kept.
+    /// Frees memory that has no bytes, if it is more than a quarter of all. Room for so many bytes
+    /// is kept.
     pub fn trim(&mut self, least: usize)
         ensures { self.new ≡ self.old }
     {
@@ -183,13 +189,15 @@ const MAX_BUFFERS: usize = 128;
 /// The most bytes that all of them have.
 const MAX_BYTES: usize = 16_777_216;
 
-/// The most bytes of a buffer that is kept. A larger one is freed, so that few bytes don't stand in much memory for long.
+/// The most bytes of a buffer that is kept. A larger one is freed, so that few bytes don't stand in
+/// much memory for long.
 const MAX_BUFFER: usize = 1_179_648;
 
-/// The spare buffers of a worker, with one bound on all their bytes. A session's buffer borrows the memory of one while there
-/// are bytes in it, and a `get` one for its hits: so a session that is idle keeps no memory, and one that has much to give
-/// needn't take new memory for it. Each use has a stack of its own: the buffer returned last, which is still in the
-/// processor's cache, is lent first. Contracts see how many bytes all of them have.
+/// The spare buffers of a worker, with one bound on all their bytes. A session's buffer borrows the
+/// memory of one while there are bytes in it, and a `get` one for its hits: so a session that is
+/// idle keeps no memory, and one that has much to give needn't take new memory for it. Each use has
+/// a stack of its own: the buffer returned last, which is still in the processor's cache, is lent
+/// first. Contracts see how many bytes all of them have.
 #[derive(Drop)]
 pub(crate) struct SpareBuffers {
     stacks: [Vec<Vec<u8>>; USES],
@@ -215,7 +223,8 @@ impl SpareBuffers {
         }
     }
 
-    /// Gives bytes without memory that of the buffer that was kept last for this use, if there is one.
+    /// Gives bytes without memory that of the buffer that was kept last for this use, if there is
+    /// one.
     pub(crate) fn lend(&mut self, usage: Use, bytes: &mut Vec<u8>)
         ensures { bytes.new.items ≡ bytes.old.items }
     {

@@ -7,7 +7,8 @@ use thiserror::Error;
 /// Why a session isn't opened.
 #[derive(Clone, Copy, Debug, PartialEq, Eq, Error)]
 pub enum OpenFault {
-    /// The number is 0 or not above every number opened before, or the limit of sessions was reached.
+    /// The number is 0 or not above every number opened before, or the limit of sessions was
+    /// reached.
     #[error("the session's number isn't new, or the limit of sessions is reached")]
     Known,
     #[error("out of memory")]
@@ -72,12 +73,13 @@ pub enum EndCause {
     Quit,
     /// A fatal message was read.
     Fatal,
-    /// The port told that the peer has gone. A socket's port tells it too of a session that it ended as idle.
+    /// The port told that the peer has gone. A socket's port tells it too of a session that it
+    /// ended as idle.
     Gone,
     /// There was no memory for its input or its answer.
     NoMemory,
-    /// Its client stopped for some seconds while others waited for the memory that it held: it took no output, or sent no more of a
-    /// large message. Only lenient sessions end so.
+    /// Its client stopped for some seconds while others waited for the memory that it held: it took
+    /// no output, or sent no more of a large message. Only lenient sessions end so.
     Stalled,
 }
 

@@ -8,7 +8,8 @@ use std::alloc::Global;
 /// The most bytes of a line that are shown.
 const SHOWN: usize = 64;
 
-/// The bytes of a message of the binary protocol before its key: no more of one is shown, as its value has no line end before it.
+/// The bytes of a message of the binary protocol before its key: no more of one is shown, as its
+/// value has no line end before it.
 const BINARY_HEADER: usize = 24;
 
 /// What is shown of the line of a fatal message.
@@ -20,7 +21,8 @@ pub struct FaultLine {
 }
 
 impl FaultLine {
-    /// That of the message that the input begins with. None if it isn't fatal, or if memory is missing.
+    /// That of the message that the input begins with. None if it isn't fatal, or if memory is
+    /// missing.
     pub(crate) fn copied(alloc: Global, message: &Message, input: &Input) -> Option<FaultLine> {
         let Message::Fatal(kind) = message else {
             return None;

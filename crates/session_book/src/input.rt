@@ -1,4 +1,5 @@
-//! The unread bytes of a session, and what they begin with. Those of a message whose item is too large are dropped as they come.
+//! The unread bytes of a session, and what they begin with. Those of a message whose item is too
+//! large are dropped as they come.
 
 ghost use Rattle.std.specs.Prelude.{◌≡◌, ◌≤◌, ◌<◌, [], ◌++◌, length, drop, Ok, IfOk, OnOk, OnErr};
 ghost use Rattle.std.specs.Prelude.{option_map};
@@ -18,8 +19,8 @@ use std::marker::Model;
 /// The unread bytes of a session that are kept at most, unless its next message needs more.
 const MAX_UNREAD: usize = 262_144;
 
-/// Unread bytes that are kept beside a message which needs more. They are more than a piece, so a session whose input is full always
-/// has a message to read.
+/// Unread bytes that are kept beside a message which needs more. They are more than a piece, so a
+/// session whose input is full always has a message to read.
 const BESIDE_MESSAGE: usize = 65_536;
 
 /// The longest message that is read without room of its own.
@@ -35,8 +36,8 @@ pub(crate) enum Found {
     Nothing,
     /// A message, copied, and how many bytes spell it.
     Copied(Message, usize),
-    /// A request whose block is large, whether `noreply` was given, and how many bytes spelled it. They were taken out of the
-    /// input: the value has their memory.
+    /// A request whose block is large, whether `noreply` was given, and how many bytes spelled it.
+    /// They were taken out of the input: the value has their memory.
     Taken(Request, bool, usize),
 }
 
@@ -69,7 +70,8 @@ pub(crate) struct Input {
     searched: usize,
     /// How many bytes there have to be before the parser is asked again.
     need: usize,
-    /// How many bytes were dropped, in front of those that are kept: none, unless more are needed than a message has that is kept.
+    /// How many bytes were dropped, in front of those that are kept: none, unless more are needed
+    /// than a message has that is kept.
     dropped: usize,
     /// Which these were.
     gone: Trace<u8>,
@@ -94,7 +96,9 @@ impl Model for Input {
 
     ghost invariant = { λ a. (length a.gone.items ≡ a.dropped)
         × NeedsMore a.dialect (a.gone.items ++ a.kept) a.need
-        × (IsSearched a.kept a.searched × HoldsMessage a.dialect (a.gone.items ++ a.kept) (option_map (λ held. held.value) a.held))
+        × (IsSearched a.kept a.searched
+        × HoldsMessage a.dialect (a.gone.items ++ a.kept)
+        (option_map (λ held. held.value) a.held))
         × MayDrop a.dialect a.gone.items a.kept a.need (refused_by a.key a.noreply) };
 }
 
@@ -142,7 +146,8 @@ impl Input {
         }
     }
 
-    /// The bytes of the message that the unread ones begin, if it is kept and needs room of its own; else 0.
+    /// The bytes of the message that the unread ones begin, if it is kept and needs room of its
+    /// own; else 0.
     pub fn large_need(&self) -> usize
         ensures { 0 < result → MAX_SMALL_MESSAGE < self.now.need }
     {
@@ -165,8 +170,8 @@ impl Input {
         self.kept.len().saturating_add(self.dropped)
     }
 
-    /// How many bytes there is to be room for: those that the message needs, but if these are many, no more than twice as many as have
-    /// come. So what has only begun takes little memory.
+    /// How many bytes there is to be room for: those that the message needs, but if these are many,
+    /// no more than twice as many as have come. So what has only begun takes little memory.
     fn room(&self) -> usize {
         self.need
             .min(self.kept.len().saturating_mul(2).max(ROOM_AT_ONCE))
@@ -188,8 +193,9 @@ impl Input {
         Ok(())
     }
 
-    /// The message that the bytes begin with: the held one, or what the parser finds; or none, and the need is what the parser said.
-    /// A line that isn't whole yet is searched for its end from where the last search stopped.
+    /// The message that the bytes begin with: the held one, or what the parser finds; or none, and
+    /// the need is what the parser said. A line that isn't whole yet is searched for its end from
+    /// where the last search stopped.
     pub fn next(&mut self, alloc: Global, spares: &mut SpareBuffers) -> Result<Found, NoMemory>
         requires { self.old.need ≤ length self.old.unread }
         ensures { Finds self.old result self.new }
@@ -236,7 +242,8 @@ impl Input {
         }
     }
 
-    /// The message is too large, and isn't kept: what there is of it is dropped, and so is what comes of it.
+    /// The message is too large, and isn't kept: what there is of it is dropped, and so is what
+    /// comes of it.
     fn start_dropping(
         &mut self,
         need: usize,
@@ -259,7 +266,8 @@ impl Input {
         Found::Nothing
     }
 
-    /// Holds the message that was found, which is found again. Without memory for that it is read anew.
+    /// Holds the message that was found, which is found again. Without memory for that it is read
+    /// anew.
     pub fn hold(&mut self, alloc: Global, message: Message, n: usize)
         requires { Begins self.old message n }
         ensures { self.new ≡ self.old }

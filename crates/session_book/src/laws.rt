@@ -15,7 +15,8 @@ ghost use Rattle.session_book.specs.declared.book.TheConstants.{MAX_HIT, MAX_LAR
 ghost use Rattle.session_book.specs.Accounts.{StartsAccounts, FeedKeeps, ReadKeeps, SettleKeeps, GiveKeeps, ReadBegins};
 ghost use Rattle.session_book.specs.Accounts.{ReadIsWhole, SaidBegins, SaidIsWhole};
 
-/// What was read and what was said of a session, from its opening on, through each call that changes it.
+/// What was read and what was said of a session, from its opening on, through each call that
+/// changes it.
 pub fn accounts()
     ensures starts { StartsAccounts }
     ensures feed { FeedKeeps }
@@ -24,7 +25,8 @@ pub fn accounts()
     ensures give { GiveKeeps }
 {}
 
-/// What was read and said is a beginning of all that there is to read and to say, and at the end the whole.
+/// What was read and said is a beginning of all that there is to read and to say, and at the end
+/// the whole.
 pub fn beginnings()
     ensures read { ReadBegins }
     ensures read_whole { ReadIsWhole }
@@ -32,8 +34,9 @@ pub fn beginnings()
     ensures said_whole { SaidIsWhole }
 {}
 
-/// The limits of a book in numbers: those that its contracts cite, and the keys of `is_crowded`. A hit of an item needs no more
-/// room than is reckoned with, nor do the hits of as many keys with one more lenient answer, or with those of a strict line's keys.
+/// The limits of a book in numbers: those that its contracts cite, and the keys of `is_crowded`. A
+/// hit of an item needs no more room than is reckoned with, nor do the hits of as many keys with
+/// one more lenient answer, or with those of a strict line's keys.
 pub fn limits()
     ensures unsettled { WINDOW ≡ 64 }
     ensures unread { (need : ℕ) → max_unread Strict need ≡ 262144 }

@@ -1,5 +1,5 @@
-//! The sessions of one worker: their unread bytes and a piece that is held until it fits, the answers that are still
-//! missing, their output, and which of them have something to do.
+//! The sessions of one worker: their unread bytes and a piece that is held until it fits, the
+//! answers that are still missing, their output, and which of them have something to do.
 #![tactic(auto)]
 
 mod book;

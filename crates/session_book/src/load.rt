@@ -8,21 +8,24 @@ pub const SMALL_ANSWER: usize = 16_384;
 /// The bytes above which an answer is large: one at a time is on its way.
 const LARGE_ANSWER: usize = 262_144;
 
-/// The likely bytes of the answers that are on their way, over all sessions, above which one request at a time goes on. So the
-/// others wait for about 1 MiB of them.
+/// The likely bytes of the answers that are on their way, over all sessions, above which one
+/// request at a time goes on. So the others wait for about 1 MiB of them.
 const MAX_COMING: usize = 1_048_576;
 
-/// Keys of unsettled requests, over all sessions, above which one request at a time goes on, whatever their answers are likely to
-/// take. Up to then each key has a hit at most, and the last request one answer: so before they are put into outputs, their hits
-/// take no more than 40 MiB leniently if items have at most 131,072 bytes, or 264 MiB if they have 1 MiB; and strictly, if a line
-/// has 1,021 keys at most, no more than 160 MiB.
+/// Keys of unsettled requests, over all sessions, above which one request at a time goes on,
+/// whatever their answers are likely to take. Up to then each key has a hit at most, and the last
+/// request one answer: so before they are put into outputs, their hits take no more than 40 MiB
+/// leniently if items have at most 131,072 bytes, or 264 MiB if they have 1 MiB; and strictly, if a
+/// line has 1,021 keys at most, no more than 160 MiB.
 pub const MAX_KEYS: usize = 255;
 
-/// The bytes that waiting output and the answers on their way may take, over all sessions, unless the owner says another number.
-/// A `get` that is likely to exceed them waits, but for one whose answer is small.
+/// The bytes that waiting output and the answers on their way may take, over all sessions, unless
+/// the owner says another number. A `get` that is likely to exceed them waits, but for one whose
+/// answer is small.
 pub const OUTPUT_BUDGET: usize = 67_108_864;
 
-/// The bytes of large messages for which there is room, over all sessions. A session whose message would exceed them isn't read on.
+/// The bytes of large messages for which there is room, over all sessions. A session whose message
+/// would exceed them isn't read on.
 pub const INPUT_BUDGET: usize = 67_108_864;
 
 /// What a book counts for `stats`. After the greatest number a count goes on from 0.
@@ -43,8 +46,8 @@ struct BookCounts {
     yields: u64,
 }
 
-/// The bytes that a key is likely to take in an answer: what each took in the last one, or half of what it was before, if that is
-/// more.
+/// The bytes that a key is likely to take in an answer: what each took in the last one, or half of
+/// what it was before, if that is more.
 #[derive(Clone, Copy, Default)]
 pub(crate) struct KeyBytes {
     bytes: usize,
@@ -64,7 +67,8 @@ impl KeyBytes {
     }
 }
 
-/// How much is unfinished in all sessions of a book, and what it counts for `stats`. No clause speaks of it.
+/// How much is unfinished in all sessions of a book, and what it counts for `stats`. No clause
+/// speaks of it.
 #[derive(Clone, Copy)]
 pub(crate) struct Load {
     /// The keys of unsettled requests.
@@ -98,8 +102,9 @@ impl Load {
         }
     }
 
-    /// The bytes that the answer to a `get` for so many keys is likely to take, if keys took so much in the last one of its
-    /// session. The first one of a session, if it is for one key, is taken to be small.
+    /// The bytes that the answer to a `get` for so many keys is likely to take, if keys took so
+    /// much in the last one of its session. The first one of a session, if it is for one key, is
+    /// taken to be small.
     pub(crate) fn likely(&self, keys: usize, own: KeyBytes) -> usize {
         match own.bytes {
             0 if keys <= 1 => self.key_bytes.bytes.min(SMALL_ANSWER),
@@ -108,15 +113,16 @@ impl Load {
         }
     }
 
-    /// Whether a `get` for so many keys goes on whatever waits, if keys took so much in the last one of its session. While output
-    /// takes three times the budget, only one for a single key does, and not if it is the first one of its session.
+    /// Whether a `get` for so many keys goes on whatever waits, if keys took so much in the last
+    /// one of its session. While output takes three times the budget, only one for a single key
+    /// does, and not if it is the first one of its session.
     pub(crate) fn is_small(&self, keys: usize, likely: usize, own: KeyBytes) -> bool {
         let most = self.output_budget.saturating_mul(3);
         likely <= SMALL_ANSWER && (self.output <= most || keys <= 1 && own.is_known())
     }
 
-    /// Whether an answer that is likely to take so much fits into the budget. Half of the budget is enough for any, since one strict
-    /// answer may have 134 MB.
+    /// Whether an answer that is likely to take so much fits into the budget. Half of the budget is
+    /// enough for any, since one strict answer may have 134 MB.
     pub(crate) fn has_room_for(&self, likely: usize) -> bool {
         let budget = self.output_budget;
         self.output
@@ -178,7 +184,8 @@ impl Load {
         self.keys > MAX_KEYS || self.coming > MAX_COMING
     }
 
-    /// The request of this number asks for so many keys, and its answer is likely to take so many bytes.
+    /// The request of this number asks for so many keys, and its answer is likely to take so many
+    /// bytes.
     pub(crate) fn asked(&mut self, number: u64, keys: usize, likely: usize) {
         self.keys = self.keys.saturating_add(keys);
         self.coming = self.coming.saturating_add(likely);
@@ -219,7 +226,8 @@ impl Load {
         self.counts.written = self.counts.written.wrapping_add(n as u64);
     }
 
-    /// So many bytes of input and of output count no more, nor does the room that was reserved: their session is closed.
+    /// So many bytes of input and of output count no more, nor does the room that was reserved:
+    /// their session is closed.
     pub(crate) fn forget(&mut self, unread: usize, output: usize, reserved: usize) {
         self.output = self.output.saturating_sub(output);
         self.reserved = self.reserved.saturating_sub(reserved);

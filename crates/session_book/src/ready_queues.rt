@@ -1,4 +1,5 @@
-//! Which sessions have something to do, as a held piece to feed, input to ask from or output to give.
+//! Which sessions have something to do, as a held piece to feed, input to ask from or output to
+//! give.
 
 use proto::WINDOW;
 use std::alloc::{AllocError, Global};
@@ -11,7 +12,8 @@ pub enum Task {
     Feed,
     /// They have input.
     Ask,
-    /// They have input, and wait for others and for the answers on their way: the next one is likely to be large.
+    /// They have input, and wait for others and for the answers on their way: the next one is
+    /// likely to be large.
     AskLarge,
     /// They have input, and wait until there is room for the next answer.
     AskForRoom,
@@ -28,9 +30,10 @@ pub enum Task {
 /// How many tasks there are.
 const TASKS: usize = 8;
 
-/// A queue of sessions by their numbers, with the places where they stood in the table. A session that joins gets a ticket:
-/// the number of sessions that have joined so far. It is in the queue as long as its ticket is greater than the number that
-/// have left, so leaving needs no lookup. The number of a closed session is passed over.
+/// A queue of sessions by their numbers, with the places where they stood in the table. A session
+/// that joins gets a ticket: the number of sessions that have joined so far. It is in the queue as
+/// long as its ticket is greater than the number that have left, so leaving needs no lookup. The
+/// number of a closed session is passed over.
 #[derive(Drop)]
 struct ReadyQueue {
     sessions: VecDeque<(u64, usize)>,
@@ -59,8 +62,9 @@ impl Ticket {
     }
 }
 
-/// The tickets of a session. A session with input is in one of three queues, so one ticket does for all. So it is with output:
-/// the second queue is for clients that accepted nothing, and is served slowly; and with those that are paused.
+/// The tickets of a session. A session with input is in one of three queues, so one ticket does for
+/// all. So it is with output: the second queue is for clients that accepted nothing, and is served
+/// slowly; and with those that are paused.
 #[derive(Clone, Copy)]
 pub(crate) struct Tickets {
     pub(crate) feed: Ticket,
@@ -80,7 +84,8 @@ impl Tickets {
     }
 }
 
-/// The sessions of a book that have something to do, in a queue for each task. No clause speaks of them.
+/// The sessions of a book that have something to do, in a queue for each task. No clause speaks of
+/// them.
 #[derive(Drop)]
 pub(crate) struct ReadyQueues {
     /// By their tasks. The memory for a session is reserved when it is opened.
@@ -91,7 +96,8 @@ pub(crate) struct ReadyQueues {
     pub(crate) place: usize,
     /// How many sessions were taken out to be asked while another one waited for its turn.
     passed: u64,
-    /// What the session waited for that was taken out last to be asked; none if it waited for nothing.
+    /// What the session waited for that was taken out last to be asked; none if it waited for
+    /// nothing.
     pub(crate) let_in: Option<Task>,
 }
 
@@ -115,7 +121,8 @@ impl ReadyQueues {
         }
     }
 
-    /// Reserves memory for this number of additional sessions in each queue, twice as much as needed if there is too little.
+    /// Reserves memory for this number of additional sessions in each queue, twice as much as
+    /// needed if there is too little.
     pub(crate) fn reserve(&mut self, additional: usize) -> Result<(), AllocError> {
         for queue in &mut self.queues {
             if queue
@@ -140,8 +147,8 @@ impl ReadyQueues {
         matches!(ticket.task, Task::Ask) && self.has(ticket)
     }
 
-    /// Puts a session into the queue of the task, unless it stands in that of its ticket. The ticket's number is 0, which is
-    /// none, if out of memory.
+    /// Puts a session into the queue of the task, unless it stands in that of its ticket. The
+    /// ticket's number is 0, which is none, if out of memory.
     pub(crate) fn add(&mut self, task: Task, session: u64, ticket: &mut Ticket) {
         if self.has(*ticket) {
             return;
@@ -157,7 +164,8 @@ impl ReadyQueues {
         *ticket = Ticket { task, number };
     }
 
-    /// The session, which was resumed, is to be paused again: it still waits for room for its large message.
+    /// The session, which was resumed, is to be paused again: it still waits for room for its large
+    /// message.
     pub(crate) fn pause_again(&mut self, session: u64) {
         let queue = &mut self.queues[Task::Pause as usize];
         if queue.sessions.push_back((session, self.place)).is_ok() {
@@ -180,9 +188,10 @@ impl ReadyQueues {
         self.queues[task as usize].sessions.front().copied()
     }
 
-    /// Takes out the next session that is to be asked. One that waits, for room that it has by now or for the answers on their
-    /// way, comes if no other is to be asked, or once as many others as a window has requests went before it. If a large answer is
-    /// on its way then, none is taken out until it has come, so that it doesn't wait for ever.
+    /// Takes out the next session that is to be asked. One that waits, for room that it has by now
+    /// or for the answers on their way, comes if no other is to be asked, or once as many others as
+    /// a window has requests went before it. If a large answer is on its way then, none is taken
+    /// out until it has come, so that it doesn't wait for ever.
     pub(crate) fn take_to_ask(&mut self, is_free: bool, has_room: bool) -> Option<u64> {
         self.let_in = None;
         if !has_room && self.count(Task::AskLarge) == 0 {

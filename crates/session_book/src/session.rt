@@ -31,8 +31,8 @@ pub const MAX_WAITING: usize = 1_048_576;
 /// The bytes of output that are given though more will stand after them.
 const WORTH_GIVING: usize = 16_384;
 
-/// A held piece is fed once this much of the input is free, so that the port reads at least as much before the next pause.
-/// A session that waits for the rest of a message has this room.
+/// A held piece is fed once this much of the input is free, so that the port reads at least as much
+/// before the next pause. A session that waits for the rest of a message has this room.
 const WORTH_FEEDING: usize = 65_536;
 
 /// What is to be done with a session's output now.
@@ -44,8 +44,8 @@ pub struct Offer<'a> {
     pub finished: Option<EndCause>,
 }
 
-/// The state of a session from its first input on, with its tickets of the book's ready queues. Contracts see it as
-/// a `SessionState`, without the tickets.
+/// The state of a session from its first input on, with its tickets of the book's ready queues.
+/// Contracts see it as a `SessionState`, without the tickets.
 #[derive(Drop)]
 pub struct Session {
     alloc: Global,
@@ -151,8 +151,8 @@ impl Session {
         fed
     }
 
-    /// Puts a piece of input after the unread bytes, if it fits, to be asked from. A session that has read Quit or a fatal
-    /// message drops it.
+    /// Puts a piece of input after the unread bytes, if it fits, to be asked from. A session that
+    /// has read Quit or a fatal message drops it.
     fn feed(&mut self, session: u64, piece: &[u8], upkeep: &mut Upkeep) -> Result<bool, NoMemory>
         ensures full { (result ≡ Ok false) ↔ IsInputFull self.old piece.now }
         ensures fed { result ≡ Ok true → self.new ≡ once_fed self.old piece.now }
@@ -170,9 +170,10 @@ impl Session {
         Ok(true)
     }
 
-    /// Reads the next message if the parser is to be called, and counts that call. The bytes are read in place, and a request is
-    /// copied out of them once; one with a large block takes their memory. With a message, `unsettled` has room for a request.
-    /// A `get` that waits is held, and stays unread; so does a message for which there is no memory.
+    /// Reads the next message if the parser is to be called, and counts that call. The bytes are
+    /// read in place, and a request is copied out of them once; one with a large block takes their
+    /// memory. With a message, `unsettled` has room for a request. A `get` that waits is held, and
+    /// stays unread; so does a message for which there is no memory.
     fn next_message(
         &mut self,
         unsettled: &mut VecDeque<Unsettled>,
@@ -216,8 +217,8 @@ impl Session {
         }
     }
 
-    /// Reads messages up to and including the next request, and counts the calls of the parser. On Ok, `unsettled` has room
-    /// for the request. On Err that message stays unread.
+    /// Reads messages up to and including the next request, and counts the calls of the parser. On
+    /// Ok, `unsettled` has room for the request. On Err that message stays unread.
     pub fn next_ask(
         &mut self,
         unsettled: &mut VecDeque<Unsettled>,
@@ -240,8 +241,8 @@ impl Session {
         Ok(None)
     }
 
-    /// After a read, queues the session for what it may need: a pause, feeding its held piece, sending output, ending, or asking once
-    /// its `get` waits no more.
+    /// After a read, queues the session for what it may need: a pause, feeding its held piece,
+    /// sending output, ending, or asking once its `get` waits no more.
     pub fn join_queues(&mut self, session: u64, upkeep: &mut Upkeep)
         ensures { self.new ≡ self.old }
     {
@@ -260,7 +261,8 @@ impl Session {
         upkeep.asked = session;
     }
 
-    /// Reserves room for a large message before it comes. If there is none, or others wait for some, the session is to be paused.
+    /// Reserves room for a large message before it comes. If there is none, or others wait for
+    /// some, the session is to be paused.
     fn reserve_room(&mut self, session: u64, upkeep: &mut Upkeep)
         ensures { self.new ≡ self.old }
     {
@@ -284,8 +286,9 @@ impl Session {
         ready.add(Task::ReadOn, session, &mut self.tickets.read);
     }
 
-    /// Reserves room for the large message that it waits to read, and takes it out of the queue; that too where the port has ended.
-    /// True if it is to be resumed: one whose piece is held is fed that before.
+    /// Reserves room for the large message that it waits to read, and takes it out of the queue;
+    /// that too where the port has ended. True if it is to be resumed: one whose piece is held is
+    /// fed that before.
     pub fn read_on(&mut self, session: u64, has_ended: bool, upkeep: &mut Upkeep) -> bool
         ensures same { self.new ≡ self.old }
         ensures none_held { OnTrue result (self.old.held ≡ []) }
@@ -320,8 +323,8 @@ impl Session {
         self.ended.is_some() || self.input.kept().len() <= self.input.most_unread() - WORTH_FEEDING
     }
 
-    /// Gives the first request of the queue, for so many keys, its reply. It answers how many bytes of output that made. If there
-    /// is no memory for them the session is of no further use.
+    /// Gives the first request of the queue, for so many keys, its reply. It answers how many bytes
+    /// of output that made. If there is no memory for them the session is of no further use.
     pub fn settle(
         &mut self,
         session: u64,
@@ -350,8 +353,8 @@ impl Session {
         }
     }
 
-    /// The output that is to be given now, and whether the session has finished. Little output waits for the answers that are
-    /// outstanding, and for the input that is left to be read.
+    /// The output that is to be given now, and whether the session has finished. Little output
+    /// waits for the answers that are outstanding, and for the input that is left to be read.
     pub fn offer(&self, ready: &ReadyQueues) -> Offer<'_>
         ensures out { (result.out.now ≡ []) ⊎ (result.out.now ≡ self.now.out) }
         ensures finished { result.finished ≡ finished_by self.now }
@@ -375,8 +378,8 @@ impl Session {
         }
     }
 
-    /// `n` bytes of the output were given. It answers whether the session has finished by now. A session that had too much
-    /// output is asked again.
+    /// `n` bytes of the output were given. It answers whether the session has finished by now. A
+    /// session that had too much output is asked again.
     pub fn gave(&mut self, session: u64, n: usize, upkeep: &mut Upkeep) -> Option<EndCause>
         requires { n ≤ length self.old.out }
         ensures gave { self.new ≡ gave self.old n }
@@ -450,7 +453,8 @@ impl Session {
         self.key_bytes
     }
 
-    /// Whether its client has stopped for some seconds while it holds memory that others wait for: room for output, or for input.
+    /// Whether its client has stopped for some seconds while it holds memory that others wait for:
+    /// room for output, or for input.
     pub fn is_stalled(&self, for_output: bool, for_input: bool, upkeep: &Upkeep) -> bool
         ensures { OnTrue result (MayStall self.now) }
     {
@@ -461,7 +465,8 @@ impl Session {
         holds_input && self.is_unsent(upkeep)
     }
 
-    /// Whether more output waits than a small answer has, of which its client took nothing for some seconds.
+    /// Whether more output waits than a small answer has, of which its client took nothing for some
+    /// seconds.
     fn is_unread(&self, upkeep: &Upkeep) -> bool
         ensures { OnTrue result (SMALL_ANSWER < length self.now.out) }
     {
@@ -507,8 +512,8 @@ impl Session {
     }
 }
 
-/// What a message waits for before it is asked, if keys took so much in the last answer of its session: none but a `get` or a `gat`
-/// does.
+/// What a message waits for before it is asked, if keys took so much in the last answer of its
+/// session: none but a `get` or a `gat` does.
 fn waiting_of(message: &Message, own: KeyBytes, upkeep: &mut Upkeep) -> Option<Waiting> {
     match message {
         Message::Ask(Request::Get { keys, .. } | Request::GetAndTouch { keys, .. }, _) => {

@@ -37,8 +37,8 @@ pub(crate) fn key_count(request: &Request) -> usize {
     }
 }
 
-/// Which sessions have something to do, how much is unfinished in all of them, and the memory of buffers that are empty. No
-/// clause speaks of it.
+/// Which sessions have something to do, how much is unfinished in all of them, and the memory of
+/// buffers that are empty. No clause speaks of it.
 #[derive(Drop)]
 pub(crate) struct Upkeep {
     pub(crate) ready: ReadyQueues,
@@ -66,9 +66,10 @@ impl Upkeep {
         }
     }
 
-    /// What a `get` for so many keys waits for, if keys took so much in the last answer of its session; none if it is to be asked
-    /// now. None goes before one that waits for room, but those whose answers are small. One whose answer is likely to be large lets
-    /// the others go first that are to be asked.
+    /// What a `get` for so many keys waits for, if keys took so much in the last answer of its
+    /// session; none if it is to be asked now. None goes before one that waits for room, but those
+    /// whose answers are small. One whose answer is likely to be large lets the others go first
+    /// that are to be asked.
     pub(crate) fn waiting(&mut self, keys: usize, own: KeyBytes) -> Option<Waiting> {
         let let_in = self.ready.let_in.take();
         let likely = self.load.likely(keys, own);
@@ -95,8 +96,8 @@ impl Upkeep {
         self.seconds.saturating_sub(second) >= STOPPED_SECONDS
     }
 
-    /// Counts the keys of a `get` that is asked with this number, and lends it a spare buffer for its hits. Keys took so much in
-    /// the last answer of its session.
+    /// Counts the keys of a `get` that is asked with this number, and lends it a spare buffer for
+    /// its hits. Keys took so much in the last answer of its session.
     pub(crate) fn asked(&mut self, request: &mut Request, number: u64, own: KeyBytes)
         ensures { request.new ≡ request.old }
     {
@@ -111,8 +112,8 @@ impl Upkeep {
         let _ = request.lend_buffer(SpareBuffer::from_vec(hits));
     }
 
-    /// Uncounts so many keys of a request that was settled with so many bytes of output, and keeps the memory of its hits for a
-    /// `get`. That of a large value is kept for input.
+    /// Uncounts so many keys of a request that was settled with so many bytes of output, and keeps
+    /// the memory of its hits for a `get`. That of a large value is kept for input.
     pub(crate) fn settled(&mut self, answered: Answered, keys: usize, length: usize) {
         let Answered {
             number,

@@ -1,12 +1,12 @@
--- A storage side may go to another thread, as its store and its clock may.
--- This is written by hand, since the prover does not find it for the snapshots of what a side began with.
+-- A storage side may go to another thread, as its store and its clock may. This is written by hand,
+-- since the prover does not find it for the snapshots of what a side began with.
 use denote.RattleType.{RattleType}
 use denote.Ref.{NamedLft}
 use denote.Param.Send.{IsSend, sendable}
 use denote.Param.SendFields.{declared_send}
 use Rattle.std.proofs.Crossing.{crosses}
 use Rattle.std.proofs.sync.OnceToken.TheSendSync as token
-use Rattle.exchange.proofs.storage.StorageBatch.TheSendSync.{the_send as batch_send}
+use Rattle.exchange.proofs.storage.StorageLanes.TheSendSync.{the_send as batch_send}
 use Rattle.engine.specs.declared.storage_engine.StorageEngine as StorageEngine
 use Rattle.proto.specs.declared.clock.Clock as Clock
 use Rattle.storage_thread.specs.declared.sharing.LockId as LockId

@@ -7,7 +7,7 @@ use Rattle.proto.specs.Sizes.{Sizes}
 use Rattle.proto.specs.Stored.{StoredItem}
 use Rattle.proto.specs.History.{Legal}
 use Rattle.proto.specs.declared.history.Answered.{Answered}
-use Rattle.exchange.specs.Ends.{StorageView, StorageBatchView}
+use Rattle.exchange.specs.Ends.{StorageView, StorageLanesView}
 use Rattle.engine.proofs.ReachingLemmas.{legal_of}
 use Rattle.storage_thread.specs.declared.side.SideState.{SideState}
 use Rattle.storage_thread.specs.declared.serving.StorageReport.{StorageReport}
@@ -39,7 +39,7 @@ module _ {S C : Type 0} (cache : S → Cache) (moment : S → ℕ) (sizes : S �
   }
 
   -- once the workers were told of more answers
-  pub told_more : (b : StorageBatchView) → b.end ≡ s.end.end
+  pub told_more : (b : StorageLanesView) → b.end ≡ s.end.end
       → IsSideServing cache moment sizes keeps exact may_refuse told start leads_to (record s { end = b })
   told_more b same = subst (λ (v : StorageView). IsSideServing cache moment sizes keeps exact may_refuse told start leads_to
       (record s { end = record { end = v; told = b.told } })) (sym same) (told_now b.told)

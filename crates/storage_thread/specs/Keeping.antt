@@ -29,8 +29,9 @@ ForgetsNothing sizes before (e ∷ history) (after ∷ caches) =
     × ForgetsNothing sizes after history caches
 ForgetsNothing _ _ _ _ = ⊤
 
--- Of each beginning of the history: if no request sets a deadline, and each chain stores no more than all segments but
--- one hold, each less the size of a largest item, then some chain forgets nothing.
+-- Of each beginning of the history: if no request sets a deadline, and each chain stores no more
+-- than all segments but one hold, each less the size of a largest item, then some chain forgets
+-- nothing.
 abbrev pub MayAlwaysForgetNothing : Sizes → List Answered → Type 0
 MayAlwaysForgetNothing sizes history =
     let start = empty_cache 0 in
@@ -39,8 +40,8 @@ MayAlwaysForgetNothing sizes history =
     → stored_bytes sizes start beginning caches ≤ (sizes.segments - 1) * (sizes.segment_size - item_limit sizes))
     → (caches : List Cache) × Chain (Step sizes) start beginning caches × ForgetsNothing sizes start beginning caches
 
--- Where no request set a deadline, and what was stored is within the bound, nothing was forgotten so far, and a store keeps
--- items of as many bytes, none of which has a deadline.
+-- Where no request set a deadline, and what was stored is within the bound, nothing was forgotten
+-- so far, and a store keeps items of as many bytes, none of which has a deadline.
 abbrev pub KeepsSoFar : Sizes → List Answered → List Cache → (List StoredItem → Type 0) → Type 0
 KeepsSoFar sizes history caches keeps =
     let start = empty_cache 0 in
@@ -50,7 +51,8 @@ KeepsSoFar sizes history caches keeps =
     → (items : List StoredItem) × keeps items × (written items ≡ bytes)
     × AllByRecursion (λ i. i.bucket ≡ bucket_of None) items × ForgetsNothing sizes start history caches
 
--- A chain of steps leads through the history to this cache, and forgot nothing so far; nor need one of a beginning have.
+-- A chain of steps leads through the history to this cache, and forgot nothing so far; nor need one
+-- of a beginning have.
 pub record LeadsKeeping (sizes : Sizes) (history : List Answered) (cache : Cache)
     (keeps : List StoredItem → Type 0) : Type 0 where
   pub caches : List Cache

@@ -23,7 +23,8 @@ AsksClock {C} told start old last new moment =
     × (new.answers ≡ old.answers ++ answer ∷ []) × (moment ≡ max last (min answer.seconds max_moment))
     × IfSome (start old.clock) (λ from. IsRead from answer) × (start new.clock ≡ start old.clock)
 
--- where that is required, the clock counts from a start, and the history's moments are those of its readings since
+-- where that is required, the clock counts from a start, and the history's moments are those of its
+-- readings since
 abbrev pub IsReadSince : Bool → Option ClockStart → List Answered → Type 0
 IsReadSince is_required start history =
     is_required ≡ true → (from : ClockStart) × (start ≡ Some from) × All (IsRead from) (answers_by [] history)
@@ -61,7 +62,8 @@ pub record GetsMessage (old new : StorageView) (t : Taken) : Type 0 where
   pub looks : List (ℕ × ℕ)
   pub after : new ≡ record (with_taken old lane t) { looks = looks }
 
--- the open request is the worker's next one, and was answered with an entry at this moment, after these answers of the clock
+-- the open request is the worker's next one, and was answered with an entry at this moment, after
+-- these answers of the clock
 abbrev pub AnswersOpenRequest : StorageView → StorageView → ℕ → Posted → ℕ → List GivenAnswer → Type 0
 AnswersOpenRequest old new worker posted moment clock =
     (e : Answered) × (e.worker ≡ worker) × (posted_of e ≡ posted) × (e.moment ≡ moment) × (e.clock ≡ clock)

@@ -19,8 +19,9 @@ use Rattle.storage_thread.specs.Deadlines.{LeadsAsAsked, MayStoreAsAsked}
 abbrev pub IsSameOrigin : {S C : Type 0} → Origin S C → Origin S C → Type 0
 IsSameOrigin a b = (a.store.value ≡ b.store.value) × (a.clock.value ≡ b.clock.value) × (a.end.value ≡ b.end.value)
 
--- What holds of a side between two requests, over a store and a clock with these properties: of the exchange that it began with, all
--- that was taken was executed, and the store and the counts are where the history leads; the clock was asked once for each entry.
+-- What holds of a side between two requests, over a store and a clock with these properties: of the
+-- exchange that it began with, all that was taken was executed, and the store and the counts are
+-- where the history leads; the clock was asked once for each entry.
 pub record IsSideServing {S C : Type 0} (cache : S → Cache) (moment : S → ℕ) (sizes : S → Sizes)
     (keeps : S → List StoredItem → Type 0) (exact : S → Bool) (may_refuse : Bool) (told : C → Option (List ℕ))
     (start : C → Option ClockStart) (leads_to : C → C → Type 0) (s : SideState S C) : Type 0 where
@@ -39,8 +40,8 @@ pub record IsSideServing {S C : Type 0} (cache : S → Cache) (moment : S → �
   pub refused : RefusesBy may_refuse s.end.end.history
   pub counts_are : s.counts ≡ counts_after no_counts s.end.end.history
 
--- What a side leaves that began with this clock and this end, over a store that keeps what it stores where `keeps` says so, and
--- deadlines to the second where `exact` does.
+-- What a side leaves that began with this clock and this end, over a store that keeps what it
+-- stores where `keeps` says so, and deadlines to the second where `exact` does.
 pub record IsLeftBySide {C : Type 0} (told : C → Option (List ℕ)) (leads_to : C → C → Type 0) (keeps : Type 0)
     (exact may_refuse : Bool) (clock : C) (end : StorageView) (report : StorageReport C) : Type 0 where
   pub same : IsSameExchange end report.storage_end

@@ -1,5 +1,6 @@
-//! The storage side: it takes requests from its end of the exchange, executes them one at a time, and answers
-//! them. One thread at a time holds it: the storage thread alone, or whichever has posted.
+//! The storage side: it takes requests from its end of the exchange, executes them one at a time,
+//! and answers them. One thread at a time holds it: the storage thread alone, or whichever has
+//! posted.
 #![tactic(auto)]
 
 mod serving;

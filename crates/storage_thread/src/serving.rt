@@ -16,9 +16,7 @@ ghost use Rattle.storage_thread.specs.Deadlines.{LeadsAsAsked, MayStoreAsAsked};
 use crate::side::{Served, StorageSide};
 use crate::stats::StatsSource;
 use engine::{Clock, MAX_MOMENT, StorageEngine, carry_out};
-use exchange::{
-    Answered, IdleTurns, Posted, StorageBatch, StorageEnd, StorageSignals, Taken, Waits,
-};
+use exchange::{Answered, GroupSignals, IdleTurns, Posted, StorageEnd, StorageLanes, Taken, Waits};
 use proto::{AskedClock, Counts, Reply, Request};
 use std::sync::Wait;
 use std::{hint, time};
@@ -26,16 +24,19 @@ use std::{hint, time};
 /// The workers are told of their answers at least at each so many.
 const ANSWERS_PER_FLUSH: u64 = 8;
 
-/// The keys above which a `get` or a `gat` may take long. The workers are told of all answers before it.
+/// The keys above which a `get` or a `gat` may take long. The workers are told of all answers
+/// before it.
 const MANY_KEYS: usize = 64;
 
-/// The idle turns in a row in which it spins before it parks, if the signals say no time: two microseconds.
+/// The idle turns in a row in which it spins before it parks, if the signals say no time: two
+/// microseconds.
 const IDLE_TURNS: u32 = 10;
 
 /// How often a turn spins in which the side is held and nothing comes.
 const SPINS_PER_TURN: u32 = 4;
 
-/// The most messages for which storage reads ahead at once: their slots and items come from memory at the same time.
+/// The most messages for which storage reads ahead at once: their slots and items come from memory
+/// at the same time.
 const MESSAGES_AHEAD: u64 = 8;
 
 /// What the storage thread leaves.
@@ -47,13 +48,13 @@ pub struct StorageReport<C: Clock> {
     pub executed: u64,
 }
 
-/// Prefetches for the message just taken and for those seen after it. `done` is how many messages an earlier call has already
-/// covered, and the result is how many this one has.
+/// Prefetches for the message just taken and for those seen after it. `done` is how many messages
+/// an earlier call has already covered, and the result is how many this one has.
 pub(crate) fn read_ahead<S: StorageEngine>(
     done: u64,
     store: &S,
-    end: &StorageBatch,
-    signals: &StorageSignals,
+    end: &StorageLanes,
+    signals: &GroupSignals,
 ) -> u64 {
     if done > 0 {
         return done - 1;
@@ -71,8 +72,8 @@ pub(crate) fn read_ahead<S: StorageEngine>(
     count - 1
 }
 
-/// Asks the clock once for the moment of the next request: its answer, but none after the greatest moment or before the last
-/// one.
+/// Asks the clock once for the moment of the next request: its answer, but none after the greatest
+/// moment or before the last one.
 pub fn next_moment<C: Clock>(clock: &mut AskedClock<C>, last: u64) -> u64
     ensures leads { C.leads_to clock.old.clock clock.new.clock }
     ensures moment { AsksClock C.told C.start clock.old last clock.new result }
@@ -98,16 +99,16 @@ fn reply_bytes(reply: &Reply) -> usize {
     }
 }
 
-/// Executes the open request, counts it, and answers it. If the store made room for it, the time since the clock was read is
-/// noted. Its worker is told at the next flush, or before.
+/// Executes the open request, counts it, and answers it. If the store made room for it, the time
+/// since the clock was read is noted. Its worker is told at the next flush, or before.
 pub(crate) fn execute<S: StorageEngine, C: Clock, R: time::Clock>(
     rt: &R,
-    signals: &StorageSignals,
+    signals: &GroupSignals,
     store: &mut S,
     clock: &mut AskedClock<C>,
     counts: &mut Counts,
     source: &mut StatsSource,
-    end: &mut StorageBatch,
+    end: &mut StorageLanes,
     worker: usize,
     posted: Posted,
 ) -> Executed
@@ -123,7 +124,8 @@ pub(crate) fn execute<S: StorageEngine, C: Clock, R: time::Clock>(
     ensures reaches { Reaches end.new.end.terms.geometry end.new.end.history (S.cache store.new) (S.moment store.new) }
     ensures kept { LeadsKeeping end.old.end.terms.geometry end.old.end.history (S.cache store.old) (S.keeps store.old)
         → LeadsKeeping end.new.end.terms.geometry end.new.end.history (S.cache store.new) (S.keeps store.new) }
-    ensures dated { LeadsAsAsked end.old.end.terms.geometry end.old.end.history (S.cache store.old) (S.is_exact store.old)
+    ensures dated { LeadsAsAsked end.old.end.terms.geometry end.old.end.history (S.cache store.old)
+        (S.is_exact store.old)
         → LeadsAsAsked end.new.end.terms.geometry end.new.end.history (S.cache store.new) (S.is_exact store.new) }
     ensures sizes { S.sizes store.new ≡ S.sizes store.old }
     ensures refused { RefusesBy S.may_refuse end.new.end.history }
@@ -167,7 +169,7 @@ pub(crate) fn execute<S: StorageEngine, C: Clock, R: time::Clock>(
 }
 
 /// Tells the workers of all answers, and unparks the one whose answers they are.
-pub(crate) fn tell_workers(end: &mut StorageBatch, signals: &StorageSignals)
+pub(crate) fn tell_workers(end: &mut StorageLanes, signals: &GroupSignals)
     ensures end { end.new.end ≡ end.old.end }
     ensures told { end.new.told ≡ end.old.end.history }
 {
@@ -176,8 +178,8 @@ pub(crate) fn tell_workers(end: &mut StorageBatch, signals: &StorageSignals)
     }
 }
 
-/// Whether the workers are told of all answers before this message: at each eighth answer, and before a `get` or a `gat`
-/// for many keys.
+/// Whether the workers are told of all answers before this message: at each eighth answer, and
+/// before a `get` or a `gat` for many keys.
 fn tells_before(taken: &Taken, executed: u64) -> bool {
     if executed % ANSWERS_PER_FLUSH == 0 {
         return true;
@@ -191,13 +193,14 @@ fn tells_before(taken: &Taken, executed: u64) -> bool {
     }
 }
 
-/// The next message among those that the last look at the lanes named; the workers are told of each eighth answer, and of all
-/// before a `get` for many keys. If none is left, they are told of all answers, and then the lanes are looked at.
+/// The next message among those that the last look at the lanes named; the workers are told of each
+/// eighth answer, and of all before a `get` for many keys. If none is left, they are told of all
+/// answers, and then the lanes are looked at.
 pub(crate) fn take_next<C: Clock>(
-    end: &mut StorageBatch,
+    end: &mut StorageLanes,
     clock: &AskedClock<C>,
     executed: u64,
-    signals: &StorageSignals,
+    signals: &GroupSignals,
 ) -> Option<Taken>
     requires shut { end.old.end.open_request ≡ None }
     requires fresh { clock.now.answers ≡ answers_by [] end.old.end.history }
@@ -221,7 +224,7 @@ fn pass_turn<R: Wait + time::Clock, S: StorageEngine, C: Clock>(
     _side: &StorageSide<S, C>,
     idle: &mut IdleTurns,
     waits: &mut Waits,
-    signals: &StorageSignals,
+    signals: &GroupSignals,
 )
     requires told { _side.now.end.told ≡ _side.now.end.end.history }
 {
@@ -242,7 +245,7 @@ fn spin() {
 pub(crate) fn serve_until_idle<R: Wait + time::Clock, S: StorageEngine, C: Clock>(
     rt: &R,
     side: &mut StorageSide<S, C>,
-    signals: &StorageSignals,
+    signals: &GroupSignals,
 ) -> bool
     ensures origin { side.new.origin ≡ side.old.origin }
     ensures told { side.new.end.told ≡ side.new.end.end.history }
@@ -269,7 +272,7 @@ pub(crate) fn serve_until_idle<R: Wait + time::Clock, S: StorageEngine, C: Clock
 pub(crate) fn serve<R: Wait + time::Clock, S: StorageEngine, C: Clock>(
     rt: &R,
     side: &mut StorageSide<S, C>,
-    signals: &StorageSignals,
+    signals: &GroupSignals,
 )
     ensures origin { side.new.origin ≡ side.old.origin }
     ensures told { side.new.end.told ≡ side.new.end.end.history }
@@ -287,17 +290,18 @@ pub(crate) fn serve<R: Wait + time::Clock, S: StorageEngine, C: Clock>(
     unreachable!()
 }
 
-/// Executes requests until each worker has said bye. The store is empty, for the geometry that the exchange was
-/// made for, and nothing was taken from the end. The clock is asked once for each request. The messages that a look named
-/// are served before it looks again; the workers are told of each eighth answer, and of all before it looks and before a
-/// `get` for more than 64 keys. While nothing comes, the thread spins, as long as the signals say, and then parks: a worker
-/// that posts or says bye wakes it. Workers' hints tell it what to prefetch.
+/// Executes requests until each worker has said bye. The store is empty, for the geometry that the
+/// exchange was made for, and nothing was taken from the end. The clock is asked once for each
+/// request. The messages that a look named are served before it looks again; the workers are told
+/// of each eighth answer, and of all before it looks and before a `get` for more than 64 keys.
+/// While nothing comes, the thread spins, as long as the signals say, and then parks: a worker that
+/// posts or says bye wakes it. Workers' hints tell it what to prefetch.
 pub fn run_storage<R: Wait + time::Clock, S: StorageEngine + Drop, C: Clock>(
     rt: &R,
     store: S,
     clock: C,
     storage_end: StorageEnd,
-    signals: &StorageSignals,
+    signals: &GroupSignals,
 ) -> StorageReport<C>
     requires empty { (S.cache store ≡ empty_cache 0) × (S.moment store ≡ 0) }
     requires sizes { S.sizes store ≡ storage_end.terms.geometry }
@@ -315,7 +319,8 @@ pub fn run_storage<R: Wait + time::Clock, S: StorageEngine + Drop, C: Clock>(
     ensures leads { C.leads_to clock result.clock }
     ensures moments { IsTimed (C.told clock) (C.told result.clock) result.storage_end.history }
 
-    // as long as no deadline is set and little is stored, nothing is forgotten by a store that keeps what it stores
+    // as long as no deadline is set and little is stored, nothing is forgotten by a store that
+    // keeps what it stores
     ensures bounded { S.keeps store [] → MayAlwaysForgetNothing storage_end.terms.geometry result.storage_end.history }
 
     // over a store that keeps deadlines to the second, each entry has the deadline asked for

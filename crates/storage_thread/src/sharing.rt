@@ -7,7 +7,7 @@ use crate::serving::{StorageReport, serve, serve_until_idle};
 use crate::side::{Origin, StorageSide};
 use crate::stats::passed;
 use engine::{Clock, StorageEngine};
-use exchange::{IdleTurns, StorageSignals};
+use exchange::{GroupSignals, IdleTurns};
 use std::marker::{Brand, Model, PhantomData};
 use std::sync::atomic::{AtomicU64, Ordering};
 use std::sync::{Mutex, MutexGuard, OnceToken, Wait};
@@ -31,13 +31,13 @@ impl LockId for Brand {
 /// What executes requests, as threads share it: a storage side of some store and some clock.
 pub trait Serve {
     /// Takes a turn for the worker of this number. True if messages may be left.
-    fn serve_turn<R: time::Clock>(&mut self, rt: &R, signals: &StorageSignals, own: usize) -> bool;
+    fn serve_turn<R: time::Clock>(&mut self, rt: &R, signals: &GroupSignals, own: usize) -> bool;
 
     /// Executes requests until nothing has come for some turns. True if there was a message.
-    fn serve_until_idle<R: Wait + time::Clock>(&mut self, rt: &R, signals: &StorageSignals) -> bool;
+    fn serve_until_idle<R: Wait + time::Clock>(&mut self, rt: &R, signals: &GroupSignals) -> bool;
 
     /// Executes requests until each worker has said bye.
-    fn serve_to_end<R: Wait + time::Clock>(&mut self, rt: &R, signals: &StorageSignals);
+    fn serve_to_end<R: Wait + time::Clock>(&mut self, rt: &R, signals: &GroupSignals);
 
     /// Whether each worker has said bye.
     fn is_done(&self) -> bool;
@@ -87,12 +87,7 @@ impl<'a, S: StorageEngine, C: Clock, J: LockId> SharedSide<'a, S, C, J> {
     }
 
     /// Says for `stats` that a thread has held it since this moment, and puts it back now.
-    fn note_held<R: time::Clock>(
-        &mut self,
-        rt: &R,
-        signals: &StorageSignals,
-        since: Option<Instant>,
-    )
+    fn note_held<R: time::Clock>(&mut self, rt: &R, signals: &GroupSignals, since: Option<Instant>)
         ensures { self.new ≡ self.old }
     {
         self.held = self.held.saturating_add(passed(rt, since));
@@ -120,24 +115,20 @@ impl<'a, S: StorageEngine + Drop, C: Clock, J: LockId> SharedSide<'a, S, C, J> {
 }
 
 impl<S: StorageEngine, C: Clock, J: LockId> Serve for SharedSide<'_, S, C, J> {
-    fn serve_turn<R: time::Clock>(&mut self, rt: &R, signals: &StorageSignals, own: usize) -> bool {
+    fn serve_turn<R: time::Clock>(&mut self, rt: &R, signals: &GroupSignals, own: usize) -> bool {
         let turn = self.side.serve_turn(rt, signals, own);
         self.note_held(rt, signals, turn.since);
         turn.may_leave
     }
 
-    fn serve_until_idle<R: Wait + time::Clock>(
-        &mut self,
-        rt: &R,
-        signals: &StorageSignals,
-    ) -> bool {
+    fn serve_until_idle<R: Wait + time::Clock>(&mut self, rt: &R, signals: &GroupSignals) -> bool {
         let since = Instant::now(rt).ok();
         let has_served = serve_until_idle(rt, &mut self.side, signals);
         self.note_held(rt, signals, since);
         has_served
     }
 
-    fn serve_to_end<R: Wait + time::Clock>(&mut self, rt: &R, signals: &StorageSignals) {
+    fn serve_to_end<R: Wait + time::Clock>(&mut self, rt: &R, signals: &GroupSignals) {
         serve(rt, &mut self.side, signals);
     }
 
@@ -200,7 +191,7 @@ impl<T: Serve> SharedStorage<T> {
     /// Executes what was posted, for the worker of this number that has, unless another thread
     /// holds the side, which then does. False if the storage thread is to be woken: messages may be
     /// left, or each worker has said bye.
-    pub fn serve<R: time::Clock>(&self, rt: &R, signals: &StorageSignals, own: usize) -> bool {
+    pub fn serve<R: time::Clock>(&self, rt: &R, signals: &GroupSignals, own: usize) -> bool {
         for _ in 0..TURNS_IN_A_ROW {
             let Some(mut side) = self.try_hold() else {
                 return true;
@@ -219,14 +210,14 @@ impl<T: Serve> SharedStorage<T> {
     }
 
     /// Holds the side until each worker has said bye: no other thread may try to.
-    pub fn serve_to_end<R: Wait + time::Clock>(&self, rt: &R, signals: &StorageSignals) {
+    pub fn serve_to_end<R: Wait + time::Clock>(&self, rt: &R, signals: &GroupSignals) {
         self.side.lock(rt).serve_to_end(rt, signals);
     }
 
     /// Executes what workers leave, until each has said bye. It holds the side while it spins.
     /// Before it says that it will park it puts the side back, and then it looks at the lanes once
     /// more.
-    pub fn serve_beside<R: Wait + time::Clock>(&self, rt: &R, signals: &StorageSignals) {
+    pub fn serve_beside<R: Wait + time::Clock>(&self, rt: &R, signals: &GroupSignals) {
         let mut idle = IdleTurns::new(0, None);
         for _ in rt.forever() {
             let mut has_served = false;

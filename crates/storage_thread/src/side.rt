@@ -9,7 +9,7 @@ ghost use Rattle.storage_thread.specs.Sides.{IsLeftBySide};
 use crate::serving::{StorageReport, execute, read_ahead, take_next, tell_workers};
 use crate::stats::StatsSource;
 use engine::{Clock, StorageEngine};
-use exchange::{StorageBatch, StorageEnd, StorageSignals, Taken, Waits};
+use exchange::{GroupSignals, StorageEnd, StorageLanes, Taken, Waits};
 use proto::{AskedClock, Counts, WINDOW};
 use std::marker::Model;
 use std::snapshot::Snapshot;
@@ -88,7 +88,7 @@ pub struct SideState<S, C: Clock> {
     pub(crate) counts: Counts,
     pub(crate) source: StatsSource,
     /// Storage's end of all lanes.
-    pub(crate) end: StorageBatch,
+    pub(crate) end: StorageLanes,
     /// How many workers haven't said bye.
     pub(crate) left: usize,
     /// How many requests were executed. It stays at the greatest number of its type.
@@ -98,8 +98,8 @@ pub struct SideState<S, C: Clock> {
     pub(crate) origin: Origin<S, C>,
 }
 
-/// The storage side. Between requests its parts agree: the history is legal, of the exchange that it began with, and the store
-/// is where the history leads.
+/// The storage side. Between requests its parts agree: the history is legal, of the exchange that
+/// it began with, and the store is where the history leads.
 #[derive(Drop)]
 pub struct StorageSide<S: StorageEngine, C: Clock> {
     pub(crate) state: SideState<S, C>,
@@ -117,7 +117,8 @@ impl<S: StorageEngine, C: Clock> Model for StorageSide<S, C> {
 }
 
 impl<S: StorageEngine, C: Clock> StorageSide<S, C> {
-    /// A side over a new store, by a clock that was asked nothing, of an end from which nothing was taken.
+    /// A side over a new store, by a clock that was asked nothing, of an end from which nothing was
+    /// taken.
     pub fn new<R: time::Clock>(
         rt: &R,
         store: S,
@@ -166,7 +167,7 @@ impl<S: StorageEngine, C: Clock> StorageSide<S, C> {
     pub fn serve_next<R: time::Clock>(
         &mut self,
         rt: &R,
-        signals: &StorageSignals,
+        signals: &GroupSignals,
         waits: Option<&mut Waits>,
     ) -> Option<Served>
         ensures origin { self.new.origin ≡ self.old.origin }
@@ -217,7 +218,7 @@ impl<S: StorageEngine, C: Clock> StorageSide<S, C> {
     }
 
     /// Tells the workers of all answers.
-    fn tell(&mut self, signals: &StorageSignals)
+    fn tell(&mut self, signals: &GroupSignals)
         ensures origin { self.new.origin ≡ self.old.origin }
         ensures told { self.new.end.told ≡ self.new.end.end.history }
     {
@@ -240,12 +241,7 @@ impl<S: StorageEngine, C: Clock> StorageSide<S, C> {
 
     /// Executes what stands in the lanes, for the worker of this number: of others no more requests
     /// and bytes of answers than a turn has. The workers have been told of all answers.
-    pub fn serve_turn<R: time::Clock>(
-        &mut self,
-        rt: &R,
-        signals: &StorageSignals,
-        own: usize,
-    ) -> Turn
+    pub fn serve_turn<R: time::Clock>(&mut self, rt: &R, signals: &GroupSignals, own: usize) -> Turn
         ensures origin { self.new.origin ≡ self.old.origin }
         ensures told { self.new.end.told ≡ self.new.end.end.history }
     {

@@ -4,11 +4,12 @@ ghost use Rattle.std.specs.Prelude.{◌≡◌, ◌⊎◌, ℕ, List, IfOk};
 ghost use Rattle.proto.specs.StatTexts.{IsStats};
 
 use engine::StorageEngine;
-use exchange::StorageSignals;
+use exchange::GroupSignals;
 use proto::{Counts, Gauge, NoMemory, Reply, Request, StatsText, TOLD_VERSION};
 use std::time::{Clock, Duration, Instant};
 
-/// What a `stats` shows beside counts, the system's clock and the signals: when the storage side was made.
+/// What a `stats` shows beside counts, the system's clock and the signals: when the storage side
+/// was made.
 #[derive(Drop)]
 pub struct StatsSource {
     /// None if the clock couldn't be read.
@@ -35,7 +36,7 @@ impl StatsSource {
     /// Sets the gauges, this long after the side was made.
     fn set_gauges<S: StorageEngine>(
         &self,
-        signals: &StorageSignals,
+        signals: &GroupSignals,
         store: &S,
         worker: usize,
         passed: Duration,
@@ -59,7 +60,7 @@ impl StatsSource {
     fn text<S: StorageEngine, R: Clock>(
         &self,
         rt: &R,
-        signals: &StorageSignals,
+        signals: &GroupSignals,
         counts: &Counts,
         store: &S,
         worker: usize,
@@ -84,13 +85,14 @@ impl StatsSource {
         Ok(text)
     }
 
-    /// The reply to a request of the worker, to which the store replied so, if these are the counts before it. If the store made
-    /// room for the request, the time since the clock was read for it is noted.
+    /// The reply to a request of the worker, to which the store replied so, if these are the counts
+    /// before it. If the store made room for the request, the time since the clock was read for it
+    /// is noted.
     #[inline(always)]
     pub fn reply<S: StorageEngine, R: Clock>(
         &mut self,
         rt: &R,
-        signals: &StorageSignals,
+        signals: &GroupSignals,
         since: Option<Instant>,
         counts: &Counts,
         store: &S,

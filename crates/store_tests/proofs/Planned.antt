@@ -6,7 +6,8 @@ use Rattle.segments.specs.Merges.{IsPlan, NoneQualifies, with_merge_planned, wit
 use Rattle.segments.specs.Marks.{Marks, KnowsPool, lives_by}
 use Rattle.segments.proofs.MarkedPlaces.{knows_planned, knows_unplanned}
 
--- marks that know a pool still know it once a merge was planned or none could be, and the pool's sizes stay
+-- marks that know a pool still know it once a merge was planned or none could be, and the pool's
+-- sizes stay
 pub planned_known : (t : Marks) (p q : PoolState) (b : Bool)
     → MatchBool b ((plan : Plan) × IsPlan (lives_by t) p plan × (q ≡ with_merge_planned p plan))
     (NoneQualifies p × (q ≡ without_plan p))

@@ -11,7 +11,8 @@ pub found : (p : PoolState) (n : ℕ) (left : List Standing) → left ≡ standi
 found p n left e =
     subst (All (λ s. item_in p s.place ≡ Some s.item)) (sym e) (found_from p n [] (items_of (segment_at p n)) refl)
 
--- where each item that is left of a walk is found at its place, each one after the first of them is, too
+-- where each item that is left of a walk is found at its place, each one after the first of them
+-- is, too
 pub found_behind : (p : PoolState) (s : Standing) (left rest : List Standing) → left ≡ s ∷ rest
     → All (λ s. item_in p s.place ≡ Some s.item) left → All (λ s. item_in p s.place ≡ Some s.item) rest
 found_behind p s left rest e all =

@@ -82,8 +82,9 @@ impl Compared {
         self.write(rt, number, cas)
     }
 
-    /// So many random steps. All keys below the count are looked up after each step whose number has none of the bits
-    /// of a mask, and at the end, when the table is emptied and they are looked up again.
+    /// So many random steps. All keys below the count are looked up after each step whose number
+    /// has none of the bits of a mask, and at the end, when the table is emptied and they are
+    /// looked up again.
     fn run(
         &mut self,
         rt: &impl Abort,
@@ -106,8 +107,8 @@ impl Compared {
     }
 }
 
-/// With up to 40 keys in a table that grows to at most 120 slots: keys meet, clusters of used slots go over the end,
-/// and many deletes have places after them.
+/// With up to 40 keys in a table that grows to at most 120 slots: keys meet, clusters of used slots
+/// go over the end, and many deletes have places after them.
 #[test]
 fn small_table(rt: HostRuntime) -> Result<(), Fail> {
     let mut table = Compared::new(rt.alloc(), 8, 88_172_645_463_325_252)?;
@@ -119,8 +120,8 @@ fn run_twice(rt: &impl Abort, table: &mut Compared) -> Result<(), Fail> {
     table.run(rt, 4, 1_500, (6_000, 63))
 }
 
-/// A table goes from one slot through eleven doublings, is emptied, and does it again. At each 64th step of 6,000 all
-/// of 1,500 keys are looked up.
+/// A table goes from one slot through eleven doublings, is emptied, and does it again. At each 64th
+/// step of 6,000 all of 1,500 keys are looked up.
 #[test]
 fn through_doublings(rt: HostRuntime) -> Result<(), Fail> {
     let mut table = Compared::new(rt.alloc(), 32, 5)?;
@@ -136,8 +137,8 @@ impl Compared {
         Ok(())
     }
 
-    /// Writes the keys below a count whose hash leaves this home of 1,024, and after each five others. Answers how
-    /// many have that home.
+    /// Writes the keys below a count whose hash leaves this home of 1,024, and after each five
+    /// others. Answers how many have that home.
     fn crowd(&mut self, rt: &impl Abort, home: u64) -> Result<u64, AllocError> {
         let mut crowded: u64 = 0;
         for number in 0..100_000u64 {
@@ -179,8 +180,9 @@ fn check_new_home(rt: &impl Abort, alloc: Global, home: u64) -> Result<(), Fail>
     table.check_home(rt, home)
 }
 
-/// About a hundred keys have one home while there are up to 1,024 slots, then two, while the table grows under them:
-/// the first slots of their homes, and the last ones, from which their searches go over the end.
+/// About a hundred keys have one home while there are up to 1,024 slots, then two, while the table
+/// grows under them: the first slots of their homes, and the last ones, from which their searches
+/// go over the end.
 #[test]
 fn at_one_home(rt: HostRuntime) -> Result<(), Fail> {
     check_new_home(&rt, rt.alloc(), 0)?;
@@ -220,7 +222,8 @@ fn check_read_ahead(rt: &impl Abort, shelf: &mut Shelf) {
     check_same(rt, both, alpha.wrapping_add(beta), "both");
 }
 
-/// What is read ahead for two keys at once is the sum of what is read for each: its slot and its item.
+/// What is read ahead for two keys at once is the sum of what is read for each: its slot and its
+/// item.
 #[test]
 fn two_keys_are_read_ahead(rt: HostRuntime) -> Result<(), Fail> {
     let mut shelf = Shelf::new(rt.alloc(), Geometry::new(65_536, 8)?, 77)?;
@@ -228,7 +231,8 @@ fn two_keys_are_read_ahead(rt: HostRuntime) -> Result<(), Fail> {
     Ok(())
 }
 
-/// Writes the keys below a count, each with its number; for the next one there is no room. Then each is found.
+/// Writes the keys below a count, each with its number; for the next one there is no room. Then
+/// each is found.
 fn check_full_pool(rt: &impl Abort, shelf: &mut Shelf, keys: u64) {
     for n in 0..keys {
         check_same(rt, shelf.put(&n.to_le_bytes(), b"", n), true, n);
@@ -239,7 +243,8 @@ fn check_full_pool(rt: &impl Abort, shelf: &mut Shelf, keys: u64) {
     }
 }
 
-/// A pool of eight segments of 4,096 bytes is full with 1,024 items of 32 bytes, which use half of the 2,048 slots.
+/// A pool of eight segments of 4,096 bytes is full with 1,024 items of 32 bytes, which use half of
+/// the 2,048 slots.
 #[test]
 fn a_full_pool(rt: HostRuntime) -> Result<(), Fail> {
     let mut shelf = Shelf::new(rt.alloc(), Geometry::new(4096, 8)?, 7)?;

@@ -1,4 +1,5 @@
-//! Tests of the store by its public calls: the pool of segments, the index over a pool, and the cache over both.
+//! Tests of the store by its public calls: the pool of segments, the index over a pool, and the
+//! cache over both.
 #![tactic(auto)]
 
 #[cfg(test)]

@@ -1,5 +1,5 @@
-//! The pool of segments: its table of buckets, its layout, each public call once, and runs of writes whose survivors
-//! were worked out by hand.
+//! The pool of segments: its table of buckets, its layout, each public call once, and runs of
+//! writes whose survivors were worked out by hand.
 
 mod buckets;
 mod calls;

@@ -1,4 +1,5 @@
-//! The comparison that the tests share: its proof, with that of the text which it prints, is made once.
+//! The comparison that the tests share: its proof, with that of the text which it prints, is made
+//! once.
 
 use std::fmt::Debug;
 use std::process::Abort;

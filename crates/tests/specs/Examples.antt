@@ -1,5 +1,5 @@
--- Worked examples, whose theorems stand in proofs/. Each is the contract of a function of the module
--- `examples`.
+-- Worked examples, whose theorems stand in proofs/. Each is the contract of a function of the
+-- module `examples`.
 use Rattle.std.specs.Prelude.{◌≡◌, ℕ, ℤ, pos, negsuc, true, false, List, [], ◌∷◌, ◌++◌, codes, replicate, map, flat_map, Option, Some, None}
 use Rattle.std.specs.List.{AllByRecursion}
 use Rattle.std.specs.FinMap as finite
@@ -132,7 +132,8 @@ faults =
     ∷ (128 ∷ line_break, Local local.Unknown)
     ∷ []
 
--- lines at the limit: with its end one may have 2,048 bytes, and what is longer isn't read to its end
+-- lines at the limit: with its end one may have 2,048 bytes, and what is longer isn't read to its
+-- end
 abbrev pub long_lines : List Example
 long_lines =
     (replicate 2046 97 ++ line_break, Local local.Unknown)
@@ -140,8 +141,8 @@ long_lines =
     ∷ (replicate 2047 97 ++ codes "\r", Fatal fatal.LongLine)
     ∷ []
 
--- Leniently spaces before the line's end don't count. All else is as in the strict dialect, and a data block may end in
--- spaces.
+-- Leniently spaces before the line's end don't count. All else is as in the strict dialect, and a
+-- data block may end in spaces.
 abbrev pub lenient_lines : List Example
 lenient_lines =
     (codes "get a \r\n", Ask (Get (a ∷ []) false) false)
@@ -163,8 +164,9 @@ lenient_lines =
     ∷ (codes "set a 00 0 1 \r\n", Fatal fatal.BadLine)
     ∷ []
 
--- `append`, `prepend`, `touch`, `gat`, `gats`, `stats`, `version` and `verbosity` are known, a `delete` may have a zero after its key,
--- and the binary protocol is refused by its first byte. An exptime from 2^31 to 2^32 - 1 is a negative one.
+-- `append`, `prepend`, `touch`, `gat`, `gats`, `stats`, `version` and `verbosity` are known, a
+-- `delete` may have a zero after its key, and the binary protocol is refused by its first byte. An
+-- exptime from 2^31 to 2^32 - 1 is a negative one.
 abbrev pub lenient_commands : List Example
 lenient_commands =
     (codes "append a 0 0 1\r\nx\r\n", Ask (Append (put_with a 0 (pos 0) (codes "x"))) false)
@@ -233,7 +235,8 @@ lenient_long_lines =
     ∷ (codes "get a" ++ replicate 32762 32 ++ codes "\r", Fatal fatal.LongLine)
     ∷ []
 
--- Leniently a block whose item is too large is read, and any two bytes end it. A `set` takes out what its key has.
+-- Leniently a block whose item is too large is read, and any two bytes end it. A `set` takes out
+-- what its key has.
 abbrev pub lenient_blocks : List Example
 lenient_blocks =
     (codes "set a 0 0 131073\r\n" ++ replicate 131075 97, Ask (SetTooLarge a) false)
@@ -375,7 +378,8 @@ RepliesAre =
     × ((after_a (codes "x") (touch_of a (negsuc 0))).reply ≡ reply.Touched)
     × ((after_a (codes "x") (touch_of b (pos 60))).reply ≡ reply.NotFound)
 
--- what `append`, `prepend` and `touch` leave of `a`: its flags, its deadline but for a touch, and its cas number after a touch
+-- what `append`, `prepend` and `touch` leave of `a`: its flags, its deadline but for a touch, and
+-- its cas number after a touch
 abbrev pub RewritesDo : Type 0
 RewritesDo =
     (after_a (codes "x") (Append (put_with a 7 (pos 9) (codes "y"))) ≡ outcome_with
@@ -387,7 +391,8 @@ RewritesDo =
     × (after_a (codes "x") (touch_of a (negsuc 0)) ≡ outcome_with
     (finite.remove (with_a (codes "x")) a) 1 reply.Touched None)
 
--- what a `gat` shows, and what is touched behind it: nothing if it was refused memory, nor behind a `get`
+-- what a `gat` shows, and what is touched behind it: nothing if it was refused memory, nor behind a
+-- `get`
 abbrev pub GatsDo : Type 0
 GatsDo =
     (after_a (codes "x") (GetAndTouch (b ∷ a ∷ a ∷ []) true (pos 60)) ≡ after_a (codes "x") (Get (b ∷ a ∷ a ∷ []) true))
@@ -396,7 +401,8 @@ GatsDo =
     × (touched_by (GetAndTouch (a ∷ []) false (negsuc 0)) reply.NoMemory ≡ [])
     × (touched_by (Get (a ∷ []) false) (reply.Values []) ≡ [])
 
--- `flush_all`, at once and with a delay, where a flush is pending already, and at the greatest moment
+-- `flush_all`, at once and with a delay, where a flush is pending already, and at the greatest
+-- moment
 abbrev pub FlushesDo : Type 0
 FlushesDo =
     (after_a (codes "x") (FlushAll 0) ≡ outcome_with no_entries 1 reply.Flushed None)
@@ -567,8 +573,8 @@ BucketsAre = AllByRecursion HasBucket bucket_bounds × (bucket_of None ≡ 1024)
 
 -- ---- deadlines asked for
 
--- 30 days count from the moment of the write, and more is a moment itself; a deadline has arrived at its very
--- moment
+-- 30 days count from the moment of the write, and more is a moment itself; a deadline has arrived
+-- at its very moment
 abbrev pub DeadlinesAre : Type 0
 DeadlinesAre =
     (deadline_of (pos 0) 1000 ≡ None)

@@ -28,7 +28,8 @@ enum Step {
     AskNext(u64),
     AskLater(u64),
     Settle(usize, Settled),
-    /// The first request is settled with the hit of an answer of this length, or with such lines of a `stats`.
+    /// The first request is settled with the hit of an answer of this length, or with such lines of
+    /// a `stats`.
     SettleHit(usize),
     SettleStats(usize),
     Give(u64),
@@ -197,8 +198,8 @@ const ROWS: [Row; 11] = [
             ),
         ],
     },
-    // The input ends before its last message is read, which isn't answered: once it is read the session is to be
-    // taken up.
+    // The input ends before its last message is read, which isn't answered: once it is read the
+    // session is to be taken up.
     Row {
         name: "a session ends after a silent message",
         dialect: Dialect::Lenient(131_072),
@@ -286,7 +287,8 @@ const ROWS: [Row; 11] = [
         found: None,
         parts: &[(1, &[Open(5), Known(5), Known(4), Known(0), Open(6)])],
     },
-    // A line that is answered without the cache stands in its place, and a silent one has no answer.
+    // A line that is answered without the cache stands in its place, and a silent one has no
+    // answer.
     Row {
         name: "local lines are answered in their places",
         dialect: Dialect::Lenient(131_072),
@@ -451,8 +453,9 @@ const FOR_17: &str = "get b b b b b b b b b b b b b b b b b\r\n";
 
 const FOR_18: &str = "gets b b b b b b b b b b b b b b b b b b\r\n";
 
-/// Session 1 is given the answers to requests, each of this length. Then it has 19 requests for a key on their way
-/// and one more to be read, and session 2, which is new, has `next`. These parts follow.
+/// Session 1 is given the answers to requests, each of this length. Then it has 19 requests for a
+/// key on their way and one more to be read, and session 2, which is new, has `next`. These parts
+/// follow.
 fn check_large(
     rt: &impl Abort,
     player: &mut Player,
@@ -490,8 +493,8 @@ const PUT: [Part; 2] = [(1, &IN_TURN), (1, &[See(Waits(2))])];
 
 const NOT_PUT: [Part; 2] = [(1, &IN_TURN), (1, &[AskNext(2)])];
 
-/// While it waits others go before it 64 times. Then none is asked before 262,144 bytes or fewer are likely to be on their way: 8
-/// times 29,128.
+/// While it waits others go before it 64 times. Then none is asked before 262,144 bytes or fewer
+/// are likely to be on their way: 8 times 29,128.
 const PUT_64_TIMES: [Part; 5] = [
     (1, &IN_TURN),
     (1, &[See(Waits(2))]),
@@ -507,8 +510,8 @@ const PUT_64_TIMES: [Part; 5] = [
     ),
 ];
 
-/// A `get` waits for the answers on their way if its own is likely to have more than 262,144 bytes: each key of the last answer
-/// took 29,128 bytes, 29,127 or 262,144, or half of the first.
+/// A `get` waits for the answers on their way if its own is likely to have more than 262,144 bytes:
+/// each key of the last answer took 29,128 bytes, 29,127 or 262,144, or half of the first.
 const LARGE: [(&[(&str, usize)], &str, &[Part]); 8] = [
     (&[(FOR_9, 262_152)], FOR_9, &PUT_64_TIMES),
     (&[(FOR_9, 262_152)], "x\r\nget b b b b b b b b b\r\n", &PUT),
@@ -535,7 +538,8 @@ fn what_is_likely_to_be_large_waits(rt: HostRuntime) -> Result<(), Fail> {
     Ok(())
 }
 
-/// A key of session 1 took 29,128 bytes. Session 2 asks for one after session 1 has asked for nine again, and goes first.
+/// A key of session 1 took 29,128 bytes. Session 2 asks for one after session 1 has asked for nine
+/// again, and goes first.
 const OTHERS_FIRST: [Step; 12] = [
     Open(1),
     Open(2),
@@ -581,8 +585,8 @@ const BEFORE_ROOM: [Step; 9] = [
     Feed(2, b"get b b\r\n"),
 ];
 
-/// Session 2 waits, while the first `get` for one key of session 3 goes on, as its answer is taken to be small. Then the client of
-/// session 1 takes its output.
+/// Session 2 waits, while the first `get` for one key of session 3 goes on, as its answer is taken
+/// to be small. Then the client of session 1 takes its output.
 const WAITS_UNTIL_GIVEN: [Step; 15] = [
     See(NextToAsk(Some(1))),
     See(NextToAsk(Some(2))),
@@ -609,8 +613,8 @@ const LATER_WAITS: [Step; 4] = [
     See(WaitsForMemory(true)),
 ];
 
-/// The 100,025 bytes that are likely to be the answer of session 3 don't fit beside the output of session 1 and what is likely to be
-/// that of session 2.
+/// The 100,025 bytes that are likely to be the answer of session 3 don't fit beside the output of
+/// session 1 and what is likely to be that of session 2.
 const ON_ITS_WAY: [Step; 23] = [
     Open(1),
     Open(2),

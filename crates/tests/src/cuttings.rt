@@ -1,4 +1,5 @@
-//! However the bytes are cut, and whenever answers come and output is given, what is given is the same.
+//! However the bytes are cut, and whenever answers come and output is given, what is given is the
+//! same.
 
 use crate::player::{Given, Player};
 use crate::same::check_same;
@@ -110,7 +111,8 @@ fn play_turn<'a>(player: &mut Player, rest: &'a [u8], random: u64) -> Result<&'a
     Ok(rest)
 }
 
-/// Plays the session with this input, in an order that the seed picks, and then reads, settles and gives what is left.
+/// Plays the session with this input, in an order that the seed picks, and then reads, settles and
+/// gives what is left.
 fn play(player: &mut Player, input: &[u8], seed: u64) -> Result<(), Fail> {
     player.book.open(7)?;
     let mut rest = input;

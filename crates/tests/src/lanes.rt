@@ -4,7 +4,7 @@ ghost use Rattle.std.specs.Prelude.{◌≡◌, ◌+◌, [], length, None, IfOk};
 
 use crate::clock::Stopped;
 use crate::same::check_same;
-use exchange::{MakeFault, Posted, StorageEnd, Taken, WorkerBatch, WorkerEnd, make};
+use exchange::{MakeFault, Posted, StorageEnd, Taken, WorkerEnd, WorkerLane, make};
 use proto::{AskedClock, ByteString, Geometry, Request, Terms};
 use std::alloc::Global;
 use std::process::Abort;
@@ -56,7 +56,8 @@ fn is_deletion(posted: &Posted, number: u64) -> bool {
     }
 }
 
-/// Posts a request of session 7, and checks whether it was sent. One that is handed back is unchanged.
+/// Posts a request of session 7, and checks whether it was sent. One that is handed back is
+/// unchanged.
 fn check_sent(
     rt: &impl Abort,
     alloc: Global,
@@ -209,8 +210,9 @@ fn one_to_eight_workers(rt: HostRuntime) -> Result<(), Fail> {
     Ok(())
 }
 
-/// Two histories that the worker was told of are compared, and one of them is checked, and compared with a later one.
-fn apply_laws(batch: &mut WorkerBatch)
+/// Two histories that the worker was told of are compared, and one of them is checked, and compared
+/// with a later one.
+fn apply_laws(batch: &mut WorkerLane)
     ensures { batch.new ≡ batch.old }
 {
     let first = batch.told();

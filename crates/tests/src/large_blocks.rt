@@ -1,5 +1,5 @@
-//! Leniently a data block that is too large for the cache is dropped as it comes, and its session goes on behind it. A large request
-//! is read once there is room for all of it.
+//! Leniently a data block that is too large for the cache is dropped as it comes, and its session
+//! goes on behind it. A large request is read once there is room for all of it.
 
 use crate::made::spell;
 use crate::player::{Given, Player};
@@ -9,8 +9,8 @@ use std::alloc::Global;
 use std::process::Abort;
 use std::test::Fail;
 
-/// A line and the length of its block, the two bytes after the block with a `get` of a value `x`, how many bytes come
-/// at a time, and what is given to all of it.
+/// A line and the length of its block, the two bytes after the block with a `get` of a value `x`,
+/// how many bytes come at a time, and what is given to all of it.
 #[derive(Clone, Copy)]
 struct Row {
     line: &'static str,
@@ -97,7 +97,8 @@ const ROWS: [Row; 9] = [
     },
 ];
 
-/// Sends the bytes, some at a time, each of which is to fit, and reads what there is to read after each time.
+/// Sends the bytes, some at a time, each of which is to fit, and reads what there is to read after
+/// each time.
 fn send(player: &mut Player, input: &[u8], step: usize) -> Result<(), Fail> {
     player.book.open(7)?;
     for piece in input.chunks(step.max(1)) {
@@ -112,8 +113,8 @@ fn send(player: &mut Player, input: &[u8], step: usize) -> Result<(), Fail> {
     Ok(())
 }
 
-/// The row's output is there, and the parser was asked five times at most: twice for the line and for the `get`,
-/// whose ends may come later, and once for the message.
+/// The row's output is there, and the parser was asked five times at most: twice for the line and
+/// for the `get`, whose ends may come later, and once for the message.
 fn check_row(rt: &impl Abort, alloc: Global, row: &Row, input: &[u8]) -> Result<(), Fail> {
     let mut player = Player::new(alloc, Dialect::Lenient(131_072), Some("x"));
     let sent = send(&mut player, input, row.step);
@@ -200,7 +201,8 @@ fn large_requests_wait_for_room(rt: HostRuntime) -> Result<(), Fail> {
     Ok(())
 }
 
-/// Ten seconds pass, in the last of which the first session sends on. Which have stopped is asked before, after, and when none waits.
+/// Ten seconds pass, in the last of which the first session sends on. Which have stopped is asked
+/// before, after, and when none waits.
 fn stopped(player: &mut Player) -> Result<[Option<u64>; 3], Fail> {
     begin_large(player, HAVE_ROOM + 2)?;
     for _ in 0..2 {
@@ -230,8 +232,9 @@ fn who_sends_nothing_for_ten_seconds_while_others_wait_has_stopped(
     Ok(())
 }
 
-/// Twice as many sessions as have room have begun. After ten seconds those that had room are closed, and the others resumed but for one.
-/// Whether one has stopped is asked then, and ten seconds later.
+/// Twice as many sessions as have room have begun. After ten seconds those that had room are
+/// closed, and the others resumed but for one. Whether one has stopped is asked then, and ten
+/// seconds later.
 fn stopped_late(player: &mut Player) -> Result<[bool; 2], Fail> {
     begin_large(player, 2 * HAVE_ROOM + 1)?;
     for _ in 0..=HAVE_ROOM {

@@ -1,5 +1,5 @@
-//! Tests of the libraries below the worker: messages, the plain store, books, lanes and idle threads; and
-//! worked examples of the definitions of `proto`.
+//! Tests of the libraries below the worker: messages, the plain store, books, lanes and idle
+//! threads; and worked examples of the definitions of `proto`.
 #![tactic(auto)]
 
 #[cfg(test)]

@@ -194,8 +194,8 @@ pub const FAULTS: [Row; 36] = [
     (b"quit\r\n", Given::Nothing, b""),
 ];
 
-/// Leniently spaces before a line's end don't count, nor does a zero after the key of a `delete`; a data block is as
-/// it was sent.
+/// Leniently spaces before a line's end don't count, nor does a zero after the key of a `delete`; a
+/// data block is as it was sent.
 pub const LENIENT_REQUESTS: [Row; 28] = [
     (b"get a \r\n", Given::Hit, b"VALUE a 0 1\r\nx\r\nEND\r\n"),
     (b"get a   \r\n", Given::Hit, b"VALUE a 0 1\r\nx\r\nEND\r\n"),
@@ -243,8 +243,8 @@ pub const LENIENT_REQUESTS: [Row; 28] = [
     ),
 ];
 
-/// Other faults stay, also leniently. `version` and `verbosity` are answered by their first word, unless they have
-/// `noreply`.
+/// Other faults stay, also leniently. `version` and `verbosity` are answered by their first word,
+/// unless they have `noreply`.
 pub const LENIENT_FAULTS: [Row; 31] = [
     (
         b"get \r\n",
@@ -351,7 +351,8 @@ pub const LENIENT_FAULTS: [Row; 31] = [
     (b"quit \r\n", Given::Nothing, b""),
 ];
 
-/// Spellings that the tables above don't have: some text, a byte and how many times it comes, and further text.
+/// Spellings that the tables above don't have: some text, a byte and how many times it comes, and
+/// further text.
 pub const SPELLINGS: [Spelling; 46] = [
     ("set a 0 0 0\r\n", b'x', 0, "\r\n"),
     ("set a 0 5 1\r\n", b'x', 1, "\r\n"),
@@ -401,7 +402,8 @@ pub const SPELLINGS: [Spelling; 46] = [
     ("replace a 0 0 1\r\n", b'x', 1, "\r\n"),
 ];
 
-/// A line of letters, with what stands behind them: it is read as far as the longest line goes, and answered so.
+/// A line of letters, with what stands behind them: it is read as far as the longest line goes, and
+/// answered so.
 pub type LongLine = (usize, &'static str, &'static [u8]);
 
 pub const LONG_LINES: [LongLine; 3] = [
@@ -443,7 +445,8 @@ pub const LENIENT_NEEDS: [(&[u8], usize); 9] = [
     (b"cas a 0 0 8388608 1 noreply\r\nget b\r\n", 8_388_639),
 ];
 
-/// Whether the bytes of the message that these begin are to be dropped, whether it takes out its key, and has `noreply`.
+/// Whether the bytes of the message that these begin are to be dropped, whether it takes out its
+/// key, and has `noreply`.
 pub const DROPS: [(&[u8], Option<(bool, bool)>); 6] = [
     (b"set a 0 0 131072\r\n", None),
     (b"set a 0 0 163822\r\n", None),

@@ -193,7 +193,8 @@ fn lines_end_within_their_limits(rt: HostRuntime) -> Result<(), Fail> {
     )
 }
 
-/// How many bytes are needed, where no message was found, and whether a message to be dropped takes out a key, and has `noreply`.
+/// How many bytes are needed, where no message was found, and whether a message to be dropped takes
+/// out a key, and has `noreply`.
 fn wants(view: NextView) -> (Option<usize>, Option<(bool, bool)>) {
     match view {
         NextView::Found(..) => (None, None),

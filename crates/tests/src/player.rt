@@ -13,7 +13,8 @@ pub const WORKER: usize = 3;
 /// What stands behind the lines of a `stats`.
 const STATS_END: &[u8] = b"END\r\n";
 
-/// What stands beside the value in the answer to a `get` that has some 100,000 bytes, or at least 10,000,000.
+/// What stands beside the value in the answer to a `get` that has some 100,000 bytes, or at least
+/// 10,000,000.
 const BESIDE_VALUE: [&[u8]; 2] = [
     b"VALUE a 0 100000\r\n\r\nEND\r\n",
     b"VALUE a 0 10000000\r\n\r\nEND\r\n",
@@ -22,11 +23,13 @@ const BESIDE_VALUE: [&[u8]; 2] = [
 /// What a request is replied.
 #[derive(Clone, Copy)]
 pub enum Given {
-    /// What a store replies in which `a` has the player's value: Stored to a write, but TooLarge to a `set` that is.
+    /// What a store replies in which `a` has the player's value: Stored to a write, but TooLarge to
+    /// a `set` that is.
     Known,
     /// Lines of a `stats` that make an answer of this length.
     Stats(usize),
-    /// A hit of `a` that makes an answer of this length, of some 100,000 bytes or at least 10,000,000.
+    /// A hit of `a` that makes an answer of this length, of some 100,000 bytes or at least
+    /// 10,000,000.
     Hit(usize),
 }
 

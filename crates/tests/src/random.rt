@@ -199,8 +199,8 @@ fn answer_both(
     shown
 }
 
-/// The store answers a random request as the list does, is as far, and has the same flush before it. Says whether a
-/// value is shown.
+/// The store answers a random request as the list does, is as far, and has the same flush before
+/// it. Says whether a value is shown.
 fn check_turn(
     rt: &impl Abort,
     alloc: Global,
@@ -241,7 +241,8 @@ fn check_turns(
     Ok(())
 }
 
-/// Some thousand requests, most of them at moments from the one on at which an absolute deadline begins.
+/// Some thousand requests, most of them at moments from the one on at which an absolute deadline
+/// begins.
 #[test]
 fn as_a_list(rt: HostRuntime) -> Result<(), Fail> {
     let alloc = rt.alloc();

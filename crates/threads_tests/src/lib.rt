@@ -1,5 +1,6 @@
-//! Tests of the threads, over ports, clocks and gates of the tests' own: the lanes' ends and the storage thread, a worker's
-//! loop beside a storage thread, and whole groups. And of what no contract says of memory and time at the limits.
+//! Tests of the threads, over ports, clocks and gates of the tests' own: the lanes' ends and the
+//! storage thread, a worker's loop beside a storage thread, and whole groups. And of what no
+//! contract says of memory and time at the limits.
 #![tactic(auto)]
 
 #[cfg(test)]

@@ -1,4 +1,5 @@
-//! The worker's loop, over the plain store: a storage thread runs beside it. And a gate that holds workers.
+//! The worker's loop, over the plain store: a storage thread runs beside it. And a gate that holds
+//! workers.
 
 mod hold_gate;
 mod live;

@@ -10,7 +10,7 @@ use Rattle.proto.specs.declared.history.Posted.{Posted}
 use Rattle.proto.specs.declared.history.Answered.{Answered}
 use Rattle.proto.specs.History.{asked_posted}
 use Rattle.proto.specs.Reading.{asks}
-use Rattle.exchange.specs.Ends.{WorkerView, WorkerBatchView, WasTold}
+use Rattle.exchange.specs.Ends.{WorkerView, WorkerLaneView, WasTold}
 use Rattle.session_book.specs.declared.causes.Unasked.{Unasked}
 use Rattle.session_book.specs.declared.causes.Unsettled.{Unsettled}
 use Rattle.session_book.specs.Session.{SessionState, ReadsMessages}
@@ -224,7 +224,7 @@ quiet_goes_on told old new t None o port end request sessions unopened strangers
     ))
 
 -- the request that is held is sent, if there is one
-pub sent_goes_on : {P : Type 0} (told : P → Option PortTrace) (old : WorkerState P) (batch : WorkerBatchView)
+pub sent_goes_on : {P : Type 0} (told : P → Option PortTrace) (old : WorkerState P) (batch : WorkerLaneView)
     (request : Option Posted)
     → request ≡ None → once_flushed batch ≡ record (end_of old) { sent = numbered_by (end_of old) old.request }
     → IsWorkerServing told old

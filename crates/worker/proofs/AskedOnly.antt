@@ -1,4 +1,5 @@
--- What a worker has sent for a session are the first of the requests that the bytes spell which came of it.
+-- What a worker has sent for a session are the first of the requests that the bytes spell which
+-- came of it.
 use Rattle.std.proofs.Common.{◌≡◌, ℕ, true, false, Bool, List, [], ◌++◌, sym, ap, subst, ◌∙◌, Option, Some, None}
 use Rattle.proto.specs.declared.message.Message.{Message}
 use Rattle.proto.specs.declared.history.Posted.{Posted}

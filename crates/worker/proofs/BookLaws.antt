@@ -47,7 +47,8 @@ fed_by d (Some c) bytes piece given ms replies s e h k = (
 pub feed_keeps : FeedKeeps
 feed_keeps d bytes piece given ms replies s h k = fed_by d s.ended bytes piece given ms replies s refl h k
 
--- a session that gives n bytes of its output has read the same messages, and all it gave and still has to give is what was said
+-- a session that gives n bytes of its output has read the same messages, and all it gave and still
+-- has to give is what was said
 pub give_keeps : GiveKeeps
 give_keeps d bytes given n ms replies s h k = (
   record {

@@ -108,7 +108,8 @@ cause_new (x ∷ xs) s c e =
     ap (λ b. cond b (Some x.1) (cause_of (xs ++ (s, c) ∷ []) s)) (ne_eqb x.0 s ne)
     ∙ cause_new xs s c (sym (ap (λ b. cond b (Some x.1) (cause_of xs s)) (ne_eqb x.0 s ne)) ∙ e))
 
--- numbers that rise from one above n do so with one more at the end that is above n and above them all
+-- numbers that rise from one above n do so with one more at the end that is above n and above them
+-- all
 more_from : (n : ℕ) (xs : Report) (t : ℕ) (c : EndCause) → CausesRiseFrom n xs → n < t
     → ((s : ℕ) (d : EndCause) → cause_of xs s ≡ Some d → s < t)
     → CausesRiseFrom n (xs ++ (t, c) ∷ [])

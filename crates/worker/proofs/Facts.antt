@@ -8,7 +8,8 @@ use Rattle.proto.specs.declared.history.Posted.{Posted}
 use Rattle.proto.specs.declared.history.Answered.{Answered}
 use Rattle.worker.specs.Sessions.{asked_by, had_by}
 
--- Lists of which entries belong to sessions, and of each one part is read: posts with their requests, answers with their replies.
+-- Lists of which entries belong to sessions, and of each one part is read: posts with their
+-- requests, answers with their replies.
 module _ {E R : Type 0} (session : E → ℕ) (part : E → R) where
   abbrev parts : List E → ℕ → List R
   parts l s = map part (filter (λ (e : E). session e == s) l)
@@ -32,7 +33,8 @@ module _ {E R : Type 0} (session : E → ℕ) (part : E → R) where
   parts_elsewhere l e s ne = parts_more l e s
       ∙ ap (λ c. parts l s ++ cond c (part e ∷ []) []) (ne_eqb (session e) s ne) ∙ append-nil (parts l s)
 
--- one more post of a session adds its request after the session's others, and to those of another session nothing
+-- one more post of a session adds its request after the session's others, and to those of another
+-- session nothing
 pub asked_here : (l : List Posted) (p : Posted) (s : ℕ) → p.session ≡ s
     → asked_by (l ++ p ∷ []) s ≡ asked_by l s ++ p.request ∷ []
 asked_here = parts_here (λ (p : Posted). p.session) (λ (p : Posted). p.request)

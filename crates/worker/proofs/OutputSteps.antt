@@ -46,7 +46,8 @@ told_within v v' unopened ended h e r each = record {
   accepts = subst AcceptsOnlyOpen (sym e) h.accepts;
 }
 
--- where nothing changes but the book and the held piece of one session, what is known of the others stays
+-- where nothing changes but the book and the held piece of one session, what is known of the others
+-- stays
 pub others_within : (v v' : RunView) (t : ℕ) → v'.dialect ≡ v.dialect → v'.events ≡ v.events → v'.numbered ≡ v.numbered → v'.back ≡ v.back
     → v'.sessions ≡ v.sessions
     → ((s : ℕ) → t ≢ s → session_of v'.book s ≡ session_of v.book s) → ((s : ℕ) → t ≢ s → v'.piece s ≡ v.piece s)
@@ -126,7 +127,8 @@ record ListSame (l m : List PortRecord) : Type 0 where
   count : opened_count m ≡ opened_count l
   accepts : AcceptsOnlyOpen l → AcceptsOnlyOpen m
 
--- a `give` to an open session neither ends the list nor opens a session, and bytes are still accepted for open sessions only
+-- a `give` to an open session neither ends the list nor opens a session, and bytes are still
+-- accepted for open sessions only
 gave_list : (l : List PortRecord) (t n : ℕ) (out : List ℕ) → is_open t l ≡ true
     → ListSame l (l ++ accepted t n out)
 gave_list l t n out opened =

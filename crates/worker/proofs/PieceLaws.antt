@@ -8,7 +8,8 @@ use Rattle.worker.specs.EndCauses.{piece_of}
 use Rattle.worker.proofs.RunViews.{at_other}
 use Rattle.proto.proofs.CountLemmas.{either_way}
 
--- of two sessions one is chosen by a test: its held piece is the one of the two pieces that the test chooses
+-- of two sessions one is chosen by a test: its held piece is the one of the two pieces that the
+-- test chooses
 held_if : (b : Bool) (x y : Option SessionState) → held_of (cond b x y) ≡ cond b (held_of x) (held_of y)
 held_if true x y = refl
 held_if false x y = refl
@@ -40,7 +41,8 @@ pieces_gone old mid new t first second s =
     pieces_at mid new t None second s ∙ ap (λ (x : List ℕ). cond (s == t) [] x) (pieces_at old mid t None first s)
     ∙ twice (s == t) (piece_of old s)
 
--- new bytes, dropped by a session that has ended and else put after its unread ones, leave its held piece
+-- new bytes, dropped by a session that has ended and else put after its unread ones, leave its held
+-- piece
 fed_if : (ended : Bool) (s : SessionState) (b : List ℕ)
     → (cond ended s (record s { unread = s.unread ++ b })).held ≡ s.held
 fed_if true s b = refl

@@ -43,7 +43,8 @@ bool_false false h = refl
 
 -- ---- a session that has finished
 
--- where a cause is taken under a test, and this one is what was taken, the test holds and the cause is this one
+-- where a cause is taken under a test, and this one is what was taken, the test holds and the cause
+-- is this one
 finished_if : (b : Bool) (o : Option EndCause) (c : EndCause) → cond b o None ≡ Some c → (b ≡ true) × (o ≡ Some c)
 finished_if true o c e = (refl, e)
 finished_if false o c e = absurd (cc)
@@ -59,7 +60,8 @@ pub no_length : {A : Type 0} (xs : List A) → (length xs == 0) ≡ true → xs 
 no_length [] e = refl
 no_length (x ∷ xs) e = absurd (true≢false (sym e ∙ ne_eqb (length (x ∷ xs)) 0 (λ q. omega arith)))
 
--- where a session has finished with a cause, it is open, has no queue and no output, and this is what ends it
+-- where a session has finished with a cause, it is open, has no queue and no output, and this is
+-- what ends it
 finished_is : (o : Option SessionState) (c : EndCause) → option_and_then finished_by o ≡ Some c
     → (s : SessionState) × (o ≡ Some s) × (s.queue ≡ []) × (s.out ≡ []) × (ending_of s ≡ Some c)
 finished_is None c e = absurd (cc)
@@ -128,7 +130,8 @@ MayOpen l t = (0 < t) × ((u : ℕ) → is_in (was.Opened u) l ≡ true → u < 
 pub fresh : (l : List PortRecord) (t : ℕ) → MayOpen l t → is_in (was.Opened t) l ≡ false
 fresh l t may = bool_false (is_in (was.Opened t) l) (λ e. let lt = may.1 t e in omega (arith, lt))
 
--- all that is known stays true where a session is opened and gets an entry in the report and in the book
+-- all that is known stays true where a session is opened and gets an entry in the report and in the
+-- book
 pub told_admitted : (v v' : RunView) (unopened : ℕ) (ended : Bool) (t : ℕ) → IsTraceKnown v unopened ended
     → MayOpen v.events t
     → v'.dialect ≡ v.dialect → v'.events ≡ v.events ++ was.Opened t ∷ [] → v'.numbered ≡ v.numbered → v'.back ≡ v.back
@@ -386,8 +389,8 @@ pub record FeedsAt {P : Type 0} (told : P → Option PortTrace) (old port : P) (
   pub told_is : told port ≡ option_map (then_told (was.Data t b ∷ [])) (told old)
   pub opened : (trace : PortTrace) → told old ≡ Some trace → is_open t trace.events ≡ true
 
--- the worker goes on where data of a session came, whether they are fed, held or dropped, or the session is shut for
--- out of memory
+-- the worker goes on where data of a session came, whether they are fed, held or dropped, or the
+-- session is shut for out of memory
 pub received_goes_on : {P : Type 0} (told : P → Option PortTrace) (old new : WorkerState P) (port : P) (t : ℕ) (b : List ℕ)
     → FeedsAt told old.port port t b → IsWorkerServing told old → HandlesData told (record old { port = port }) t b new
     → WorkerGoesOn told old new

@@ -10,7 +10,8 @@ use Rattle.proto.proofs.GrammarLaws.{has_reading, has_one_reading}
 use Rattle.proto.proofs.ReadingLemmas.{reads_on, reads_before}
 use Rattle.worker.specs.Sessions.{BeginsWith}
 
--- what was read is all of it, where a message of it ends the session, or no beginning of the rest spells a message
+-- what was read is all of it, where a message of it ends the session, or no beginning of the rest
+-- spells a message
 pub same_reading : (d : Dialect) (b rest left : List ℕ) (ms ns : List Message) → BeginsWith d b ms rest
     → (list_any ends_session ms ≡ false → SpellsNone d rest) → Reads d b ns left → ns ≡ ms
 same_reading d b rest left ms ns h none r =

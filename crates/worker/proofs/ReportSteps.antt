@@ -37,7 +37,8 @@ use Rattle.proto.proofs.AskLemmas.{asks-append}
 
 -- ---- the share of a session
 
--- of one more entry, testing worker and session at once picks what testing the worker first and then the session picks
+-- of one more entry, testing worker and session at once picks what testing the worker first and
+-- then the session picks
 by_worker : (b c : Bool) (e : Answered) (ss fs : List Answered) (s : ℕ) (ws : List Answered)
     → ss ≡ filter (λ (e : Answered). e.session == s) ws
     → cond (b && (e.session == s)) (e ∷ ss) ss ≡ filter (λ (e : Answered). e.session == s) (cond b (e ∷ ws) ws)
@@ -51,7 +52,8 @@ share_of [] w s = refl
 share_of (e ∷ history) w s = by_worker (e.worker == w) true e (session_share history w s) [] s (worker_share history w)
     (share_of history w s)
 
--- one more entry, taken on both sides or on neither, leaves the requests answered the same as those posted
+-- one more entry, taken on both sides or on neither, leaves the requests answered the same as those
+-- posted
 asked_if : (c : Bool) (e : Answered) (l : List Answered) (m : List Posted)
     → map (λ (x : Answered). x.request) l ≡ map (λ (p : Posted). p.request) m
     → map (λ (x : Answered). x.request) (cond c (e ∷ l) l)
@@ -129,8 +131,9 @@ is_fatal (Fatal kind) e = (kind, refl)
 
 -- ---- one session
 
--- a session's requests are the first of its messages', and the bytes given are a beginning of their answers; both are complete
--- but where it has gone or memory was refused; and the cause is one of it
+-- a session's requests are the first of its messages', and the bytes given are a beginning of their
+-- answers; both are complete but where it has gone or memory was refused; and the cause is one of
+-- it
 record IsFinal (v : RunView) (s : ℕ) (cause : EndCause) (messages : List Message) : Type 0 where
   first : StartsWith (asks messages) (asked_by v.numbered s)
   beginning : StartsWith (said messages (had_by v.back s)) (given s v.events)
@@ -231,13 +234,15 @@ input_not_ended s q h none =
     untaken true e = absurd cc
     untaken false e = refl
 
--- once a session that hasn't ended and has no output reads no further, no beginning of its unread bytes spells a message
+-- once a session that hasn't ended and has no output reads no further, no beginning of its unread
+-- bytes spells a message
 no_more : (s : SessionState) → s.out ≡ [] → s.ended ≡ None → Stops s → SpellsNone s.dialect s.unread
 no_more s o e (ended h) = absurd (true≢false (sym h ∙ ap is_some e))
 no_more s o e (waiting h) = let len : length s.out ≡ 0 = ap (length {A = ℕ}) o in absurd (omega arith)
 no_more s o e (no_message h none) = none
 
--- a running session that is emptied, and has as many replies as requests, is final with the cause Drained
+-- a running session that is emptied, and has as many replies as requests, is final with the cause
+-- Drained
 final_drained : (v : RunView) (s : ℕ) (messages : List Message) (rest : List ℕ) → (run : IsRunning (facts v s))
     → v.piece s ≡ held_of (session_of v.book s) → IsEmptied run.s
     → length (asked_by v.numbered s) ≡ length (had_by v.back s) → Reads v.dialect (fed s v.events) messages rest
@@ -266,8 +271,8 @@ final_drained v s messages rest run held emptied many reads =
     ∙ r.has_said.whole)
     (sym r.input_ended ∙ input_not_ended st queue emptied ends, run.gone, run.shut, none_ends r.messages (sym r.has_read.ended ∙ ends))
 
--- a session with an entry in the report is final, where it has as many replies as requests and, if it is still open,
--- is emptied
+-- a session with an entry in the report is final, where it has as many replies as requests and, if
+-- it is still open, is emptied
 final_placed : (v : RunView) (s : ℕ) (c : EndCause) (messages : List Message) (rest : List ℕ)
     → IsReportedAs (facts v s) (Some c)
     → v.piece s ≡ held_of (session_of v.book s)
@@ -343,8 +348,8 @@ split_at [] k d low = absurd (omega arith)
 split_at (y ∷ xs) zero d low = ([], xs, refl)
 split_at (y ∷ xs) (suc k) d low = let t = split_at xs k d (omega arith) in (y ∷ t.0, t.1, λ i. y ∷ t.2 i)
 
--- the report is right where the port has ended and all is known, each request came back, and each session that is still
--- open is emptied
+-- the report is right where the port has ended and all is known, each request came back, and each
+-- session that is still open is emptied
 pub reported : (v : RunView) (end : WorkerView) (unopened : ℕ) → IsTraceKnown v unopened true → v.numbered ≡ end.sent
     → v.back ≡ end.back
     → asked_posted end.back ≡ end.sent → ((s : ℕ) → v.piece s ≡ held_of (session_of v.book s))

@@ -14,7 +14,8 @@ use Rattle.worker.proofs.EndCauseLemmas.{cause_apart, cause_here}
 use Rattle.worker.proofs.SessionSteps.{Stays, is_closed}
 use Rattle.proto.proofs.CountLemmas.{either_way}
 
--- the sessions in the report and those unopened are those that the list opens; the count stays at the greatest number
+-- the sessions in the report and those unopened are those that the list opens; the count stays at
+-- the greatest number
 abbrev pub AreSessionsCounted : List PortRecord → List (ℕ × EndCause) → ℕ → Type 0
 AreSessionsCounted events sessions unopened =
     (length sessions ≤ opened_count events) × (unopened ≡ min (opened_count events - length sessions) (2 ^ 64 - 1))
@@ -40,8 +41,8 @@ at_same t x y = ap (λ b. cond b x y) (eq-eqb t t refl)
 
 -- ---- a session is closed
 
--- the list has one more entry, the cause stands at the session's entry, and the session is no longer in the book, with its held
--- piece; nothing else changes
+-- the list has one more entry, the cause stands at the session's entry, and the session is no
+-- longer in the book, with its held piece; nothing else changes
 pub record ClosesIn (w w' : RunView) (t : ℕ) (cause : EndCause) (x : PortRecord) : Type 0 where
   pub dialect : w'.dialect ≡ w.dialect
   pub events : w'.events ≡ w.events ++ x ∷ []
@@ -72,7 +73,8 @@ pub record ClosedHere (f g : SessionFacts) (port : PortFacts) (cause : EndCause)
   pub cause_is : g.cause ≡ Some cause
   pub state : g.state ≡ None
 
--- of the session that is closed the cause stands, it has no state, and what was asked and had for it stays
+-- of the session that is closed the cause stands, it has no state, and what was asked and had for
+-- it stays
 closes_here : (w w' : RunView) (t : ℕ) (c old : EndCause) (x : PortRecord) (port : PortFacts) → ClosesIn w w' t c x
     → port_facts (w.events ++ x ∷ []) t ≡ port → cause_of w.sessions t ≡ Some old
     → ClosedHere (facts w t) (facts w' t) port c
@@ -99,7 +101,8 @@ pub goes_here : (w w' : RunView) (t : ℕ) (c old : EndCause) → ClosesIn w w' 
 goes_here w w' t c old h e = closes_here w w' t c old (Gone t) (record (port_facts w.events t) { gone = true }) h
     (gone_here w.events t) e
 
--- what came, was given, asked and had for a session stays when it is closed, where the port's list adds no bytes
+-- what came, was given, asked and had for a session stays when it is closed, where the port's list
+-- adds no bytes
 pub stays : (f g : SessionFacts) (port : PortFacts) (c : EndCause) → ClosedHere f g port c → port.fed ≡ f.port.fed
     → port.given ≡ f.port.given → Stays f g
 stays f g port c h fed given = record {

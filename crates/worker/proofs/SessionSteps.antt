@@ -31,7 +31,8 @@ not_both o x none some = true≢false (sym (ap is_some some) ∙ ap is_some none
 
 -- ---- a session that is open in the book is running
 
--- the session was opened, stands in the report with Drained, and is open at the port and in the book
+-- the session was opened, stands in the report with Drained, and is open at the port and in the
+-- book
 pub record Runs (f : SessionFacts) : Type 0 where
   pub opened : f.port.opened ≡ true
   pub cause : f.cause ≡ Some causes.Drained
@@ -69,7 +70,8 @@ runs_from f true (Some causes.Gone) h o g s = absurd (true≢false (sym h.caused
 runs_from f true (Some causes.NoMemory) h o g s = absurd (true≢false (sym h.caused ∙ s))
 runs_from f true (Some causes.Stalled) h o g s = absurd (true≢false (sym h.caused.0 ∙ s))
 
--- a session that the port's list has opened, and neither gone nor shut, runs, where its facts are consistent
+-- a session that the port's list has opened, and neither gone nor shut, runs, where its facts are
+-- consistent
 pub runs_at_port : (f : SessionFacts) → AreFactsConsistent f → f.port.opened ≡ true → f.port.gone ≡ false
     → f.port.shut ≡ false → Runs f
 runs_at_port f h o g s = let r = runs_from f f.port.opened f.cause h.known o g s in
@@ -81,7 +83,8 @@ untouched_as : (f : SessionFacts) (o : Bool) (c : Option EndCause) → IsKnownAs
 untouched_as f false c h e = h
 untouched_as f true c h e = absurd (true≢false e)
 
--- of a session that was never opened nothing came, nothing was done for it, and it isn't in the report
+-- of a session that was never opened nothing came, nothing was done for it, and it isn't in the
+-- report
 pub untouched : (f : SessionFacts) → AreFactsConsistent f → f.port.opened ≡ false → IsUntouched f × (f.cause ≡ None)
 untouched f h e = untouched_as f f.port.opened f.cause h.known e
 
@@ -93,7 +96,8 @@ is_running f o c h = record {
       (subst (λ k. IsReportedAs f k) (sym c) h);
 }
 
--- a session that runs on in this state, of which by now other things may have come, been asked, had and given
+-- a session that runs on in this state, of which by now other things may have come, been asked, had
+-- and given
 pub runs_on : (f g : SessionFacts) (s : SessionState) (held : List ℕ) → Runs f → g.port.opened ≡ f.port.opened
     → g.port.gone ≡ f.port.gone → g.port.shut ≡ f.port.shut → g.cause ≡ f.cause → IsSessionServed held g s
     → AreFactsConsistent (record g { state = Some s; piece = held })
@@ -133,7 +137,8 @@ is_closed f c o e h = record {
       (subst (λ k. IsReportedAs f k) (sym e) (placed_closed f c h));
 }
 
--- the facts of a session that was shut at once are consistent where it was opened and isn't in the report
+-- the facts of a session that was shut at once are consistent where it was opened and isn't in the
+-- report
 pub is_unopened : (f : SessionFacts) → f.port.opened ≡ true → f.cause ≡ None → IsUnopened f → AreFactsConsistent f
 is_unopened f o e h = record {
   known = subst (λ b. IsKnownAs b f.cause f) (sym o)
@@ -142,7 +147,8 @@ is_unopened f o e h = record {
 
 -- ---- the accounts of a session
 
--- a session of which nothing came, and for which nothing was asked, had or given, is served in the state of a new one
+-- a session of which nothing came, and for which nothing was asked, had or given, is served in the
+-- state of a new one
 pub served_new : (f : SessionFacts) → f.port.fed ≡ [] → f.port.given ≡ [] → f.had ≡ [] → f.asked ≡ [] → f.piece ≡ []
     → f.port.input_ended ≡ false → IsSessionServed f.piece f (new_session f.dialect)
 served_new f fed_is given_is had_is asked_is piece_is goes_on = record {
@@ -299,7 +305,8 @@ pub record Stays (f g : SessionFacts) : Type 0 where
   pub had : g.had ≡ f.had
   pub state : g.state ≡ None
 
--- a served session that is gone or shut is closed with a cause that is one of it, where what came, was given, asked and had stays
+-- a served session that is gone or shut is closed with a cause that is one of it, where what came,
+-- was given, asked and had stays
 closed_as : (f g : SessionFacts) (s : SessionState) (held : List ℕ) (c : EndCause) (h : IsSessionServed held f s)
     → Stays f g → IsCaused g h.messages ((s.unread ++ h.has_read.dropped) ++ held) c
     → (g.port.gone ≡ true) ⊎ (g.port.shut ≡ true) → IsClosed g c
@@ -382,7 +389,8 @@ whole_as f g s held o h k queue out ended = (
   sym h.has_read.ended ∙ ended,
 )
 
--- Quit or Fatal is the cause of closing a session that it has ended, where that was shut with all answered and given
+-- Quit or Fatal is the cause of closing a session that it has ended, where that was shut with all
+-- answered and given
 caused_by : (g : SessionFacts) (ms : List Message) (rest : List ℕ) (c : EndCause) → IsEnding (Some c) → g.port.shut ≡ true
     → IsWhole g ms (Some c) → IsCaused g ms rest c
 caused_by g ms rest causes.Quit e shut w = (shut, w)
@@ -403,7 +411,8 @@ caused_by g ms rest causes.Stalled (inl e) shut w = cc
 caused_by g ms rest causes.Stalled (inr (inl e)) shut w = cc
 caused_by g ms rest causes.Stalled (inr (inr e)) shut w = cc
 
--- with its input, of which none is held or left to be read, ends a session that no message has ended
+-- with its input, of which none is held or left to be read, ends a session that no message has
+-- ended
 pub record RunsOut (s : SessionState) (c : EndCause) : Type 0 where
   pub is : c ≡ causes.EndOfInput
   pub open_yet : s.ended ≡ None
@@ -493,7 +502,8 @@ dropped_as f r true (Some causes.Gone) none some h = closed_dropped f r causes.G
 dropped_as f r true (Some causes.NoMemory) none some h = closed_dropped f r causes.NoMemory h
 dropped_as f r true (Some causes.Stalled) none some h = closed_dropped f r causes.Stalled h
 
--- the facts of a session that isn't open and has asked something stay consistent with one more reply
+-- the facts of a session that isn't open and has asked something stay consistent with one more
+-- reply
 pub dropped : (f : SessionFacts) (r : Reply) → f.state ≡ None → (f.asked ≡ [] → ⊥) → AreFactsConsistent f
     → AreFactsConsistent (record f { had = f.had ++ r ∷ [] })
 dropped f r none some h = record { known = dropped_as f r f.port.opened f.cause none some h.known }

@@ -12,7 +12,7 @@ use Rattle.proto.specs.declared.history.Answered.{Answered}
 use Rattle.proto.proofs.Options.{some_is}
 use Rattle.proto.specs.History.{asked_posted}
 use Rattle.proto.specs.Reading.{asks}
-use Rattle.exchange.specs.Ends.{WorkerView, WorkerBatchView, WasTold}
+use Rattle.exchange.specs.Ends.{WorkerView, WorkerLaneView, WasTold}
 use Rattle.exchange.specs.Beginnings.{posted_of}
 use Rattle.exchange.proofs.Lists.{take_more}
 use Rattle.session_book.specs.declared.causes.EndCause.{EndCause}
@@ -105,13 +105,15 @@ pub oldest_first : (end : WorkerView) (request : Option Posted) (book : BookStat
 oldest_first end request book a h e = h.unsettled ∙ ap (map unsettled_post)
     (rest_at (numbered_by end request) (length end.back) (posted_of a) (at_posted end request a e))
 
--- an answer to the first request that hadn't come back is that of the book's oldest unsettled request
+-- an answer to the first request that hadn't come back is that of the book's oldest unsettled
+-- request
 pub is_oldest : (end : WorkerView) (request : Option Posted) (book : BookState) (a : Answered)
     → IsSteady end request book
     → get_elem? end.sent (length end.back) ≡ some (posted_of a) → IsOldest book a
 is_oldest end request book a h e = ap (λ (l : List Unsettled). slice_get l 0) (oldest_first end request book a h e)
 
--- the end and the book agree still once the end took back an answer and the book's oldest request is no longer unsettled
+-- the end and the book agree still once the end took back an answer and the book's oldest request
+-- is no longer unsettled
 pub steady_taken : (end end' : WorkerView) (request : Option Posted) (book book' : BookState) (a : Answered)
     → IsSteady end request book
     → TakesBack end end' a → book'.numbered ≡ book.numbered → book'.unsettled ≡ drop 1 book.unsettled
@@ -184,7 +186,8 @@ told_kept v v' unopened ended a s h open_is has k =
     (change_at t v v' (taken_elsewhere v v' a (Some (with_reply s a.reply)) k)
     (subst AreFactsConsistent (sym (taken_here v v' a (Some (with_reply s a.reply)) k)) now) (λ j ne. h.each j))
 
--- all is known still once an answer came back for a session that is no longer open and has asked something
+-- all is known still once an answer came back for a session that is no longer open and has asked
+-- something
 told_dropped : (v v' : RunView) (unopened : ℕ) (ended : Bool) (a : Answered) → IsTraceKnown v unopened ended
     → session_of v.book a.session ≡ None
     → (asked_by v.numbered a.session ≡ [] → ⊥) → TakesIn v v' a None → IsTraceKnown v' unopened ended
@@ -225,8 +228,8 @@ taken_in trace old new a st k b book = record {
   piece = refl;
 }
 
--- a worker that took back an answer goes on, where the book's oldest request is no longer unsettled, the held pieces stay, and
--- all is known still
+-- a worker that took back an answer goes on, where the book's oldest request is no longer
+-- unsettled, the held pieces stay, and all is known still
 answer_goes_on : {P : Type 0} (told : P → Option PortTrace) (old new : WorkerState P) (a : Answered) → KeepsRest old new
     → TakesBack (end_of old) (end_of new) a → IsWorkerServing told old → new.book.numbered ≡ old.book.numbered
     → new.book.unsettled ≡ drop 1 old.book.unsettled → new.book.dialect ≡ old.book.dialect
@@ -268,7 +271,7 @@ steady_still end end' request book k h =
     }
 
 -- a worker whose end found no answer goes on
-pub none_taken_goes_on : {P : Type 0} (told : P → Option PortTrace) (old : WorkerState P) (batch : WorkerBatchView)
+pub none_taken_goes_on : {P : Type 0} (told : P → Option PortTrace) (old : WorkerState P) (batch : WorkerLaneView)
     → TakesNone (end_of old) (once_flushed batch)
     → IsWorkerServing told old → WorkerGoesOn told old (record old { batch = batch })
 none_taken_goes_on told old batch k h =
@@ -292,7 +295,7 @@ none_taken_goes_on told old batch k h =
     ))
 
 -- a worker whose end is the same once all that was put is flushed goes on
-pub flushed_goes_on : {P : Type 0} (told : P → Option PortTrace) (old : WorkerState P) (batch : WorkerBatchView)
+pub flushed_goes_on : {P : Type 0} (told : P → Option PortTrace) (old : WorkerState P) (batch : WorkerLaneView)
     → once_flushed batch ≡ end_of old
     → IsWorkerServing told old → WorkerGoesOn told old (record old { batch = batch })
 flushed_goes_on told old batch same h = none_taken_goes_on told old batch (record {

@@ -91,8 +91,8 @@ steady_same end request book book' p u h = record {
 
 -- ---- a session is closed
 
--- all is known still once a session is closed by a proper entry that opens nothing and isn't the end, where the facts of all
--- sessions are consistent
+-- all is known still once a session is closed by a proper entry that opens nothing and isn't the
+-- end, where the facts of all sessions are consistent
 told_closed : (v v' : RunView) (unopened : ℕ) (ended : Bool) (t : ℕ) (c : EndCause) (x : PortRecord)
     → IsTraceKnown v unopened ended → ClosesIn v v' t c x
     → is_in was.Ended (v.events ++ x ∷ []) ≡ is_in was.Ended v.events → opened_count (v.events ++ x ∷ []) ≡ opened_count v.events
@@ -272,7 +272,8 @@ own_within told old new port rest b h = record {
 abbrev pub TraceFacts : {P : Type 0} → PortTrace → WorkerState P → ℕ → Bool → Type 0
 TraceFacts trace w unopened ended = IsTraceKnown (run_view trace w) unopened ended × ArePaused trace (piece_of w.book)
 
--- of a serving worker all is known at the trace that its port tells, and each session of which bytes are held is paused
+-- of a serving worker all is known at the trace that its port tells, and each session of which
+-- bytes are held is paused
 pub trace_facts : {P : Type 0} (told : P → Option PortTrace) (w : WorkerState P) → IsWorkerServing told w
     → (trace : PortTrace) → told w.port ≡ Some trace
     → TraceFacts trace w w.unopened w.ended

@@ -22,8 +22,9 @@ use Rattle.worker_port.specs.Ports.{fed, given, is_in, is_open, opened_count}
 use Rattle.worker_port.specs.Giving.{BeginsAnswers}
 use Rattle.worker.specs.Sessions.{cause_of}
 
--- What the list and the messages say of a session with this cause. Gone says only that the port told Gone, and NoMemory only that
--- the session was shut. Stalled says that too, and that the session was lenient: no strict one ends so.
+-- What the list and the messages say of a session with this cause. Gone says only that the port
+-- told Gone, and NoMemory only that the session was shut. Stalled says that too, and that the
+-- session was lenient: no strict one ends so.
 abbrev pub IsCauseOf : Dialect → List PortRecord → ℕ → List Message → EndCause → Type 0
 IsCauseOf d events s messages causes.Drained =
     (is_in (was.EndOfInput s) events ≡ false) × (is_in (was.Gone s) events ≡ false) × (is_in (was.Shut s) events ≡ false)
@@ -37,8 +38,9 @@ IsCauseOf d events s messages causes.Quit = (is_in (was.Shut s) events ≡ true)
 IsCauseOf d events s messages causes.Fatal =
     (is_in (was.Shut s) events ≡ true) × (kind : FatalKind) × (last_or None messages ≡ Some (Fatal kind))
 
--- Of a session whose bytes spell these messages in this dialect: the port gave it a beginning of their answers. If its cause is
--- none of Gone, NoMemory and Stalled, the port gave it all of them, and the history has all its requests.
+-- Of a session whose bytes spell these messages in this dialect: the port gave it a beginning of
+-- their answers. If its cause is none of Gone, NoMemory and Stalled, the port gave it all of them,
+-- and the history has all its requests.
 pub record IsSessionAnswered (d : Dialect) (events : List PortRecord) (history : List Answered) (worker s : ℕ)
     (cause : EndCause) (messages : List Message) : Type 0 where
   pub answers : BeginsAnswers history worker s (given s events) messages
@@ -47,8 +49,9 @@ pub record IsSessionAnswered (d : Dialect) (events : List PortRecord) (history :
       × (given s events ≡ said messages (map (λ e. e.reply) (session_share history worker s)))
   pub caused : IsCauseOf d events s messages cause
 
--- The report lists sessions that were opened, once each, by rising numbers. An opened session that it doesn't list was shut, and
--- unopened counts these. A session that it doesn't list was given nothing and asked nothing.
+-- The report lists sessions that were opened, once each, by rising numbers. An opened session that
+-- it doesn't list was shut, and unopened counts these. A session that it doesn't list was given
+-- nothing and asked nothing.
 pub record AreListed (events : List PortRecord) (sent : List Posted) (sessions : List (ℕ × EndCause)) (unopened : ℕ)
     : Type 0 where
   pub ended : is_in was.Ended events ≡ true
@@ -61,8 +64,9 @@ pub record AreListed (events : List PortRecord) (sent : List Posted) (sessions :
   pub no_stranger : (s : ℕ) → cause_of sessions s ≡ None → given s events ≡ []
   pub placed : All (λ (p : Posted). IsSome (cause_of sessions p.session)) sent
 
--- What a worker's report says of a port that tells its list, by the dialect of what came: the sessions were answered in each
--- history in which this worker's share is what it took back, and asks what it sent.
+-- What a worker's report says of a port that tells its list, by the dialect of what came: the
+-- sessions were answered in each history in which this worker's share is what it took back, and
+-- asks what it sent.
 pub record IsReported (d : Dialect) (events : List PortRecord) (end : WorkerView) (sessions : List (ℕ × EndCause))
     (unopened : ℕ) : Type 0 where
   pub listed : AreListed events end.sent sessions unopened

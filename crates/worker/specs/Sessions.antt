@@ -33,9 +33,9 @@ abbrev pub cause_of : List (ℕ × EndCause) → ℕ → Option EndCause
 cause_of [] s = None
 cause_of (e ∷ sessions) s = if e.0 == s then Some e.1 else cause_of sessions s
 
--- What is known of a session: the dialect of its lines; what the port's list says of it; the requests that got
--- numbers for it; the replies that came back; its entry in the report; its state in the book, while it is open;
--- and the piece of input that is held until it fits.
+-- What is known of a session: the dialect of its lines; what the port's list says of it; the
+-- requests that got numbers for it; the replies that came back; its entry in the report; its state
+-- in the book, while it is open; and the piece of input that is held until it fits.
 pub record SessionFacts : Type 0 where
   pub dialect : Dialect
   pub port : PortFacts
@@ -64,8 +64,9 @@ pub record IsUnopened (f : SessionFacts) : Type 0 where
   pub asked : f.asked ≡ []
   pub state : f.state ≡ None
 
--- The session was fed all bytes that came, but for those held back; messages were read and asked, and their
--- answers given or put out, as its state says; and the state says whether its input has ended.
+-- The session was fed all bytes that came, but for those held back; messages were read and asked,
+-- and their answers given or put out, as its state says; and the state says whether its input has
+-- ended.
 pub record IsSessionServed (held : List ℕ) (f : SessionFacts) (s : SessionState) : Type 0 where
   pub bytes : List ℕ
   pub messages : List Message
@@ -95,7 +96,8 @@ IsWhole f messages ended =
     (f.port.given ≡ said messages f.had) × (length (asks messages) ≤ length f.had)
     × (ended_by None messages ≡ ended)
 
--- the session was shut as its input had ended: no beginning of the rest spells a message, and all was answered and given
+-- the session was shut as its input had ended: no beginning of the rest spells a message, and all
+-- was answered and given
 pub record HasRunOut (f : SessionFacts) (messages : List Message) (rest : List ℕ) : Type 0 where
   pub input_ended : f.port.input_ended ≡ true
   pub shut : f.port.shut ≡ true
@@ -112,7 +114,8 @@ IsCaused f messages rest causes.Gone = f.port.gone ≡ true
 IsCaused f messages rest causes.NoMemory = f.port.shut ≡ true
 IsCaused f messages rest causes.Stalled = (f.port.shut ≡ true) × IsLenient f.dialect
 
--- the session is closed: some first messages were read and asked, and a beginning of their answers was given
+-- the session is closed: some first messages were read and asked, and a beginning of their answers
+-- was given
 pub record IsClosed (f : SessionFacts) (cause : EndCause) : Type 0 where
   pub messages : List Message
   pub rest : List ℕ
@@ -141,8 +144,8 @@ IsKnownAs true cause f = IsReportedAs f cause
 pub record AreFactsConsistent (f : SessionFacts) : Type 0 where
   pub known : IsKnownAs f.port.opened f.cause f
 
--- What the facts of all sessions are read from: the dialect, the port's list, the requests that got numbers, the answers
--- that came back, the report, the book, and the pieces of input that are held.
+-- What the facts of all sessions are read from: the dialect, the port's list, the requests that got
+-- numbers, the answers that came back, the report, the book, and the pieces of input that are held.
 pub record RunView : Type 0 where
   pub dialect : Dialect
   pub events : List PortRecord

@@ -8,7 +8,7 @@ use lib.ListN.{get_elem?}
 use Rattle.proto.specs.declared.history.Posted.{Posted}
 use Rattle.proto.specs.declared.history.Answered.{Answered}
 use Rattle.proto.specs.History.{asked_posted}
-use Rattle.exchange.specs.Ends.{WorkerView, WorkerBatchView, WasTold, with_put_sent}
+use Rattle.exchange.specs.Ends.{WorkerView, WorkerLaneView, WasTold, with_put_sent}
 use Rattle.exchange.specs.Beginnings.{StartsWith, posted_of}
 use Rattle.session_book.specs.declared.causes.EndCause.{EndCause}
 use Rattle.session_book.specs.declared.causes.Unsettled.{Unsettled}
@@ -24,7 +24,7 @@ use Rattle.worker.specs.Sessions.{RunView, facts, AreFactsConsistent}
 use Rattle.worker.specs.EndCauses.{CausesRiseFrom, with_cause, piece_of}
 
 -- a worker's end as it is once all that was put is flushed: so what was put counts as sent
-abbrev pub once_flushed : WorkerBatchView → WorkerView
+abbrev pub once_flushed : WorkerLaneView → WorkerView
 once_flushed batch = (with_put_sent batch).end
 
 abbrev pub end_of : {P : Type 0} → WorkerState P → WorkerView
@@ -42,7 +42,8 @@ IsNumbered end (Some p) = p.number ≡ length end.sent + 1
 abbrev pub unsettled_post : Posted → Unsettled
 unsettled_post p = record { number = p.number; session = p.session }
 
--- The end and the book agree: the book's unsettled requests are those with numbers that didn't come back.
+-- The end and the book agree: the book's unsettled requests are those with numbers that didn't come
+-- back.
 pub record IsSteady (end : WorkerView) (request : Option Posted) (book : BookState) : Type 0 where
   pub running : end.said_bye ≡ false
   pub numbered : book.numbered ≡ length (numbered_by end request)
@@ -128,8 +129,8 @@ pub record Continues {P : Type 0} (told : P → Option PortTrace) (leads_to : P 
   pub same_end : IsSameEnd (end_of old) (end_of new)
   pub dialect : new.book.dialect ≡ old.book.dialect
 
--- Of a worker only the port and what it knows of this session change: it is no longer in the book, with its held piece,
--- and the cause stands at its entry in the report.
+-- Of a worker only the port and what it knows of this session change: it is no longer in the book,
+-- with its held piece, and the cause stands at its entry in the report.
 pub record Closes {P : Type 0} (old new : WorkerState P) (session : ℕ) (cause : EndCause) : Type 0 where
   pub end : end_of new ≡ end_of old
   pub request : new.request ≡ old.request
@@ -145,7 +146,8 @@ pub record Shuts {P : Type 0} (told : P → Option PortTrace) (old new : WorkerS
   pub port : told new.port ≡ option_map (then_told (was.Shut session ∷ [])) (told old.port)
   pub closes : Closes old new session cause
 
--- A session was just opened: it has an entry in the report and is in the book; or it is shut and counted.
+-- A session was just opened: it has an entry in the report and is in the book; or it is shut and
+-- counted.
 pub record Admits {P : Type 0} (told : P → Option PortTrace) (old new : WorkerState P) (session : ℕ) : Type 0 where
   pub port : new.port ≡ old.port
   pub sessions : new.sessions.items ≡ old.sessions.items ++ (session, causes.Drained) ∷ []
@@ -183,8 +185,9 @@ pub record HoldsPiece {P : Type 0} (told : P → Option PortTrace) (old : Worker
   pub port : told new.port ≡ option_map (with_pause session true) (told old.port)
   pub leaves : LeavesWorker old new
 
--- A piece of input came: it is fed, or held, or its session is shut as memory ran out; a session that isn't
--- open drops it. That bytes are held already is a reason to shut only at a port that tells nothing.
+-- A piece of input came: it is fed, or held, or its session is shut as memory ran out; a session
+-- that isn't open drops it. That bytes are held already is a reason to shut only at a port that
+-- tells nothing.
 pub data HandlesData {P : Type 0} (told : P → Option PortTrace) (old : WorkerState P) (session : ℕ) (bytes : List ℕ)
     (new : WorkerState P) : Type 0 where
   feeds : piece_of old.book session ≡ []

@@ -1,6 +1,6 @@
 //! Who executes what workers have posted.
 
-use exchange::StorageSignals;
+use exchange::GroupSignals;
 
 /// What a worker says once it has posted requests or its bye.
 #[derive(Clone, Copy)]
@@ -25,7 +25,7 @@ pub trait Executor {
 }
 
 /// Has the storage thread execute: wakes it, if it has parked or is about to.
-impl Executor for StorageSignals {
+impl Executor for GroupSignals {
     fn posted(&self, _posting: Posting) {
         self.parking().unpark();
     }

@@ -1,4 +1,5 @@
-//! A gate that holds two workers apart, so that a run in which they don't run side by side can't finish in time.
+//! A gate that holds two workers apart, so that a run in which they don't run side by side can't
+//! finish in time.
 
 ghost use Rattle.std.specs.Prelude.{◌≡◌, ◌≢◌, ◌≤◌, true};
 
@@ -25,8 +26,9 @@ impl FirstRequest {
     }
 }
 
-/// Holds workers 0 and 1: request 1 of each stays in `may_post` until both are there, and request 2 of each is refused
-/// until request 1 of the other was answered. Every other request passes, and each does once the gate is spent.
+/// Holds workers 0 and 1: request 1 of each stays in `may_post` until both are there, and request 2
+/// of each is refused until request 1 of the other was answered. Every other request passes, and
+/// each does once the gate is spent.
 #[derive(Drop)]
 pub struct HoldGate {
     first_requests: [FirstRequest; 2],
@@ -54,7 +56,8 @@ impl HoldGate {
             .all(|first| first.came.load(Ordering::SeqCst))
     }
 
-    /// Stays until both workers are there. Each turn counts as a wait, so the turns are no more than the waits.
+    /// Stays until both workers are there. Each turn counts as a wait, so the turns are no more
+    /// than the waits.
     fn stay_for_both(&self) {
         for _ in 0..PATIENCE {
             if self.have_both_come() || self.spent() {
@@ -65,7 +68,8 @@ impl HoldGate {
         }
     }
 
-    /// Whether request 1 of the other worker was answered, or the gate is spent. Each refusal counts as a wait.
+    /// Whether request 1 of the other worker was answered, or the gate is spent. Each refusal
+    /// counts as a wait.
     fn may_follow(&self, other: &FirstRequest) -> bool {
         if other.was_answered.load(Ordering::SeqCst) || self.spent() {
             return true;

@@ -6,12 +6,12 @@ use exchange::{IdleTurns, ParkingWord, Waits};
 use std::sync::Wait;
 use std::time::Clock;
 
-/// Idle turns in a row that spin for an answer before the worker parks: some ten microseconds, in which storage mostly
-/// answers.
+/// Idle turns in a row that spin for an answer before the worker parks: some ten microseconds, in
+/// which storage mostly answers.
 const IDLE_TURNS: u32 = 40;
 
-/// Idle turns in a row. A worker that waits for an answer parks until storage has given it; else it yields, as it waits for
-/// a peer that accepts no bytes.
+/// Idle turns in a row. A worker that waits for an answer parks until storage has given it; else it
+/// yields, as it waits for a peer that accepts no bytes.
 #[derive(Drop)]
 pub(crate) struct Pauses<'a> {
     idle: IdleTurns,
@@ -25,7 +25,8 @@ pub(crate) struct Pauses<'a> {
 }
 
 impl<'a> Pauses<'a> {
-    /// A worker that waits for an answer spins for `spin` microseconds before it parks, or for `IDLE_TURNS` turns.
+    /// A worker that waits for an answer spins for `spin` microseconds before it parks, or for
+    /// `IDLE_TURNS` turns.
     pub(crate) fn new(spin: Option<u32>, waits: Waits<'a>) -> Pauses<'a> {
         Pauses {
             idle: IdleTurns::new(IDLE_TURNS, spin),

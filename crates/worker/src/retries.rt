@@ -2,14 +2,15 @@
 
 use std::time::{Clock, Duration, Instant};
 
-/// The most sessions that are offered their output again in a turn, at a port that doesn't tell of room.
+/// The most sessions that are offered their output again in a turn, at a port that doesn't tell of
+/// room.
 const RETRIES_A_TURN: usize = 2;
 
 /// The same at a port that tells of room, once it has told.
 const TOLD_RETRIES_A_TURN: usize = 16;
 
-/// Which of the sessions whose clients took nothing are still to be offered their output again. A port that tells of room is
-/// offered it only once it has told of some.
+/// Which of the sessions whose clients took nothing are still to be offered their output again. A
+/// port that tells of room is offered it only once it has told of some.
 #[derive(Clone, Copy, Default)]
 pub(crate) struct Retries {
     /// How often the port had told of room when the sessions were counted.
@@ -55,7 +56,8 @@ impl Seconds {
         self.since = None;
     }
 
-    /// Whether another second has passed in which a session waited for memory. The clock is read only while one does.
+    /// Whether another second has passed in which a session waited for memory. The clock is read
+    /// only while one does.
     pub(crate) fn has_passed<R: Clock>(&mut self, rt: &R, is_waiting: bool) -> bool {
         if !is_waiting {
             self.stop();

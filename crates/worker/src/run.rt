@@ -13,7 +13,7 @@ use crate::pauses::Pauses;
 use crate::retries::{Retries, Seconds};
 use crate::session_list::SessionList;
 use crate::worker::{AskAgain, Worker, WorkerState};
-use exchange::{StorageSignals, Waits, WorkerEnd};
+use exchange::{GroupSignals, Waits, WorkerEnd};
 use proto::{Dialect, Gauge, WINDOW};
 use session_book::{EndCause, Task};
 use std::alloc::Global;
@@ -21,22 +21,25 @@ use std::sync::Wait;
 use std::time::Clock;
 use worker_port::{MAX_PIECE, Port};
 
-/// The most events that are taken in a turn. The worker tells storage of their requests together, so it wakes it once.
+/// The most events that are taken in a turn. The worker tells storage of their requests together,
+/// so it wakes it once.
 const EVENTS_A_TURN: usize = 32;
 
-/// The whole pieces of input after which no more events are taken in a turn, so that requests with large values are executed while
-/// these are in the processor's cache.
+/// The whole pieces of input after which no more events are taken in a turn, so that requests with
+/// large values are executed while these are in the processor's cache.
 const PIECES_A_TURN: usize = 4;
 
-/// The events that are taken in a turn though a session can't be asked further, if turns are long, as much output waits: so the
-/// others are heard too. In a short turn it is one event.
+/// The events that are taken in a turn though a session can't be asked further, if turns are long,
+/// as much output waits: so the others are heard too. In a short turn it is one event.
 const EVENTS_WHILE_BUSY: usize = 8;
 
-/// The most requests that a session is asked for in a row, while others wait to be asked and much output waits. Else it is all
-/// that a window has, since the pipelines of fewer sessions are then under way, and stay in the processor's cache.
+/// The most requests that a session is asked for in a row, while others wait to be asked and much
+/// output waits. Else it is all that a window has, since the pipelines of fewer sessions are then
+/// under way, and stay in the processor's cache.
 const ASKS_IN_A_ROW: usize = 8;
 
-/// The bytes of output above which no further session is offered its own in a turn: so turns stay short beside large answers.
+/// The bytes of output above which no further session is offered its own in a turn: so turns stay
+/// short beside large answers.
 const OUTPUT_A_TURN: u64 = 1_048_576;
 
 /// A worker that doesn't wait sets its gauges each time that it has taken so many turns.
@@ -55,13 +58,13 @@ pub struct WorkerReport<P> {
     pub strangers: u64,
 }
 
-/// Takes an event, if there is one, and gives how many bytes of input it brought. The time for which the port may wait
-/// isn't busy, and before it the worker sets its gauges.
+/// Takes an event, if there is one, and gives how many bytes of input it brought. The time for
+/// which the port may wait isn't busy, and before it the worker sets its gauges.
 fn take_event<P: Port, R: Clock>(
     rt: &R,
     worker: &mut Worker<P>,
     pauses: &mut Pauses,
-    storage: &StorageSignals,
+    storage: &GroupSignals,
 ) -> Option<usize>
     ensures { Continues P.told P.leads_to worker.old worker.new }
 {
@@ -77,9 +80,10 @@ fn take_event<P: Port, R: Clock>(
     came
 }
 
-/// Takes a few events, as long as the port may know of one. After each it reads the requests that the event brought, so a
-/// session's requests are read before the event that its client has gone; and it pauses sessions for whose large messages there
-/// is no room, so they bring no further piece. If a session has requests that can't be read now, few events are taken, and storage
+/// Takes a few events, as long as the port may know of one. After each it reads the requests that
+/// the event brought, so a session's requests are read before the event that its client has gone;
+/// and it pauses sessions for whose large messages there is no room, so they bring no further
+/// piece. If a session has requests that can't be read now, few events are taken, and storage
 /// doesn't wait for them. It gives how many events it took.
 fn take_events<P: Port, G: Gate, E: Executor, R: Clock>(
     rt: &R,
@@ -87,7 +91,7 @@ fn take_events<P: Port, G: Gate, E: Executor, R: Clock>(
     pauses: &mut Pauses,
     gate: &G,
     executor: &E,
-    storage: &StorageSignals,
+    storage: &GroupSignals,
 ) -> usize
     ensures { Continues P.told P.leads_to worker.old worker.new }
 {
@@ -126,12 +130,13 @@ fn feed_pieces<P: Port>(worker: &mut Worker<P>) -> bool
     moved
 }
 
-/// Asks the session for requests until it has none left, none can be asked now, or it is the others' turn.
+/// Asks the session for requests until it has none left, none can be asked now, or it is the
+/// others' turn.
 fn ask_session<P: Port, G: Gate>(
     worker: &mut Worker<P>,
     session: u64,
     gate: &G,
-    storage: &StorageSignals,
+    storage: &GroupSignals,
 )
     requires { worker.old.request ≡ None }
     ensures { Continues P.told P.leads_to worker.old worker.new }
@@ -150,13 +155,9 @@ fn ask_session<P: Port, G: Gate>(
     worker.state.book.ask_later(session);
 }
 
-/// Asks sessions in turn, as long as requests can be asked: `WINDOW` of them at most, so a turn stays short. True if something was
-/// done.
-fn ask_sessions<P: Port, G: Gate>(
-    worker: &mut Worker<P>,
-    gate: &G,
-    storage: &StorageSignals,
-) -> bool
+/// Asks sessions in turn, as long as requests can be asked: `WINDOW` of them at most, so a turn
+/// stays short. True if something was done.
+fn ask_sessions<P: Port, G: Gate>(worker: &mut Worker<P>, gate: &G, storage: &GroupSignals) -> bool
     ensures { Continues P.told P.leads_to worker.old worker.new }
 {
     let mut moved = false;
@@ -176,12 +177,13 @@ fn ask_sessions<P: Port, G: Gate>(
     moved
 }
 
-/// Feeds what fits by now, and asks sessions, unless that was done after each of so many events. True if something was done.
+/// Feeds what fits by now, and asks sessions, unless that was done after each of so many events.
+/// True if something was done.
 fn feed_and_ask<P: Port, G: Gate>(
     worker: &mut Worker<P>,
     events: usize,
     gate: &G,
-    storage: &StorageSignals,
+    storage: &GroupSignals,
 ) -> bool
     ensures { Continues P.told P.leads_to worker.old worker.new }
 {
@@ -210,8 +212,9 @@ fn settle_answers<P: Port, G: Gate>(worker: &mut Worker<P>, gate: &G) -> bool
     moved
 }
 
-/// Gives the output of sessions that are to be taken up for the task, of so many at most, and shuts those that have finished. After
-/// `OUTPUT_A_TURN` bytes the others wait for the next turn. How many were taken up, and whether something was done.
+/// Gives the output of sessions that are to be taken up for the task, of so many at most, and shuts
+/// those that have finished. After `OUTPUT_A_TURN` bytes the others wait for the next turn. How
+/// many were taken up, and whether something was done.
 fn give_output<P: Port>(worker: &mut Worker<P>, task: Task, most: usize) -> (usize, bool)
     ensures { Continues P.told P.leads_to worker.old worker.new }
 {
@@ -251,20 +254,21 @@ fn retry_output<P: Port>(worker: &mut Worker<P>, retries: &mut Retries) -> bool
 }
 
 /// Counts a session that is closed as its client has stopped, for `stats`.
-fn count_stalled(worker: usize, storage: &StorageSignals) {
+fn count_stalled(worker: usize, storage: &GroupSignals) {
     if let Some(gauges) = storage.gauges(worker) {
         let closed = gauges.get(Gauge::ClosedUnread).wrapping_add(1);
         gauges.set(&[(Gauge::ClosedUnread, closed)]);
     }
 }
 
-/// Once another second has passed in which a session waited for memory, shuts sessions that hold some and whose clients have stopped
-/// for ten such seconds, until none waits. True if something was done.
+/// Once another second has passed in which a session waited for memory, shuts sessions that hold
+/// some and whose clients have stopped for ten such seconds, until none waits. True if something
+/// was done.
 fn shut_stalled<P: Port, R: Clock>(
     rt: &R,
     worker: &mut Worker<P>,
     seconds: &mut Seconds,
-    storage: &StorageSignals,
+    storage: &GroupSignals,
 ) -> bool
     ensures { Continues P.told P.leads_to worker.old worker.new }
 {
@@ -306,12 +310,13 @@ fn resume_sessions<P: Port>(worker: &mut Worker<P>) -> bool
     moved
 }
 
-/// Has sessions wait for memory, or go on, and shuts those that hold it and have stopped. True if something was done.
+/// Has sessions wait for memory, or go on, and shuts those that hold it and have stopped. True if
+/// something was done.
 fn share_memory<P: Port, R: Clock>(
     rt: &R,
     worker: &mut Worker<P>,
     seconds: &mut Seconds,
-    storage: &StorageSignals,
+    storage: &GroupSignals,
 ) -> bool
     ensures { Continues P.told P.leads_to worker.old worker.new }
 {
@@ -325,12 +330,13 @@ fn share_memory<P: Port, R: Clock>(
     shut | paused | resumed
 }
 
-/// Offers output again that clients didn't take, and has sessions wait for memory, or go on. True if something was done.
+/// Offers output again that clients didn't take, and has sessions wait for memory, or go on. True
+/// if something was done.
 fn serve_waiting<P: Port, R: Clock>(
     rt: &R,
     worker: &mut Worker<P>,
     pauses: &mut Pauses,
-    storage: &StorageSignals,
+    storage: &GroupSignals,
 ) -> bool
     ensures { Continues P.told P.leads_to worker.old worker.new }
 {
@@ -343,15 +349,16 @@ fn serve_waiting<P: Port, R: Clock>(
     given | shared
 }
 
-/// One turn. True if something was done. It puts the held request, then what has come and what fits by now. Storage knows of
-/// all of it before the answers are looked for, so nothing is kept back while the worker waits.
+/// One turn. True if something was done. It puts the held request, then what has come and what fits
+/// by now. Storage knows of all of it before the answers are looked for, so nothing is kept back
+/// while the worker waits.
 fn take_turn<P: Port, G: Gate, E: Executor, R: Clock>(
     rt: &R,
     worker: &mut Worker<P>,
     pauses: &mut Pauses,
     gate: &G,
     executor: &E,
-    storage: &StorageSignals,
+    storage: &GroupSignals,
 ) -> bool
     ensures { Continues P.told P.leads_to worker.old worker.new }
 {
@@ -365,8 +372,8 @@ fn take_turn<P: Port, G: Gate, E: Executor, R: Clock>(
     held || came > 0 || asked || settled || given || waited
 }
 
-/// Whether all is done: the port has ended, nothing is held or outstanding, and no open session has input or output left. One
-/// that has some is asked again.
+/// Whether all is done: the port has ended, nothing is held or outstanding, and no open session has
+/// input or output left. One that has some is asked again.
 fn has_drained<P: Port>(worker: &mut Worker<P>) -> bool
     ensures goes_on { Continues P.told P.leads_to worker.old worker.new }
     ensures drained { result ≡ true → IsDrained worker.new }
@@ -390,9 +397,9 @@ fn has_drained<P: Port>(worker: &mut Worker<P>) -> bool
 
 /// Serves a port until it has ended and all was answered and given, and then says bye.
 ///
-/// The end has sent nothing yet, and the list of a port that tells it is empty. It may wait: for events, for answers and for a
-/// port that accepts no bytes. Whoever executes is told of what it posts. Output that clients don't take has a budget, which is
-/// 67,108,864 bytes with None.
+/// The end has sent nothing yet, and the list of a port that tells it is empty. It may wait: for
+/// events, for answers and for a port that accepts no bytes. Whoever executes is told of what it
+/// posts. Output that clients don't take has a budget, which is 67,108,864 bytes with None.
 pub fn run_worker<P: Port, G: Gate, E: Executor, R: Wait + Clock>(
     rt: &R,
     alloc: Global,
@@ -402,7 +409,7 @@ pub fn run_worker<P: Port, G: Gate, E: Executor, R: Wait + Clock>(
     output_budget: Option<usize>,
     gate: &G,
     executor: &E,
-    storage: &StorageSignals,
+    storage: &GroupSignals,
 ) -> WorkerReport<P>
     requires port { IsPortAt P.told dialect port worker_end }
     requires fresh { HasSentNothing worker_end }
@@ -434,7 +441,7 @@ pub fn run_worker<P: Port, G: Gate, E: Executor, R: Wait + Clock>(
 }
 
 /// Counts a turn. At each of so many the worker sets its gauges.
-fn count_turn<P: Port>(turns: &mut u32, worker: &Worker<P>, storage: &StorageSignals) {
+fn count_turn<P: Port>(turns: &mut u32, worker: &Worker<P>, storage: &GroupSignals) {
     *turns = turns.wrapping_add(1);
     if *turns % TURNS_PER_GAUGES == 0 {
         worker.state.set_gauges(storage);

@@ -16,8 +16,8 @@ pub(crate) enum SessionNote {
     Closed(u64, EndCause),
 }
 
-/// The sessions that were opened, by rising numbers, and why each ended: Drained if it is still open. The list is for
-/// clauses alone and has no bytes, since a server opens sessions without end.
+/// The sessions that were opened, by rising numbers, and why each ended: Drained if it is still
+/// open. The list is for clauses alone and has no bytes, since a server opens sessions without end.
 #[derive(Drop)]
 pub struct SessionList {
     notes: Trace<SessionNote>,

@@ -15,7 +15,7 @@ use crate::gate::Gate;
 use crate::retries::Retries;
 use crate::session_list::SessionList;
 use bytes::Bytes;
-use exchange::{Answered, StorageSignals, WorkerBatch, WorkerEnd};
+use exchange::{Answered, GroupSignals, WorkerEnd, WorkerLane};
 use proto::{Dialect, Posted, Request};
 use session_book::{Book, EndCause, OUTPUT_BUDGET, Received, Settled, Task, Unasked};
 use std::alloc::Global;
@@ -45,7 +45,7 @@ pub(crate) enum AskAgain {
 pub(crate) struct WorkerState<P> {
     pub(crate) port: P,
     /// The worker's end of its lane.
-    pub(crate) batch: WorkerBatch,
+    pub(crate) batch: WorkerLane,
     pub(crate) book: Book,
     /// A request that has its number and isn't in its slot yet.
     pub(crate) request: Option<Posted>,
@@ -99,7 +99,8 @@ impl<P: Port> WorkerState<P> {
         }
     }
 
-    /// Opens a session in the book, and writes its entry in the report; or shuts it, as there is no room for it.
+    /// Opens a session in the book, and writes its entry in the report; or shuts it, as there is no
+    /// room for it.
     fn admit(&mut self, session: u64)
         requires { (trace : PortTrace) → P.told self.old.port ≡ Some trace
             → is_open session trace.events ≡ true }
@@ -116,8 +117,9 @@ impl<P: Port> WorkerState<P> {
         self.sessions.open(session);
     }
 
-    /// Feeds a piece of input that came, or holds it until it fits, and then pauses its session. Input of a session that
-    /// isn't open is dropped. At a port that tells, a session of which bytes are held is paused and has no data.
+    /// Feeds a piece of input that came, or holds it until it fits, and then pauses its session.
+    /// Input of a session that isn't open is dropped. At a port that tells, a session of which
+    /// bytes are held is paused and has no data.
     fn receive(&mut self, session: u64, bytes: Bytes)
         requires open { (trace : PortTrace) → P.told self.old.port ≡ Some trace
             → is_open session trace.events ≡ true }
@@ -147,16 +149,16 @@ impl<P: Port> WorkerState<P> {
     }
 
     /// Sets the worker's gauges, for a `stats`.
-    pub(crate) fn set_gauges(&self, storage: &StorageSignals) {
+    pub(crate) fn set_gauges(&self, storage: &GroupSignals) {
         if let Some(gauges) = storage.gauges(self.batch.worker()) {
             self.book.set_gauges(gauges);
             self.port.set_gauges(gauges);
         }
     }
 
-    /// Leaves for storage what it needs for a request that is put now: a hint of its key, if others stand before it, or, for a
-    /// `stats`, the gauges.
-    fn prepare(&self, posted: &Posted, storage: &StorageSignals)
+    /// Leaves for storage what it needs for a request that is put now: a hint of its key, if others
+    /// stand before it, or, for a `stats`, the gauges.
+    fn prepare(&self, posted: &Posted, storage: &GroupSignals)
         requires { 0 < posted.now.number }
     {
         if matches!(posted.request, Request::Stats) {
@@ -181,7 +183,8 @@ impl<P: Port> WorkerState<P> {
     }
 }
 
-/// A worker. Between steps all parts of its state agree with each other, and with the port's trace if the port tells one.
+/// A worker. Between steps all parts of its state agree with each other, and with the port's trace
+/// if the port tells one.
 #[derive(Drop)]
 pub(crate) struct Worker<P: Port> {
     pub(crate) state: WorkerState<P>,
@@ -229,8 +232,8 @@ impl<P: Port> Worker<P> {
         }
     }
 
-    /// Whether the port may wait for an event: nothing is outstanding or held back, and no session has anything to do, or none
-    /// before a client sends something or takes output.
+    /// Whether the port may wait for an event: nothing is outstanding or held back, and no session
+    /// has anything to do, or none before a client sends something or takes output.
     pub(crate) fn may_wait(&self, retries: &Retries) -> bool {
         self.state.request.is_none()
             && self.state.batch.outstanding() == 0
@@ -243,8 +246,8 @@ impl<P: Port> Worker<P> {
         self.state.book.ready(Task::RetryWrite) == 0 || retries.are_done(self.state.port.rooms())
     }
 
-    /// Takes one event of the port, for which it may wait or not, unless it has ended. None if there was none, and else
-    /// how many bytes of input it brought.
+    /// Takes one event of the port, for which it may wait or not, unless it has ended. None if
+    /// there was none, and else how many bytes of input it brought.
     pub(crate) fn take_event(&mut self, may_wait: bool) -> Option<usize>
         ensures { Continues P.told P.leads_to self.old self.new }
     {
@@ -300,7 +303,8 @@ impl<P: Port> Worker<P> {
         true
     }
 
-    /// Resumes the next session for whose large message there is room by now. True if there was one.
+    /// Resumes the next session for whose large message there is room by now. True if there was
+    /// one.
     pub(crate) fn resume_next(&mut self) -> bool
         ensures { Continues P.told P.leads_to self.old self.new }
     {
@@ -341,8 +345,8 @@ impl<P: Port> Worker<P> {
         }
     }
 
-    /// Whether no further request can be asked now: one is held, the window is full, or so much is unfinished that one
-    /// request at a time goes on.
+    /// Whether no further request can be asked now: one is held, the window is full, or so much is
+    /// unfinished that one request at a time goes on.
     pub(crate) fn is_busy(&self) -> bool
         ensures { result ≡ false → self.now.request ≡ None }
     {
@@ -351,13 +355,13 @@ impl<P: Port> Worker<P> {
             || (self.state.batch.outstanding() > 0 && self.state.book.is_crowded())
     }
 
-    /// Reads the session's next request and puts it, unless it waits. If there may be another one that can't be asked
-    /// now, the session is put into the queue of those to be asked.
+    /// Reads the session's next request and puts it, unless it waits. If there may be another one
+    /// that can't be asked now, the session is put into the queue of those to be asked.
     pub(crate) fn ask_and_put<G: Gate>(
         &mut self,
         session: u64,
         gate: &G,
-        storage: &StorageSignals,
+        storage: &GroupSignals,
     ) -> AskAgain
         requires { self.old.request ≡ None }
         ensures goes_on { Continues P.told P.leads_to self.old self.new }
@@ -377,9 +381,9 @@ impl<P: Port> Worker<P> {
         AskAgain::Now
     }
 
-    /// Puts the held request into its slot, if the gate lets it and there is room. True if something was done. The next flush
-    /// tells storage of it.
-    pub(crate) fn put_held<G: Gate>(&mut self, gate: &G, storage: &StorageSignals) -> bool
+    /// Puts the held request into its slot, if the gate lets it and there is room. True if
+    /// something was done. The next flush tells storage of it.
+    pub(crate) fn put_held<G: Gate>(&mut self, gate: &G, storage: &GroupSignals) -> bool
         ensures goes_on { Continues P.told P.leads_to self.old self.new }
         ensures put { result ≡ true → self.new.request ≡ None }
     {
@@ -428,8 +432,8 @@ impl<P: Port> Worker<P> {
         true
     }
 
-    /// Offers in one call the output of the next session that is to be taken up for the task, if it is worth it, and shuts the
-    /// session if it has finished. True if something was done.
+    /// Offers in one call the output of the next session that is to be taken up for the task, if it
+    /// is worth it, and shuts the session if it has finished. True if something was done.
     pub(crate) fn give_next(&mut self, task: Task) -> bool
         ensures { Continues P.told P.leads_to self.old self.new }
     {
@@ -454,7 +458,8 @@ impl<P: Port> Worker<P> {
         }
     }
 
-    /// Shuts a session that has ended itself, or whose input has, once all was answered and given. True if something was done.
+    /// Shuts a session that has ended itself, or whose input has, once all was answered and given.
+    /// True if something was done.
     fn finish(&mut self, session: u64, finished: Option<EndCause>) -> bool
         requires finished { finished ≡ option_and_then finished_by (session_of self.old.book session) }
         requires read { HasReadAll (session_of self.old.book session) finished }
@@ -468,9 +473,9 @@ impl<P: Port> Worker<P> {
     }
 }
 
-/// The next answer: one that was seen before, or else one that is found by a look. In this contract requests that were put
-/// count as sent.
-fn take_answer(batch: &mut WorkerBatch) -> Option<Answered>
+/// The next answer: one that was seen before, or else one that is found by a look. In this contract
+/// requests that were put count as sent.
+fn take_answer(batch: &mut WorkerLane) -> Option<Answered>
     ensures { MatchOption result (TakesNone (once_flushed batch.old) (once_flushed batch.new))
         (λ a. TakesBack (once_flushed batch.old) (once_flushed batch.new) a) }
 {

@@ -25,14 +25,15 @@ by_system_clock sizes = record { geometry = sizes; system_clock = true; may_refu
 abbrev pub by_any_clock : Sizes → Terms
 by_any_clock sizes = record { geometry = sizes; system_clock = false; may_refuse = true }
 
--- the session's requests in the history are the first of the messages', and the bytes begin what is said to these there
+-- the session's requests in the history are the first of the messages', and the bytes begin what is
+-- said to these there
 pub record BeginsAnswers (history : List Answered) (worker s : ℕ) (bytes : List ℕ) (messages : List Message) : Type 0 where
   pub first : StartsWith (asks messages) (map (λ e. e.request) (session_share history worker s))
   pub begins : StartsWith (said messages (map (λ e. e.reply) (session_share history worker s))) bytes
 
--- By this history these bytes may go after those that the session took, whatever messages those spell that came of it. The history
--- is legal, and refuses memory as the terms say. Where they say so, the clock's answers in it are readings of the system's clock
--- since one start.
+-- By this history these bytes may go after those that the session took, whatever messages those
+-- spell that came of it. The history is legal, and refuses memory as the terms say. Where they say
+-- so, the clock's answers in it are readings of the system's clock since one start.
 pub record MayBeSent (terms : Terms) (d : Dialect) (worker : ℕ) (history : List Answered) (s : ℕ) (came took bytes : List ℕ)
     : Type 0 where
   pub legal : Legal terms.geometry history
@@ -41,7 +42,8 @@ pub record MayBeSent (terms : Terms) (d : Dialect) (worker : ℕ) (history : Lis
   pub said_there : (messages : List Message) (rest : List ℕ) → Reads d came messages rest
       → BeginsAnswers history worker s (took ++ bytes) messages
 
--- by what the port tells: the history was told at its exchange, it begins with that of the last give, and these bytes may be sent
+-- by what the port tells: the history was told at its exchange, it begins with that of the last
+-- give, and these bytes may be sent
 pub record MayBeGiven (trace : PortTrace) (told_at : TableId) (history : List Answered) (s : ℕ) (bytes : List ℕ)
     : Type 0 where
   pub exchange : told_at ≡ trace.exchange
@@ -52,15 +54,16 @@ pub record MayBeGiven (trace : PortTrace) (told_at : TableId) (history : List An
 abbrev pub sent_for : List Posted → ℕ → List Request
 sent_for sent s = map (λ (p : Posted). p.request) (filter (λ (p : Posted). p.session == s) sent)
 
--- The worker w of this exchange is the port's. For each session it has sent only requests that the bytes spell which came
--- of it, from the first one on.
+-- The worker w of this exchange is the port's. For each session it has sent only requests that the
+-- bytes spell which came of it, from the first one on.
 pub record HasAskedOnly (trace : PortTrace) (sent_at : TableId) (w : ℕ) (sent : List Posted) : Type 0 where
   pub exchange : sent_at ≡ trace.exchange
   pub worker : w ≡ trace.worker
   pub asked : (s : ℕ) (messages : List Message) (rest : List ℕ) → Reads trace.dialect (fed s trace.events) messages rest
       → StartsWith (asks messages) (sent_for sent s)
 
--- The exchange, the terms and the number are those of the worker's end, and its history begins with that of the last give.
+-- The exchange, the terms and the number are those of the worker's end, and its history begins with
+-- that of the last give.
 pub record IsOf (exchange : TableId) (worker : ℕ) (terms : Terms) (history : List Answered) (end : WorkerView) : Type 0 where
   pub exchange_is : exchange ≡ end.exchange
   pub worker_is : worker ≡ end.worker

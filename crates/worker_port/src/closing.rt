@@ -11,6 +11,7 @@ pub enum CloseReason {
     Idle,
     /// There is no memory for what it sends or is owed.
     Memory,
-    /// Its client took no output, or sent no more of a large message, while others waited for the memory.
+    /// Its client took no output, or sent no more of a large message, while others waited for the
+    /// memory.
     Stalled,
 }

@@ -1,5 +1,6 @@
-//! A stream that knows, for clauses alone, which bytes were read from it, which of these were told, and which it took. Its calls
-//! are proved for any stream inside, so they can't alter, drop or double a byte of it; no clause says what a socket delivers.
+//! A stream that knows, for clauses alone, which bytes were read from it, which of these were told,
+//! and which it took. Its calls are proved for any stream inside, so they can't alter, drop or
+//! double a byte of it; no clause says what a socket delivers.
 
 ghost use Rattle.std.specs.Prelude.{◌≡◌, ◌≤◌, ◌<◌, ◌++◌, ◌∷◌, [], false, not, ◌==◌, length, take};
 ghost use Rattle.std.specs.Prelude.{IfOk, IfSome, OnErr, MatchResult};
@@ -15,7 +16,7 @@ use crate::peer::Peer;
 use crate::read_memory::ReadMemory;
 use crate::streams::Owner;
 use bytes::{Bytes, BytesMut};
-use exchange::{ExchangeName, WorkerBatch};
+use exchange::{ExchangeName, WorkerLane};
 use proto::{Noted, Trace};
 use std::io::{self, Read, Write};
 use std::snapshot::Snapshot;
@@ -98,17 +99,18 @@ impl<S: Read + Write + Drop> LoggedStream<S> {
         !self.ahead.is_empty()
     }
 
-    /// What was read stands first in the buffer, and is told. A read of no bytes is the end of the input. While it reads, what its
-    /// worker, one of the stream's exchange, has sent for this session are the first of the requests that the bytes spell which
-    /// were read before.
+    /// What was read stands first in the buffer, and is told. A read of no bytes is the end of the
+    /// input. While it reads, what its worker, one of the stream's exchange, has sent for this
+    /// session are the first of the requests that the bytes spell which were read before.
     pub(crate) fn read(
         &mut self,
         _owner: Owner,
         _session: u64,
-        _sender: &WorkerBatch,
+        _sender: &WorkerLane,
         buf: &mut [u8],
     ) -> io::Result<usize>
-        requires whose { (_sender.now.end.worker ≡ _owner.worker) × (_sender.now.end.exchange ≡ self.old.exchange.value) }
+        requires whose { (_sender.now.end.worker ≡ _owner.worker)
+            × (_sender.now.end.exchange ≡ self.old.exchange.value) }
         requires asked { (messages : List Message) (rest : List ℕ)
             → Reads _owner.dialect self.old.received.items messages rest
             → StartsWith (asks messages) (sent_for _sender.now.end.sent _session) }
@@ -137,17 +139,18 @@ impl<S: Read + Write + Drop> LoggedStream<S> {
         answer
     }
 
-    /// Reads into a block of memory, of which the bytes that came become what is ahead. It says how many they are, as `read` does,
-    /// or None if out of memory: they are lost then.
+    /// Reads into a block of memory, of which the bytes that came become what is ahead. It says how
+    /// many they are, as `read` does, or None if out of memory: they are lost then.
     pub(crate) fn read_ahead(
         &mut self,
         _owner: Owner,
         _session: u64,
-        _sender: &WorkerBatch,
+        _sender: &WorkerLane,
         mut block: BytesMut,
         memory: &mut ReadMemory,
     ) -> io::Result<Option<usize>>
-        requires whose { (_sender.now.end.worker ≡ _owner.worker) × (_sender.now.end.exchange ≡ self.old.exchange.value) }
+        requires whose { (_sender.now.end.worker ≡ _owner.worker)
+            × (_sender.now.end.exchange ≡ self.old.exchange.value) }
         requires asked { (messages : List Message) (rest : List ℕ)
             → Reads _owner.dialect self.old.received.items messages rest
             → StartsWith (asks messages) (sent_for _sender.now.end.sent _session) }
@@ -166,7 +169,9 @@ impl<S: Read + Write + Drop> LoggedStream<S> {
         ensures origin { self.new.origin.items ≡ self.old.origin.items }
         ensures exchange { self.new.exchange.value ≡ self.old.exchange.value }
         ensures given { MatchResult result
-            (λ came. IfSome came (λ n. Consumes (S.remaining self.old.stream) (S.remaining self.new.stream) self.new.ahead
+            (λ came. IfSome came
+            (λ n. Consumes (S.remaining self.old.stream) (S.remaining self.new.stream)
+            self.new.ahead
             × (n ≡ 0 → IsAtEnd (S.remaining self.new.stream))))
             (λ _. Keeps (S.remaining self.old.stream) (S.remaining self.new.stream)) }
     {
@@ -200,8 +205,9 @@ impl<S: Read + Write + Drop> LoggedStream<S> {
         Some(piece)
     }
 
-    /// It took the first of the bytes. In the history that its worker was told of, which is one of the stream's exchange, they are
-    /// due to this session by what was read from it and what it took before.
+    /// It took the first of the bytes. In the history that its worker was told of, which is one of
+    /// the stream's exchange, they are due to this session by what was read from it and what it
+    /// took before.
     pub(crate) fn write(
         &mut self,
         _owner: Owner,
@@ -210,7 +216,8 @@ impl<S: Read + Write + Drop> LoggedStream<S> {
         _history: &ToldHistory,
     ) -> io::Result<usize>
         requires exchange { _history.now.exchange ≡ self.old.exchange.value }
-        requires due { MayBeSent (by_system_clock _owner.geometry) _owner.dialect _owner.worker _history.now.items _session
+        requires due { MayBeSent (by_system_clock _owner.geometry) _owner.dialect _owner.worker
+            _history.now.items _session
             self.old.received.items self.old.sent.items bytes.now }
         ensures within { IfOk result (λ n. n ≤ length bytes.now) }
         ensures sent { IfOk result (λ n. self.new.sent.items ≡ self.old.sent.items ++ take n bytes.now) }

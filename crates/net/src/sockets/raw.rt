@@ -14,8 +14,8 @@ use std::net::{Net, Shutdown, SocketAddr};
 use std::os::fd::OwnedFd;
 use std::os::unix::fs::{FileTypeExt, PermissionsExt};
 
-/// A raw stream. One of a path is of the same type as one of TCP, which alone can look at what came and leave it there: the
-/// system calls take either.
+/// A raw stream. One of a path is of the same type as one of TCP, which alone can look at what came
+/// and leave it there: the system calls take either.
 #[derive(Drop)]
 pub(crate) enum RawStream {
     Tcp(TcpStream),
@@ -100,7 +100,8 @@ impl RawListener {
         }
     }
 
-    /// Binds a path, whose file gets this mode. An old socket there that nobody listens on is replaced.
+    /// Binds a path, whose file gets this mode. An old socket there that nobody listens on is
+    /// replaced.
     pub(crate) fn bind_path<R: Net + Files>(
         rt: &R,
         path: &str,

@@ -51,8 +51,8 @@ fn push_first_answer<E: StorageEngine>(
     }
 }
 
-/// What the store answers to the text of one request at the moment; nothing where that isn't one, or the moment has
-/// gone by.
+/// What the store answers to the text of one request at the moment; nothing where that isn't one,
+/// or the moment has gone by.
 pub fn answer<E: StorageEngine>(
     alloc: Global,
     store: &mut E,

@@ -1,5 +1,5 @@
-//! Random requests, which the segmented store is to answer as the plain one does: what is live fits into one segment,
-//! so merges keep all of it, or there is always a segment without a live item.
+//! Random requests, which the segmented store is to answer as the plain one does: what is live fits
+//! into one segment, so merges keep all of it, or there is always a segment without a live item.
 
 use crate::cache::asking::answer;
 use crate::cache::random::Random;
@@ -176,7 +176,8 @@ fn compare_with_plain(
     compare(rt, alloc, segmented, &mut plain, lives)
 }
 
-/// The answers are the plain store's. The items that are written take some twenty times the segments' bytes.
+/// The answers are the plain store's. The items that are written take some twenty times the
+/// segments' bytes.
 #[test]
 fn nothing_is_forgotten(rt: HostRuntime) -> Result<(), Fail> {
     let geometry = Geometry::new(16_384, 8)?;
@@ -199,8 +200,8 @@ fn nothing_is_forgotten_of_what_is_read(rt: HostRuntime) -> Result<(), Fail> {
     compare_with_plain(&rt, rt.alloc(), &mut segmented, geometry, 0)
 }
 
-/// So they are with TTLs of up to 29 seconds, where deadlines are kept to the second. There are more segments than keys, so there
-/// is always one without a live item.
+/// So they are with TTLs of up to 29 seconds, where deadlines are kept to the second. There are
+/// more segments than keys, so there is always one without a live item.
 #[test]
 fn ttls_are_kept_to_the_second(rt: HostRuntime) -> Result<(), Fail> {
     let geometry = Geometry::new(16_384, 32)?;

@@ -31,7 +31,8 @@ fn capacity_of(buffer: Option<SpareBuffer>) -> Option<usize> {
     Some(buffer?.into_bytes().capacity())
 }
 
-/// The capacity of the buffer that the request hands back, and of the one that comes back with the reply.
+/// The capacity of the buffer that the request hands back, and of the one that comes back with the
+/// reply.
 fn buffers_back(
     alloc: Global,
     store: &mut Store,

@@ -80,7 +80,8 @@ fn put_stored(store: &mut Store, request: &mut Request) -> Option<bool> {
     says_stored(&reply)
 }
 
-/// Whether a key and a value of these lengths are stored, or are too large; None for another answer.
+/// Whether a key and a value of these lengths are stored, or are too large; None for another
+/// answer.
 fn is_stored(
     alloc: Global,
     store: &mut Store,
@@ -115,8 +116,9 @@ fn check_lengths(
     Ok(())
 }
 
-/// The lengths of a key and of a value, and whether they are stored. Keys have 1 to 250 bytes, and an item an eighth
-/// of a segment at most: 24 bytes, the key and the value, rounded up to a multiple of 8.
+/// The lengths of a key and of a value, and whether they are stored. Keys have 1 to 250 bytes, and
+/// an item an eighth of a segment at most: 24 bytes, the key and the value, rounded up to a
+/// multiple of 8.
 const LENGTHS: [(usize, usize, bool); 8] = [
     (0, 1, false),
     (1, 1, true),

@@ -112,7 +112,8 @@ fn fill(alloc: Global, stock: &mut Stock) -> Result<(), Fail> {
     Ok(())
 }
 
-/// Of 32 moves the first 24 forget an item, and the others put theirs one after another into the first segment.
+/// Of 32 moves the first 24 forget an item, and the others put theirs one after another into the
+/// first segment.
 fn check_moves(rt: &impl Abort, moves: &[Move], segment: u32) {
     assert!(rt; moves.len() == 32, "moves");
     for (k, step) in moves.iter().enumerate() {

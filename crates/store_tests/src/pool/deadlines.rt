@@ -4,8 +4,9 @@ use crate::pool::run::Step::{self, Deadline, Empty, Hits, Made, Segment, Write, 
 use crate::pool::run::play_each;
 use std::test::Fail;
 
-/// A time to live of 16 seconds is of bucket 2, whose lower end is 16 and whose width is 8. The tail opened at 1000
-/// is closed from 1008 on, and its deadline is 1016. The one opened at 1009 ends at 1025.
+/// A time to live of 16 seconds is of bucket 2, whose lower end is 16 and whose width is 8. The
+/// tail opened at 1000 is closed from 1008 on, and its deadline is 1016. The one opened at 1009
+/// ends at 1025.
 const ONE_WIDTH: [Step; 10] = [
     WriteFor(16, 1000, 1),
     WriteFor(16, 1003, 1),
@@ -28,8 +29,9 @@ const REWRITTEN: [Step; 5] = [
     Deadline(3, None),
 ];
 
-/// The times to live 8, 16 and so on to 72 are of the buckets 1 to 9, so the first eight writes take a segment each.
-/// For the ninth no chain has two segments, and the segment that was opened first is cleared.
+/// The times to live 8, 16 and so on to 72 are of the buckets 1 to 9, so the first eight writes
+/// take a segment each. For the ninth no chain has two segments, and the segment that was opened
+/// first is cleared.
 const NINE_BUCKETS: [Step; 11] = [
     WriteFor(8, 1000, 1),
     WriteFor(16, 1000, 1),
@@ -53,8 +55,9 @@ const AT_THE_DEADLINE: [Step; 5] = [
     Deadline(65, Some(1032)),
 ];
 
-/// Three segments were opened at 1000 and five at 1008. The front of the chain is the first three, since the
-/// next has another deadline: of the writes 1 to 24 the last 8 stay, and they keep their deadline.
+/// Three segments were opened at 1000 and five at 1008. The front of the chain is the first three,
+/// since the next has another deadline: of the writes 1 to 24 the last 8 stay, and they keep their
+/// deadline.
 const ONE_DEADLINE: [Step; 7] = [
     WriteFor(16, 1000, 24),
     WriteFor(16, 1008, 41),
@@ -65,10 +68,10 @@ const ONE_DEADLINE: [Step; 7] = [
     Made(0, 1, 0),
 ];
 
-/// Bucket 2 has the six segments of the writes 1 to 48, and the bucket without deadlines those of 49 to 64. The
-/// 65th write merges the first four of bucket 2, from which 25 to 32 stay. The writes up to 88 fill the three
-/// segments that became free. The 89th looks on after bucket 2, though two segments there could be merged again:
-/// it merges those of 49 to 80, from which 73 to 80 stay.
+/// Bucket 2 has the six segments of the writes 1 to 48, and the bucket without deadlines those of
+/// 49 to 64. The 65th write merges the first four of bucket 2, from which 25 to 32 stay. The writes
+/// up to 88 fill the three segments that became free. The 89th looks on after bucket 2, though two
+/// segments there could be merged again: it merges those of 49 to 80, from which 73 to 80 stay.
 const IN_TURNS: [Step; 6] = [
     WriteFor(16, 1000, 48),
     Write(17),

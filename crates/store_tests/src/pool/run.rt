@@ -1,8 +1,8 @@
 //! Runs of writes, each given by a table of steps.
 //!
-//! An item has the key k001, k002 and so on. With a value of 476 bytes and the 24 bytes before both it has
-//! 24 + 4 + 476 = 504 bytes, a multiple of 8. A segment of 4,096 bytes holds eight of them, 4,032 bytes, and the
-//! 64 bytes that are left hold none.
+//! An item has the key k001, k002 and so on. With a value of 476 bytes and the 24 bytes before both
+//! it has 24 + 4 + 476 = 504 bytes, a multiple of 8. A segment of 4,096 bytes holds eight of them,
+//! 4,032 bytes, and the 64 bytes that are left hold none.
 
 use crate::pool::stock::Stock;
 use crate::pool::writes::Writes;
@@ -11,7 +11,8 @@ use std::alloc::Global;
 use std::process::Abort;
 use std::test::Fail;
 
-/// What is done, or what has to be there. Writes have the numbers 1, 2 and so on; ranges have both their ends.
+/// What is done, or what has to be there. Writes have the numbers 1, 2 and so on; ranges have both
+/// their ends.
 #[derive(Clone, Copy)]
 pub enum Step {
     /// This number of writes with values of 476 bytes and no deadline, at the moment 1000.
@@ -25,13 +26,15 @@ pub enum Step {
     Forget(usize, usize),
     /// Exactly the writes of these two ranges are there, with their keys and values.
     Hits(usize, usize, usize, usize),
-    /// The segment of the first write has it and then those of the range, in order and nothing else.
+    /// The segment of the first write has it and then those of the range, in order and nothing
+    /// else.
     Segment(usize, usize, usize),
     Reads(usize, u8),
     Deadline(usize, Option<u64>),
     /// This number of segments has no item.
     Empty(usize),
-    /// How many segments were given back since they had no current item, how many merges were made, and how many clears.
+    /// How many segments were given back since they had no current item, how many merges were made,
+    /// and how many clears.
     Made(usize, usize, usize),
 }
 
@@ -46,8 +49,8 @@ pub struct Run {
     clears: usize,
 }
 
-/// Checks that this holds, and else names what doesn't, and at which write or number. Its proof, with that of the text, is
-/// made once.
+/// Checks that this holds, and else names what doesn't, and at which write or number. Its proof,
+/// with that of the text, is made once.
 pub fn check(rt: &impl Abort, holds: bool, what: &str, place: usize) {
     assert!(rt; holds, "{what} at {place}");
 }
@@ -80,7 +83,8 @@ impl Run {
         })
     }
 
-    /// Makes room: dead segments are given back, or else a chain is merged, or else the oldest segment cleared.
+    /// Makes room: dead segments are given back, or else a chain is merged, or else the oldest
+    /// segment cleared.
     fn make_room(&mut self, moment: u64) {
         for segment in 0..self.stock.geometry.segments() {
             self.stock.expire(segment, moment);
@@ -188,7 +192,8 @@ impl Run {
         Ok(())
     }
 
-    /// The segment of the first write has it, then those of the range, each where the one before it ends.
+    /// The segment of the first write has it, then those of the range, each where the one before it
+    /// ends.
     fn check_segment(
         &self,
         rt: &impl Abort,

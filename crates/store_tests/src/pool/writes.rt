@@ -3,7 +3,8 @@
 use segments::{Move, Place};
 use std::alloc::{AllocError, Global};
 
-/// The place of each write by its cas number, none where it was forgotten. The first write has the number 1.
+/// The place of each write by its cas number, none where it was forgotten. The first write has the
+/// number 1.
 #[derive(Drop)]
 pub struct Writes {
     places: Vec<Option<Place>>,

@@ -1,5 +1,5 @@
-//! Storage tells a worker of its answers at each eighth. The test finds storage that tells them only once it has answered all
-//! that it saw.
+//! Storage tells a worker of its answers at each eighth. The test finds storage that tells them
+//! only once it has answered all that it saw.
 
 use crate::groups::keeping_port::KeepingPort;
 use crate::groups::running::run;
@@ -53,7 +53,8 @@ impl Gate for TakenAnswers {
     }
 }
 
-/// It is 1000 at all times. Behind each eighth request it says so only once the worker took all answers before.
+/// It is 1000 at all times. Behind each eighth request it says so only once the worker took all
+/// answers before.
 #[derive(Drop)]
 struct WaitingClock<'a, R: Drop> {
     rt: R,

@@ -1,11 +1,12 @@
 //! A port that sends its bytes and keeps what it is given.
 
 use bytes::Bytes;
-use exchange::WorkerBatch;
+use exchange::WorkerLane;
 use std::alloc::Global;
 use worker_port::{Gone, Port, PortEvent, ToldHistory};
 
-/// Opens session 1, sends it some bytes, and ends. It keeps what is given, and whether a session was shut.
+/// Opens session 1, sends it some bytes, and ends. It keeps what is given, and whether a session
+/// was shut.
 #[derive(Drop)]
 pub(crate) struct KeepingPort {
     input: Option<Bytes>,
@@ -32,7 +33,7 @@ impl Port for KeepingPort {
 
     ghost leads_to = { λ _ _. Unit {0} };
 
-    fn next(&mut self, _may_wait: bool, _sender: &WorkerBatch) -> PortEvent {
+    fn next(&mut self, _may_wait: bool, _sender: &WorkerLane) -> PortEvent {
         if !self.is_open {
             self.is_open = true;
             return PortEvent::Opened(1);

@@ -1,4 +1,5 @@
-//! A gate and a clock that wait for each other, so that eight workers and storage have to run side by side.
+//! A gate and a clock that wait for each other, so that eight workers and storage have to run side
+//! by side.
 
 use proto::{Clock, ClockAnswer};
 use std::sync::atomic::{AtomicBool, AtomicU64, Ordering};
@@ -80,8 +81,8 @@ impl Meeting {
     }
 }
 
-/// Each request 1 stays until all eight came. Request 2 is held until the clock was asked: a worker tells storage of its
-/// request 1 only once its turn goes on.
+/// Each request 1 stays until all eight came. Request 2 is held until the clock was asked: a worker
+/// tells storage of its request 1 only once its turn goes on.
 impl Gate for Meeting {
     fn may_post(&self, worker: usize, number: u64) -> bool {
         if worker < 8 && number == 1 {
@@ -97,7 +98,8 @@ impl Gate for Meeting {
     fn answered(&self, _worker: usize, _number: u64) {}
 }
 
-/// It is 1000 at all times. When it is asked for the first time it stays until request 2 of all eight workers came.
+/// It is 1000 at all times. When it is asked for the first time it stays until request 2 of all
+/// eight workers came.
 #[derive(Drop)]
 pub(crate) struct MeetingClock<'a> {
     pub(crate) meeting: &'a Meeting,

@@ -1,5 +1,5 @@
-//! Requests that come one at a time: a worker that doesn't wake a storage thread that has parked is seen, and storage that
-//! doesn't wake a worker that has.
+//! Requests that come one at a time: a worker that doesn't wake a storage thread that has parked is
+//! seen, and storage that doesn't wake a worker that has.
 
 ghost use Rattle.std.specs.Prelude.{◌≡◌, [], Some, IsSome};
 
@@ -7,7 +7,7 @@ use crate::clock::SteadyClock;
 use crate::groups::running;
 use crate::groups::running::EACH_STORAGE;
 use bytes::Bytes;
-use exchange::WorkerBatch;
+use exchange::WorkerLane;
 use proto::{Clock as Moments, ClockAnswer, Storage};
 use std::alloc::Global;
 use std::process::Abort;
@@ -24,7 +24,8 @@ const REQUESTS: usize = 200;
 /// What each of them is answered.
 const ANSWER: &[u8] = b"END\r\n";
 
-/// The pause before each request, or in the midst of it, in milliseconds. A thread that isn't woken sleeps for some 100.
+/// The pause before each request, or in the midst of it, in milliseconds. A thread that isn't woken
+/// sleeps for some 100.
 const PAUSE_MILLIS: u64 = 2;
 
 /// So long all of them may take.
@@ -55,7 +56,8 @@ impl<R: Clock + Drop> Moments for SlowClock<R> {
     }
 }
 
-/// Opens session 1, sends it a request so long after the one before was answered, and ends after the last answer.
+/// Opens session 1, sends it a request so long after the one before was answered, and ends after
+/// the last answer.
 #[derive(Drop)]
 struct OneAtATime<R: Drop> {
     rt: R,
@@ -73,7 +75,7 @@ impl<R: Clock + Drop> Port for OneAtATime<R> {
 
     ghost leads_to = { λ _ _. Unit {0} };
 
-    fn next(&mut self, _may_wait: bool, _sender: &WorkerBatch) -> PortEvent {
+    fn next(&mut self, _may_wait: bool, _sender: &WorkerLane) -> PortEvent {
         if !self.is_open {
             self.is_open = true;
             return PortEvent::Opened(1);

@@ -83,7 +83,8 @@ where
     run_group(rt, alloc, ports, exchange, config, store, clock, gate).expect(rt, "a run")
 }
 
-/// Each worker's session 1 was given the whole output for its key, and was open until the port ended.
+/// Each worker's session 1 was given the whole output for its key, and was open until the port
+/// ended.
 pub(crate) fn are_complete<R: Abort>(
     rt: &R,
     alloc: Global,

@@ -72,7 +72,8 @@ fn unread_bytes_end_at_their_limit(rt: HostRuntime) -> Result<(), Fail> {
     )
 }
 
-/// A block of 8 MiB comes to session 1, all but its last bytes, in pieces of 131,072 bytes: each of them fits.
+/// A block of 8 MiB comes to session 1, all but its last bytes, in pieces of 131,072 bytes: each of
+/// them fits.
 fn drop_block(rt: &impl Abort, alloc: Global, book: &mut Book) -> Result<(), Fail> {
     book.open(1)?;
     let line = Bytes::from_static(b"set a 0 0 8388608\r\n");
@@ -85,7 +86,8 @@ fn drop_block(rt: &impl Abort, alloc: Global, book: &mut Book) -> Result<(), Fai
     Ok(())
 }
 
-/// What comes behind is kept as if the block had never come: of these pieces the first two bytes still belong to it.
+/// What comes behind is kept as if the block had never come: of these pieces the first two bytes
+/// still belong to it.
 const BEHIND: [(usize, Received); 3] = [
     (262_144, Received::Fed),
     (2, Received::Fed),
@@ -152,7 +154,8 @@ fn value_of(alloc: Global, length: usize) -> Result<Reply, Fail> {
     Ok(Reply::Values(hits.finish()))
 }
 
-/// The length of a value, that of the output which shows it, and whether the session is read while it waits.
+/// The length of a value, that of the output which shows it, and whether the session is read while
+/// it waits.
 const OUTPUTS: [(usize, usize, bool); 3] = [
     (1_048_549, 1_048_575, true),
     (1_048_550, 1_048_576, true),

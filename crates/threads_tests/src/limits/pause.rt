@@ -6,7 +6,7 @@ ghost use Rattle.script.specs.States.{trace_told};
 
 use crate::serving::{exchange_of_one, sizes};
 use bytes::Bytes;
-use exchange::WorkerBatch;
+use exchange::WorkerLane;
 use proto::Dialect;
 use script::{ScriptEvent, ScriptPort};
 use std::alloc::Global;
@@ -14,7 +14,7 @@ use std::process::Abort;
 use std::test::Fail;
 use worker_port::{Port, PortEvent};
 
-fn is_next(rt: &impl Abort, port: &mut ScriptPort, sender: &WorkerBatch, wanted: &str) {
+fn is_next(rt: &impl Abort, port: &mut ScriptPort, sender: &WorkerLane, wanted: &str) {
     let event = port.next(false, sender);
     let holds = match &event {
         PortEvent::Opened(2) => wanted == "opened",
@@ -31,7 +31,7 @@ fn with_session_1(
     rt: &impl Abort,
     alloc: Global,
     events: Vec<ScriptEvent>,
-) -> (ScriptPort, WorkerBatch)
+) -> (ScriptPort, WorkerLane)
     ensures { (trace : PortTrace) → trace_told result.0 ≡ Some trace → is_open 1 trace.events ≡ true }
 {
     let geometry = sizes(rt);

@@ -14,8 +14,8 @@ use std::thread::Threads;
 use std::time;
 use worker::OpenGate;
 
-/// The size and the number of a store's segments; and the bytes of a value, how many keys stand in a line that asks
-/// for it, and how many such lines there are.
+/// The size and the number of a store's segments; and the bytes of a value, how many keys stand in
+/// a line that asks for it, and how many such lines there are.
 type Row = ((u32, u32), (usize, usize, usize));
 
 /// As many keys as a line of 2,048 bytes has room for.
@@ -65,7 +65,8 @@ fn check_straight<R: Abort>(rt: &R, alloc: Global, case: &Case) {
     }
 }
 
-/// The most bytes that a give accepts, and the give at which the peer is gone; 0 is none for either.
+/// The most bytes that a give accepts, and the give at which the peer is gone; 0 is none for
+/// either.
 type Faults = (usize, u64);
 
 /// A port that plays the script was given what each session of the case should be.
@@ -93,8 +94,8 @@ fn check_worker<R: Abort + Threads + Wait + time::Clock + Copy + Drop + Send + S
     check_port(rt, &served.port, case);
 }
 
-/// Each of `sessions` sessions is given what it asked for: by the plain program; by a worker, in at most as many gives as there
-/// are lines; and by a worker whose port accepts little at once.
+/// Each of `sessions` sessions is given what it asked for: by the plain program; by a worker, in at
+/// most as many gives as there are lines; and by a worker whose port accepts little at once.
 fn check_run<R: Abort + Threads + Wait + time::Clock + Copy + Drop + Send + Sync + 'static>(
     rt: &R,
     alloc: Global,

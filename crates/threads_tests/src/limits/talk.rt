@@ -49,7 +49,8 @@ pub(crate) fn output_of<R: Abort>(rt: &R, alloc: Global, shape: Shape) -> Vec<u8
     output
 }
 
-/// The script of `sessions` sessions at worker 0 that are all open at the same time and send the same bytes.
+/// The script of `sessions` sessions at worker 0 that are all open at the same time and send the
+/// same bytes.
 pub(crate) fn script_of<R: Abort>(rt: &R, alloc: Global, sessions: u64, input: &[u8]) -> Vec<u8> {
     let sent = hex::encode(alloc, input).expect(rt, "memory");
     let mut script = Vec::new(alloc);

@@ -1,11 +1,12 @@
-//! How many requests a worker has on their way while much is unfinished, and which wait while much output does.
+//! How many requests a worker has on their way while much is unfinished, and which wait while much
+//! output does.
 
 use crate::limits::talk::set_of;
 use crate::same::check_same;
 use crate::serving::{serve_untold, sizes};
 use crate::texts::add_get;
 use bytes::Bytes;
-use exchange::WorkerBatch;
+use exchange::WorkerLane;
 use proto::Geometry;
 use std::alloc::Global;
 use std::collections::VecDeque;
@@ -45,7 +46,8 @@ struct StepPort {
     /// How many bytes that was when it looked.
     seen: usize,
     given: usize,
-    /// How many bytes were accepted since it was asked for an event, and how many that were at most.
+    /// How many bytes were accepted since it was asked for an event, and how many that were at
+    /// most.
     in_turn: usize,
     most_in_turn: usize,
     /// How many sessions were shut.
@@ -89,7 +91,7 @@ impl Port for StepPort {
 
     ghost leads_to = { λ _ _. Unit {0} };
 
-    fn next(&mut self, _may_wait: bool, _sender: &WorkerBatch) -> PortEvent {
+    fn next(&mut self, _may_wait: bool, _sender: &WorkerLane) -> PortEvent {
         self.in_turn = 0;
         if self.has_ended || self.waits() {
             return PortEvent::Idle;
@@ -142,8 +144,8 @@ impl Port for StepPort {
     ghost leads_transitive = { λ _ _ _ _ _. tt };
 }
 
-/// Lets each request pass, and keeps how many were on their way at most, that one included: of the requests before the
-/// number `second`, without those before `first`, and of those from there on.
+/// Lets each request pass, and keeps how many were on their way at most, that one included: of the
+/// requests before the number `second`, without those before `first`, and of those from there on.
 #[derive(Drop)]
 struct CountingGate {
     first: u64,
@@ -227,8 +229,9 @@ fn lines_of<R: Abort>(rt: &R, alloc: Global, lines: usize, keys: usize) -> Vec<u
     bytes
 }
 
-/// How many keys stand in a line, how many such lines come in a piece, and how many of them are on their way at most. No line is
-/// asked while those on their way have more than 255: the hits of 255 keys and one more answer fit into 64 MiB.
+/// How many keys stand in a line, how many such lines come in a piece, and how many of them are on
+/// their way at most. No line is asked while those on their way have more than 255: the hits of 255
+/// keys and one more answer fit into 64 MiB.
 const KEYS: [(usize, usize, u64); 9] = [
     (1, 100, 64),
     (3, 100, 64),
@@ -283,8 +286,9 @@ enum Ending {
     Go,
 }
 
-/// Three sessions that accept nothing ask for one value of `value` bytes by `keys` keys in a line. Before it session 2 asks for a
-/// missing key in `misses` lines; the others ask once it was offered its answer, so that the worker knows what a key takes.
+/// Three sessions that accept nothing ask for one value of `value` bytes by `keys` keys in a line.
+/// Before it session 2 asks for a missing key in `misses` lines; the others ask once it was offered
+/// its answer, so that the worker knows what a key takes.
 #[derive(Clone, Copy)]
 struct Unread {
     value: usize,
@@ -363,8 +367,8 @@ fn add_single_requests<R: Abort + Copy + Drop>(steps: &mut Steps<R>) {
     }
 }
 
-/// Session 1 sends 20 requests in turn while the output of the others waits, and 20 more at once when it doesn't. How many bytes
-/// the others accept.
+/// Session 1 sends 20 requests in turn while the output of the others waits, and 20 more at once
+/// when it doesn't. How many bytes the others accept.
 fn add_unread<R: Abort + Copy + Drop>(
     steps: &mut Steps<R>,
     unread: &Unread,
@@ -398,7 +402,8 @@ where
     assert!(*rt; port.most_in_turn < most.saturating_add(1_048_576));
 }
 
-/// Once one session's output of more than 1 MiB was given again in a turn, the others' waits for the next one.
+/// Once one session's output of more than 1 MiB was given again in a turn, the others' waits for
+/// the next one.
 #[test]
 fn above_64_mib_of_output_large_answers_wait(rt: HostRuntime) {
     for unread in &UNREAD {

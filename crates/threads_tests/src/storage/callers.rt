@@ -9,7 +9,7 @@ use crate::clock::CountingClock;
 use crate::same::check_same;
 use crate::signals::signals_of;
 use crate::storage::ends::{ask, made};
-use exchange::{Gathered, StorageEnd, StorageSignals, WorkerEnd, gather};
+use exchange::{Gathered, GroupSignals, StorageEnd, WorkerEnd, gather};
 use segcache::Store;
 use std::alloc::Global;
 use std::process::Abort;
@@ -25,7 +25,8 @@ const CALLERS: usize = 8;
 
 const REQUESTS: u64 = 10_000;
 
-/// The number of the answer that is taken, if there is one; it is counted where it is one above the last.
+/// The number of the answer that is taken, if there is one; it is counted where it is one above the
+/// last.
 fn take(end: &mut WorkerEnd, last: u64, good: &AtomicU64) -> Option<u64>
     ensures { (end.new.exchange ≡ end.old.exchange) × (end.new.worker ≡ end.old.worker) }
 {
@@ -49,13 +50,14 @@ fn leave(end: &mut WorkerEnd) -> bool
     true
 }
 
-/// Posts all requests, takes all answers and says bye. Counts the answers whose number is one above the last.
+/// Posts all requests, takes all answers and says bye. Counts the answers whose number is one above
+/// the last.
 fn call<R: Wait>(
     rt: &R,
     alloc: Global,
     end: &mut WorkerEnd,
     good: &AtomicU64,
-    signals: &StorageSignals,
+    signals: &GroupSignals,
 )
     ensures { (end.new.exchange ≡ end.old.exchange) × (end.new.worker ≡ end.old.worker) }
 {

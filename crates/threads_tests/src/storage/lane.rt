@@ -105,8 +105,8 @@ fn takes_first(end: &mut WorkerEnd) -> Option<bool> {
     }
 }
 
-/// 64 requests are sent, and the next one is handed back. Once one of them was taken and answered and its answer taken, one
-/// more is sent, and the next is handed back.
+/// 64 requests are sent, and the next one is handed back. Once one of them was taken and answered
+/// and its answer taken, one more is sent, and the next is handed back.
 fn check_room(
     rt: &impl Abort,
     alloc: Global,

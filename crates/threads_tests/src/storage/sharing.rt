@@ -2,7 +2,7 @@
 
 use crate::same::check_same;
 use crate::signals::signals_of;
-use exchange::StorageSignals;
+use exchange::GroupSignals;
 use std::alloc::Global;
 use std::process::Abort;
 use std::sync::atomic::{AtomicBool, AtomicU64, Ordering};
@@ -41,7 +41,7 @@ impl Serve for EmptySide {
     fn serve_turn<R: time::Clock>(
         &mut self,
         _rt: &R,
-        _signals: &StorageSignals,
+        _signals: &GroupSignals,
         _own: usize,
     ) -> bool {
         if self.progress.turns.fetch_add(1, Ordering::SeqCst) == 0 {
@@ -54,12 +54,12 @@ impl Serve for EmptySide {
     fn serve_until_idle<R: Wait + time::Clock>(
         &mut self,
         _rt: &R,
-        _signals: &StorageSignals,
+        _signals: &GroupSignals,
     ) -> bool {
         false
     }
 
-    fn serve_to_end<R: Wait + time::Clock>(&mut self, _rt: &R, _signals: &StorageSignals) {}
+    fn serve_to_end<R: Wait + time::Clock>(&mut self, _rt: &R, _signals: &GroupSignals) {}
 
     fn is_done(&self) -> bool {
         false
@@ -77,7 +77,7 @@ impl Serve for SaidSide {
     fn serve_turn<R: time::Clock>(
         &mut self,
         _rt: &R,
-        _signals: &StorageSignals,
+        _signals: &GroupSignals,
         _own: usize,
     ) -> bool {
         self.may_leave
@@ -86,12 +86,12 @@ impl Serve for SaidSide {
     fn serve_until_idle<R: Wait + time::Clock>(
         &mut self,
         _rt: &R,
-        _signals: &StorageSignals,
+        _signals: &GroupSignals,
     ) -> bool {
         false
     }
 
-    fn serve_to_end<R: Wait + time::Clock>(&mut self, _rt: &R, _signals: &StorageSignals) {}
+    fn serve_to_end<R: Wait + time::Clock>(&mut self, _rt: &R, _signals: &GroupSignals) {}
 
     fn is_done(&self) -> bool {
         self.is_done

@@ -1,4 +1,5 @@
-//! When a gate that holds workers opens for good, and which answers let request 2 of a worker pass it.
+//! When a gate that holds workers opens for good, and which answers let request 2 of a worker pass
+//! it.
 
 use crate::same::check_same;
 use std::process::Abort;
@@ -38,7 +39,8 @@ fn answers_let_pass(rt: HostRuntime) {
     assert!(rt; !gate.spent());
 }
 
-/// The answer that is told, by worker and number; the worker whose request 2 comes then; whether it passes.
+/// The answer that is told, by worker and number; the worker whose request 2 comes then; whether it
+/// passes.
 const ROWS: [(usize, u64, usize, bool); 12] = [
     (0, 0, 0, false),
     (0, 1, 0, false),

@@ -1,12 +1,12 @@
-//! A port whose session stays open until all answers came: at one that ends by itself the walk at the end serves a
-//! session that was forgotten.
+//! A port whose session stays open until all answers came: at one that ends by itself the walk at
+//! the end serves a session that was forgotten.
 
 use crate::same::check_same;
 use crate::serving::{serve_untold, sizes};
 use crate::texts::{much_output, repeated};
 use crate::workers::refusing_gate::RefusingGate;
 use bytes::Bytes;
-use exchange::WorkerBatch;
+use exchange::WorkerLane;
 use std::alloc::Global;
 use std::collections::VecDeque;
 use std::process::Abort;
@@ -19,8 +19,8 @@ use worker_port::{Gone, MAX_PIECE, Port, PortEvent, ToldHistory};
 /// How often a port is asked in vain until it gives up.
 const PATIENCE: u64 = 3_000_000;
 
-/// Opens session 7, sends its pieces, and may end its input. It ends once the wanted bytes were given, or once the session
-/// was shut.
+/// Opens session 7, sends its pieces, and may end its input. It ends once the wanted bytes were
+/// given, or once the session was shut.
 #[derive(Drop)]
 struct LivePort {
     is_open: bool,
@@ -72,7 +72,7 @@ impl Port for LivePort {
 
     ghost leads_to = { λ _ _. Unit {0} };
 
-    fn next(&mut self, may_wait: bool, _sender: &WorkerBatch) -> PortEvent {
+    fn next(&mut self, may_wait: bool, _sender: &WorkerLane) -> PortEvent {
         if !self.is_open {
             self.is_open = true;
             self.waits_at_first = may_wait;
@@ -173,7 +173,8 @@ fn check_port(rt: &impl Abort, port: &LivePort, peer: &Peer) {
     check_same(rt, port.waits_early, false, "waits early");
 }
 
-/// All came while the port was still open, and the port was let wait only where nothing was left to do.
+/// All came while the port was still open, and the port was let wait only where nothing was left to
+/// do.
 fn check_served<R, G>(rt: &R, alloc: Global, peer: &Peer, gate: &G)
 where
     R: Abort + Threads + Wait + Clock + Copy + Drop + Send + Sync + 'static,
@@ -184,12 +185,12 @@ where
     check_same(rt, served.executed, peer.executed, peer.wanted);
 }
 
-/// What a client sends, how many bytes answer it, how many of them it takes at once, and how many requests are executed: an
-/// unfinished line is no request, and what follows `quit` isn't read.
+/// What a client sends, how many bytes answer it, how many of them it takes at once, and how many
+/// requests are executed: an unfinished line is no request, and what follows `quit` isn't read.
 type Row<'a> = (&'a [u8], usize, usize, u64);
 
-/// Clients whose input goes on, or ends. Each of these is shut once it was given all its answers, and not before; of the others
-/// those are that send `quit`.
+/// Clients whose input goes on, or ends. Each of these is shut once it was given all its answers,
+/// and not before; of the others those are that send `quit`.
 fn check_rows<R>(rt: &R, alloc: Global, rows: &[Row], ends_input: bool, slow_gives: u64)
 where
     R: Abort + Threads + Wait + Clock + Copy + Drop + Send + Sync + 'static,

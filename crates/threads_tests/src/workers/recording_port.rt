@@ -7,7 +7,7 @@ ghost use Rattle.worker_port.specs.Ports.{is_in, is_open};
 
 use crate::workers::records::{has_ended_in, has_input_ended_in, is_new_in, is_open_in};
 use bytes::Bytes;
-use exchange::{ExchangeName, WorkerBatch};
+use exchange::{ExchangeName, WorkerLane};
 use proto::Geometry;
 use std::alloc::Global;
 use std::collections::VecDeque;
@@ -145,7 +145,7 @@ impl<R: Abort + Drop> Port for RecordingPort<R> {
 
     ghost leads_to = { λ _ _. Unit {0} };
 
-    fn next(&mut self, _may_wait: bool, _sender: &WorkerBatch) -> PortEvent {
+    fn next(&mut self, _may_wait: bool, _sender: &WorkerLane) -> PortEvent {
         if has_ended_in(self.records.as_slice()) || self.is_paused() {
             return PortEvent::Idle;
         }

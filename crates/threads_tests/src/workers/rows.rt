@@ -114,8 +114,8 @@ where
     run(rt, alloc, script.steps, manners, &OpenGate)
 }
 
-/// Session 1 sends the bytes, in pieces as long as they may be. Its port was paused, and resumed as often, and `executed`
-/// requests were executed.
+/// Session 1 sends the bytes, in pieces as long as they may be. Its port was paused, and resumed as
+/// often, and `executed` requests were executed.
 fn run_paused<R>(rt: &R, alloc: Global, input: &[u8], executed: u64) -> RecordingPort<R>
 where
     R: Abort + Threads + Wait + Clock + Copy + Drop + Send + Sync + 'static,

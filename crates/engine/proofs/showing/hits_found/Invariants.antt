@@ -6,7 +6,8 @@ use Rattle.engine.specs.Counting.{CountsEach, keys_of}
 use Rattle.engine.specs.Finding.{AreFound, keys_found}
 use Rattle.engine.proofs.showing.hits_found.Given as goal
 
--- the hits so far are there and counted, the others stand where they were found, and their room is left
+-- the hits so far are there and counted, the others stand where they were found, and their room is
+-- left
 abbrev pub invariant-loop-i : goal.invariant-loop-i
 invariant-loop-i g l = record {
   are_found : AreFound g.M.LiveMap l.map l.found;

@@ -2,7 +2,7 @@ use Rattle.std.proofs.Common.{◌≡◌, ℕ, List, [], ◌∷◌, ◌++◌, len
 use lib.ListN.{get_elem?}
 use Rattle.std.specs.Option.{option_to_list}
 use Rattle.proto.specs.declared.terms.Terms.{Terms}
-use Rattle.exchange.specs.Ends.{WorkerView, WorkerBatchView, StorageView, AreMade, new_worker_view}
+use Rattle.exchange.specs.Ends.{WorkerView, WorkerLaneView, StorageView, AreMade, new_worker_view}
 use Rattle.program_tests.proofs.asked_port.idle_end.Goals as goal
 
 -- the last end of a new exchange of one worker is as it was made
@@ -19,7 +19,7 @@ returns g c =
     let is = c.pop.ensures.items ∙ ap (λ z. c.pop.new.self.items ++ option_to_list z) c.expect-end.ensures in
     let end = last_is_new c.args.exchange.terms c.into_ends-ends.result.1 c.into_ends-ends.result.0.items c.pop.new.self.items
     c.expect-end.result made is in
-    let same = ap (λ (b : WorkerBatchView). b.end) c.batched.ensures in (
+    let same = ap (λ (b : WorkerLaneView). b.end) c.batched.ensures in (
       ap (λ (z : WorkerView). z.exchange) (same ∙ end) ∙ c.into_ends-ends.ensures.id,
       ap (λ (z : WorkerView). z.worker) (same ∙ end),
       ap (λ (z : WorkerView). z.sent) (same ∙ end),

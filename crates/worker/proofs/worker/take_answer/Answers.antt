@@ -4,7 +4,7 @@ use mathlib.Core.Option.{some}
 use lib.ListN.{get_elem?}
 use Rattle.proto.specs.declared.history.Answered.{Answered}
 use Rattle.exchange.specs.Beginnings.{StartsWith, posted_of}
-use Rattle.exchange.specs.Ends.{WorkerView, WorkerBatchView, TakesAnswer, TakesSeen, WasTold, with_put_sent}
+use Rattle.exchange.specs.Ends.{WorkerView, WorkerLaneView, TakesAnswer, TakesSeen, WasTold, with_put_sent}
 use Rattle.exchange.proofs.Fields.{told_by_load, told_longer, told_taken}
 use Rattle.worker.specs.Workers.{TakesNone, TakesBack, IsLaterEnd}
 use Rattle.worker.proofs.WorkerSteps.{later_view}
@@ -12,16 +12,16 @@ use Rattle.worker.proofs.SettleSteps.{at_append}
 use Rattle.worker.proofs.worker.take_answer.Goals as goal
 
 -- what is told of an answer, or of none
-abbrev Takes : WorkerBatchView → Option Answered → WorkerBatchView → Type 0
+abbrev Takes : WorkerLaneView → Option Answered → WorkerLaneView → Type 0
 Takes old result new = MatchOption result (TakesNone (with_put_sent old).end (with_put_sent new).end)
     (λ a. TakesBack (with_put_sent old).end (with_put_sent new).end a)
 
 -- the answer is that of the first request that was sent and hadn't come back
-abbrev IsFirst : WorkerBatchView → Answered → Type 0
+abbrev IsFirst : WorkerLaneView → Answered → Type 0
 IsFirst old a = (a.worker ≡ old.end.worker) × (get_elem? old.end.sent (length old.end.back) ≡ some (posted_of a))
 
 -- what is known of the history that the end was told of, once what was put is sent
-told_once_sent : (new : WorkerBatchView) (end : WorkerView) → new.end ≡ end → WasTold end
+told_once_sent : (new : WorkerLaneView) (end : WorkerView) → new.end ≡ end → WasTold end
     → WasTold (with_put_sent new).end
 told_once_sent new end e told = told_longer new.put (subst WasTold (sym e) told)
 
@@ -31,7 +31,7 @@ later_looked : (old new : WorkerView) (told : List Answered) → new.exchange �
 later_looked old new told exchange worker terms seen later =
     record { exchange = exchange; worker = worker; terms = terms; later = subst (λ l. StartsWith l old.seen) (sym seen) later }
 
-by_look : (old new : WorkerBatchView) (result : Option Answered) → TakesAnswer old.end result new.end
+by_look : (old new : WorkerLaneView) (result : Option Answered) → TakesAnswer old.end result new.end
     → new.put ≡ old.put
     → IfSome result (IsFirst old) → Takes old result new
 by_look old new None k put own = let e = k.3.1 in record {
@@ -56,7 +56,7 @@ by_look old new (Some a) k put own = let e = k.3.1 in record {
   told = λ _. told_once_sent new _ e (told_taken a (told_by_load k.2) k.3.0);
 }
 
-seen_before : (old new : WorkerBatchView) (a : Answered) → TakesSeen old.end (Some a) new.end → new.put ≡ old.put
+seen_before : (old new : WorkerLaneView) (a : Answered) → TakesSeen old.end (Some a) new.end → new.put ≡ old.put
     → IsFirst old a → Takes old (Some a) new
 seen_before old new a k put own = let e = k.1.1 in record {
   later = later_view (with_put_sent old).end (with_put_sent new).end (ap (λ (w : WorkerView). w.exchange) e)
@@ -70,7 +70,7 @@ seen_before old new a k put own = let e = k.1.1 in record {
   told = λ _. told_once_sent new _ e (told_taken a k.0 k.1.0);
 }
 
-none_seen : (old new : WorkerBatchView) → TakesSeen old.end None new.end → new.put ≡ old.put
+none_seen : (old new : WorkerLaneView) → TakesSeen old.end None new.end → new.put ≡ old.put
     → (with_put_sent new).end ≡ (with_put_sent old).end
 none_seen old new k put = λ i. (with_put_sent (record { end = k.1.1 i; put = put i })).end
 

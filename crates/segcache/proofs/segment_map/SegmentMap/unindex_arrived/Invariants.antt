@@ -4,8 +4,8 @@ use Rattle.segcache.specs.Shown.{current}
 use Rattle.segcache.proofs.LeftPlaces.{IsArriving}
 use Rattle.segcache.proofs.segment_map.SegmentMap.unindex_arrived.Given as goal
 
--- of the map's fields, that the walk has borrowed one of, `.1.0` is the pool, `.1.1.0` the index, `.1.1.1.0` the marks and
--- `.1.1.1.1.0` the moment
+-- of the map's fields, that the walk has borrowed one of, `.1.0` is the pool, `.1.1.0` the index,
+-- `.1.1.1.0` the marks and `.1.1.1.1.0` the moment
 abbrev pub invariant-loop-place : goal.invariant-loop-place
 invariant-loop-place l = record {
   arriving : IsArriving l.initial.self-inside.1.0 l.initial.self-inside.1.1.1.1.0 l.segment

@@ -1,5 +1,5 @@
 use Rattle.std.proofs.Common.{[], refl, ap, subst, ◌∙◌}
-use Rattle.exchange.specs.Ends.{StorageBatchView}
+use Rattle.exchange.specs.Ends.{StorageLanesView}
 use Rattle.storage_thread.specs.declared.side.SideState.{SideState}
 use Rattle.storage_thread.specs.declared.serving.StorageReport.{StorageReport}
 use Rattle.storage_thread.specs.Sides.{IsLeftBySide}
@@ -9,7 +9,7 @@ use Rattle.storage_thread.proofs.side.StorageSide.into_report.Goals as goal
 pub returns-clause-left : goal.returns-clause-left
 returns-clause-left g c =
     let m = g.S.StorageEngine in let n = g.C.Clock in let s = c.self.inside.state in
-    let end_is = c.into_end.ensures ∙ ap (λ (b : StorageBatchView). b.end) c.flush_answers.ensures.told in
+    let end_is = c.into_end.ensures ∙ ap (λ (b : StorageLanesView). b.end) c.flush_answers.ensures.told in
     let report : StorageReport g.row.C.Denot = record {
       clock = c.into_clock.result;
       storage_end = c.into_end.result;
@@ -23,7 +23,7 @@ returns-clause-left g c =
 pub returns-clause-bye : goal.returns-clause-bye
 returns-clause-bye g c none =
     let m = g.S.StorageEngine in let n = g.C.Clock in let s = c.self.inside.state in
-    let end_is = c.into_end.ensures ∙ ap (λ (b : StorageBatchView). b.end) c.flush_answers.ensures.told in
+    let end_is = c.into_end.ensures ∙ ap (λ (b : StorageLanesView). b.end) c.flush_answers.ensures.told in
     let report : StorageReport g.row.C.Denot = record {
       clock = c.into_clock.result;
       storage_end = c.into_end.result;

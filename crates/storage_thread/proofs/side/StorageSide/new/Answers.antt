@@ -1,7 +1,7 @@
 use Rattle.std.proofs.Common.{◌≡◌, [], rules, true, ap, sym, subst, ◌∙◌}
 use Rattle.proto.specs.History.{RefusesBy}
 use Rattle.proto.proofs.HistoryLemmas.{refuses_none}
-use Rattle.exchange.specs.Ends.{StorageView, StorageBatchView}
+use Rattle.exchange.specs.Ends.{StorageView, StorageLanesView}
 use Rattle.storage_thread.specs.Serving.{IsStorageServing}
 use Rattle.storage_thread.specs.Keeping.{LeadsKeeping}
 use Rattle.storage_thread.specs.Deadlines.{LeadsAsAsked}
@@ -15,7 +15,7 @@ pub invariant_of-result : goal.invariant_of-result
 invariant_of-result g c =
     let m = g.S.StorageEngine in let n = g.C.Clock in let o = c.of-origin.ensures in
     let v : StorageView = c.batched-end.result.end in
-    let v_is : v ≡ c.args.storage_end = ap (λ (b : StorageBatchView). b.end) c.batched-end.ensures in
+    let v_is : v ≡ c.args.storage_end = ap (λ (b : StorageLanesView). b.end) c.batched-end.ensures in
     let unused : IsUnused v = subst IsUnused (sym v_is) c.requires.unused in record {
       serving = subst (λ (z : StorageView). IsStorageServing z v (m.cache c.args.store) (m.moment c.args.store))
           (v_is ∙ sym o.end) (serving_first v _ _ unused c.requires.empty.0 c.requires.empty.1);

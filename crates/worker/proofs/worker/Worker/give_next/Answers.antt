@@ -3,7 +3,7 @@ use Rattle.std.specs.Option.{option_map}
 use Rattle.session_book.specs.Session.{SessionState, gave}
 use Rattle.session_book.specs.Book.{BookState, session_of}
 use Rattle.worker_port.specs.Ports.{PortTrace, then_gave, fed, given}
-use Rattle.exchange.specs.Ends.{WorkerBatchView, ToldView}
+use Rattle.exchange.specs.Ends.{WorkerLaneView, ToldView}
 use Rattle.session_book.specs.declared.causes.EndCause.TheVariants as causes
 use Rattle.proto.specs.declared.terms.Terms.{Terms}
 use Rattle.worker.specs.EndCauses.{piece_of}
@@ -80,7 +80,7 @@ gave_over g c =
 -- so it is over the batch that told of its history
 gave_some : (g : Over) (c : After-gave-finished g) → WorkerGoesOn g.P.Port.told c.self.inside.state
     (record c.self.inside.state { port = c.give.new.self; book = c.gave-finished.new.self; batch = c.told-history.new.self })
-gave_some g c = subst (λ (y : BookState × WorkerBatchView). WorkerGoesOn g.P.Port.told
+gave_some g c = subst (λ (y : BookState × WorkerLaneView). WorkerGoesOn g.P.Port.told
     (record c.self.inside.state { book = y.0 })
     (record c.self.inside.state { port = c.give.new.self; book = c.gave-finished.new.self; batch = y.1 }))
     (λ i. (c.next_ready.ensures i, sym c.told-history.ensures.same i)) (gave_over g c)
@@ -97,7 +97,7 @@ lost g c =
     c.offer-offer.result.out.now c.in-Err.field-0 c.told-history.result.items
     (ap (λ (v : ToldView). v.items) c.told-history.ensures.told) s.1 c.in-Err.ensures.told
     h c.close.ensures.port
-    (subst (λ (z : WorkerBatchView). Closes (record w { port = c.give.new.self; batch = z }) c.close.new.self c.in-Some.session causes.Gone)
+    (subst (λ (z : WorkerLaneView). Closes (record w { port = c.give.new.self; batch = z }) c.close.new.self c.in-Some.session causes.Gone)
     c.told-history.ensures.same c.close.ensures.closes))
 
 pub invariant_of-self-in-Ok : goal.invariant_of-self-in-Ok

@@ -1,6 +1,6 @@
 use Rattle.std.proofs.Common.{◌≡◌, ◌++◌, [], ◌∷◌, refl, sym, ap, append_assoc, subst, ◌∙◌, Option, Some, None}
 use Rattle.proto.specs.declared.history.Posted.{Posted}
-use Rattle.exchange.specs.Ends.{WorkerBatchView}
+use Rattle.exchange.specs.Ends.{WorkerLaneView}
 use Rattle.worker_port.specs.Ports.{PortTrace}
 use Rattle.worker.specs.declared.worker.WorkerState.{WorkerState}
 use Rattle.worker.specs.Workers.{end_of, once_flushed, numbered_by, IsWorkerServing}
@@ -9,7 +9,7 @@ use Rattle.worker.proofs.AskSteps.{sent_goes_on, goes_on_same}
 use Rattle.worker.proofs.worker.Worker.put_held.Goals as goal
 
 -- the held request was put, and counts as sent
-put_goes_on : {P : Type 0} (told : P → Option PortTrace) (old : WorkerState P) (batch : WorkerBatchView) (request : Option Posted)
+put_goes_on : {P : Type 0} (told : P → Option PortTrace) (old : WorkerState P) (batch : WorkerLaneView) (request : Option Posted)
     (p : Posted) → Some p ≡ old.request → request ≡ None → batch ≡ record old.batch { put = old.batch.put ++ p ∷ [] }
     → IsWorkerServing told old → WorkerGoesOn told old (record old { batch = batch; request = request })
 put_goes_on told old batch request p was none is h =
@@ -19,11 +19,11 @@ put_goes_on told old batch request p was none is h =
     })) h
 
 -- it stays held
-stays_goes_on : {P : Type 0} (told : P → Option PortTrace) (old : WorkerState P) (batch : WorkerBatchView) (back p : Posted)
+stays_goes_on : {P : Type 0} (told : P → Option PortTrace) (old : WorkerState P) (batch : WorkerLaneView) (back p : Posted)
     → Some p ≡ old.request → back ≡ p → batch ≡ old.batch → IsWorkerServing told old
     → WorkerGoesOn told old (record old { batch = batch; request = Some back })
 stays_goes_on told old batch back p was same is h =
-    subst (λ (y : WorkerBatchView × Option Posted). WorkerGoesOn told old (record old { batch = y.0; request = y.1 }))
+    subst (λ (y : WorkerLaneView × Option Posted). WorkerGoesOn told old (record old { batch = y.0; request = y.1 }))
     (λ i. (sym is i, sym (ap Some same ∙ was) i)) (goes_on_same told old h)
 
 pub invariant_of-self-then-not-may_post : goal.invariant_of-self-then-not-may_post

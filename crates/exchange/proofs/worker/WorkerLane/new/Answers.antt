@@ -1,5 +1,5 @@
 use Rattle.exchange.proofs.Fields.{new_agrees}
-use Rattle.exchange.proofs.worker.WorkerBatch.new.Goals as goal
+use Rattle.exchange.proofs.worker.WorkerLane.new.Goals as goal
 
 pub invariant_of-result : goal.invariant_of-result
 invariant_of-result c = (

@@ -2,7 +2,7 @@ use Rattle.std.proofs.Common.{rules, refl, ap}
 use Rattle.exchange.specs.Lanes.{SeatState}
 use Rattle.exchange.specs.Seats.{storage_state_in}
 use Rattle.exchange.proofs.Known.{tells_as}
-use Rattle.exchange.proofs.storage.StorageBatch.flush_answers.Goals as goal
+use Rattle.exchange.proofs.storage.StorageLanes.flush_answers.Goals as goal
 
 pub store-requires : goal.store-requires
 store-requires c = let r = c.self.invariant.3 in let untold = c.self.invariant.4 in (

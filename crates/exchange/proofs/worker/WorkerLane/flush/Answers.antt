@@ -2,7 +2,7 @@ use Rattle.std.proofs.Common.{rules, ℕ, ◌*◌, sym, ap, ◌+◌}
 use Rattle.exchange.specs.Seats.{worker_state_in}
 use Rattle.exchange.proofs.Known.{posts_as}
 use Rattle.exchange.proofs.Fields.{sent_all}
-use Rattle.exchange.proofs.worker.WorkerBatch.flush.Goals as goal
+use Rattle.exchange.proofs.worker.WorkerLane.flush.Goals as goal
 
 pub store-requires : goal.store-requires
 store-requires c = let r = c.self.invariant.2 in (

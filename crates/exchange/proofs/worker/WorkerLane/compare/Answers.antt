@@ -5,7 +5,7 @@ use Rattle.exchange.specs.Lanes.{SeatState}
 use Rattle.exchange.specs.Steps.{meeting}
 use Rattle.exchange.specs.Seats.{told_at, told_in, told_view}
 use Rattle.exchange.proofs.ToldSteps.{meets_told, compares_told}
-use Rattle.exchange.proofs.worker.WorkerBatch.compare.Goals as goal
+use Rattle.exchange.proofs.worker.WorkerLane.compare.Goals as goal
 
 pub join_seat-requires : goal.join_seat-requires
 join_seat-requires c = let t : List Answered = c.args.told.items in

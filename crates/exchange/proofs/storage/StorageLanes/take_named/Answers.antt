@@ -3,20 +3,20 @@ use Rattle.std.specs.Prelude.{slice_index}
 use Rattle.exchange.specs.declared.messages.LaneMessage.TheVariants.{Bye}
 use Rattle.exchange.specs.declared.rule.StorageState.{StorageState}
 use Rattle.exchange.specs.declared.rule.LaneView.TheVariants.{Storage}
-use Rattle.exchange.specs.Ends.{StorageBatchView}
+use Rattle.exchange.specs.Ends.{StorageLanesView}
 use Rattle.exchange.specs.Lanes.{SeatState, lane_slot}
 use Rattle.exchange.specs.Steps.{bye_settled}
 use Rattle.exchange.specs.Seats.{storage_state_in, storage_at, carried_by, HoldsTaken}
 use Rattle.exchange.proofs.Known.{settles_bye_as}
 use Rattle.exchange.proofs.Fields.{idle_is, named_look}
-use Rattle.exchange.proofs.storage.StorageBatch.take_named.Goals as goal
+use Rattle.exchange.proofs.storage.StorageLanes.take_named.Goals as goal
 
 pub take_message-requires-clause-seen : goal.take_message-requires-clause-seen
 take_message-requires-clause-seen c = let d : StorageState = storage_state_in c.self.inside.seat.me.0 in
     let inv = c.self.invariant.3 in
     let named = c.self.invariant.5 in let lane : ℕ = c.self.inside.looked_lane in
     let idle = idle_is d.holding (λ w x e. (inv.holds w x e).2)
-    (ap (λ (z : StorageBatchView). z.end.open_request) c.self.view_is ∙ c.requires) in
+    (ap (λ (z : StorageLanesView). z.end.open_request) c.self.view_is ∙ c.requires) in
     let count_is = inv.counts_are lane named.1 in (
       inv.seated ∙ (λ j. let z : SeatState = (Storage d, carried_by d (idle j)) in z),
       sym count_is,

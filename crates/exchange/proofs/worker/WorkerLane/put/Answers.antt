@@ -3,13 +3,13 @@ use Rattle.proto.specs.declared.limits.TheConstants.{WINDOW}
 use Rattle.exchange.specs.declared.messages.LaneMessage.TheVariants.{Ask}
 use Rattle.exchange.specs.declared.rule.WorkerState.{WorkerState}
 use Rattle.exchange.specs.Lanes.{SeatState}
-use Rattle.exchange.specs.Ends.{WorkerBatchView}
+use Rattle.exchange.specs.Ends.{WorkerLaneView}
 use Rattle.exchange.specs.Steps.{holding_slot, placed_count}
-use Rattle.exchange.specs.Seats.{WorkerAgrees, worker_state_in, worker_batch_view}
+use Rattle.exchange.specs.Seats.{WorkerAgrees, worker_state_in, worker_lane_view}
 use Rattle.exchange.proofs.WorkerSteps.{begins_post}
 use Rattle.exchange.proofs.Known.{stands_put, puts_as}
 use Rattle.exchange.proofs.Fields.{put_more}
-use Rattle.exchange.proofs.worker.WorkerBatch.put.Goals as goal
+use Rattle.exchange.proofs.worker.WorkerLane.put.Goals as goal
 
 pub load-requires : goal.load-requires
 load-requires c = let r = c.self.invariant.2 in let d : WorkerState = worker_state_in c.self.inside.seat.me.0 in
@@ -31,7 +31,7 @@ load-self-inside-requires c = let r = c.self.invariant.2 in
       puts_as _ _ _ _ (holding_slot d (suc (placed_count d))) c.args.posted _
           (stands_put _ _ _ d _ _ _ (Ask c.args.posted) r.seated c.load.ensures.2 c.exchange.ensures.3
           c.slot_at-slot.ensures r.worker_is (λ i. r.sent_is i + r.put_is i))
-          (c.requires ∙ (ap (λ (v : WorkerBatchView). length v.end.sent + length v.put + 1) (sym c.self.view_is)
+          (c.requires ∙ (ap (λ (v : WorkerLaneView). length v.end.sent + length v.put + 1) (sym c.self.view_is)
           ∙ (omega arith))) refl (r.bye_is ∙ c.if-self.false),
     )
 
@@ -57,7 +57,7 @@ returns c = let r = c.self.invariant.2 in
     (stands_put _ _ _ d _ _ _ (Ask c.args.posted) r.seated c.load.ensures.2 c.exchange.ensures.3
     c.slot_at-slot.ensures r.worker_is (λ i. r.sent_is i + r.put_is i)) in (
       search rules,
-      (λ i. worker_batch_view ((c.load-self-inside.ensures.0 ∙ (c.exchange.ensures.0 ∙ c.load.ensures.0)) i)
+      (λ i. worker_lane_view ((c.load-self-inside.ensures.0 ∙ (c.exchange.ensures.0 ∙ c.load.ensures.0)) i)
           (worker_state_in (is i).0))
-          ∙ ap (λ (v : WorkerBatchView). record v { put = v.put ++ c.args.posted ∷ [] }) c.self.view_is,
+          ∙ ap (λ (v : WorkerLaneView). record v { put = v.put ++ c.args.posted ∷ [] }) c.self.view_is,
     )

@@ -4,11 +4,11 @@ use mathlib.Core.Option.{some}
 use lib.ListN.{get_elem?}
 use Rattle.proto.specs.History.{worker_share}
 use Rattle.exchange.specs.Beginnings.{StartsWith, posted_of}
-use Rattle.exchange.specs.Ends.{WorkerBatchView, TakesAnswer}
+use Rattle.exchange.specs.Ends.{WorkerLaneView, TakesAnswer}
 use Rattle.exchange.specs.Seats.{worker_state_in, worker_view}
 use Rattle.exchange.proofs.Fields.{Least, taken_more, takes_outside, taken_own, taken_next, taken_back}
-use Rattle.exchange.proofs.worker.WorkerBatch.take.Goals.{then-done-self, else-done-self}
-use Rattle.exchange.proofs.worker.WorkerBatch.take.Goals as goal
+use Rattle.exchange.proofs.worker.WorkerLane.take.Goals.{then-done-self, else-done-self}
+use Rattle.exchange.proofs.worker.WorkerLane.take.Goals as goal
 
 pub invariant_of-self : goal.invariant_of-self
 invariant_of-self c = let inv = c.self.invariant in
@@ -21,7 +21,7 @@ invariant_of-self c = let inv = c.self.invariant in
     )
 
 pub returns-then-is_some-clause-taken : goal.returns-then-is_some-clause-taken
-returns-then-is_some-clause-taken c = subst (λ (z : WorkerBatchView). TakesAnswer z.end c.take_answer-done.result.1
+returns-then-is_some-clause-taken c = subst (λ (z : WorkerLaneView). TakesAnswer z.end c.take_answer-done.result.1
     (worker_view c.take_answer-done.new.seat.table_id (worker_state_in c.take_answer-done.new.seat.me.0)))
     c.self.view_is
     (subst (λ t. TakesAnswer (worker_view c.self.inside.seat.table_id (worker_state_in c.self.inside.seat.me.0))
@@ -30,7 +30,7 @@ returns-then-is_some-clause-taken c = subst (λ (z : WorkerBatchView). TakesAnsw
     (takes_outside c.self.inside.seat.table_id _ _ _ _ c.take_answer-done.ensures.taken))
 
 pub returns-else-is_some-clause-taken : goal.returns-else-is_some-clause-taken
-returns-else-is_some-clause-taken c = subst (λ (z : WorkerBatchView). TakesAnswer z.end c.take_answer-done.result.1
+returns-else-is_some-clause-taken c = subst (λ (z : WorkerLaneView). TakesAnswer z.end c.take_answer-done.result.1
     (worker_view c.take_answer-done.new.seat.table_id (worker_state_in c.take_answer-done.new.seat.me.0)))
     c.self.view_is
     (subst (λ t. TakesAnswer (worker_view c.self.inside.seat.table_id (worker_state_in c.self.inside.seat.me.0))
@@ -40,16 +40,16 @@ returns-else-is_some-clause-taken c = subst (λ (z : WorkerBatchView). TakesAnsw
 
 pub returns-then-is_some-clause-own : goal.returns-then-is_some-clause-own
 returns-then-is_some-clause-own c = subst
-    (λ (z : WorkerBatchView). IfSome c.take_answer-done.result.1 (λ a. (a.worker ≡ z.end.worker)
+    (λ (z : WorkerLaneView). IfSome c.take_answer-done.result.1 (λ a. (a.worker ≡ z.end.worker)
     × (get_elem? z.end.sent (length z.end.back) ≡ some (posted_of a)))) c.self.view_is
     (taken_own _ _ _ (takes_outside c.self.inside.seat.table_id _ _ _ _ c.take_answer-done.ensures.taken))
 
 pub returns-then-is_some-clause-in_order : goal.returns-then-is_some-clause-in_order
 returns-then-is_some-clause-in_order c = subst
-    (λ (z : WorkerBatchView). IfSome c.take_answer-done.result.1 (λ a. a.number ≡ length z.end.back + 1)) c.self.view_is
+    (λ (z : WorkerLaneView). IfSome c.take_answer-done.result.1 (λ a. a.number ≡ length z.end.back + 1)) c.self.view_is
     (taken_next _ _ _ (takes_outside c.self.inside.seat.table_id _ _ _ _ c.take_answer-done.ensures.taken))
 
 pub returns-then-is_some-clause-back : goal.returns-then-is_some-clause-back
 returns-then-is_some-clause-back c = let now = worker_state_in c.take_answer-done.new.seat.me.0 in
-    subst (λ (z : WorkerBatchView). StartsWith (worker_share now.seen z.end.worker) now.back) c.self.view_is
+    subst (λ (z : WorkerLaneView). StartsWith (worker_share now.seen z.end.worker) now.back) c.self.view_is
     (taken_back _ _ _ (takes_outside c.self.inside.seat.table_id _ _ _ _ c.take_answer-done.ensures.taken))

@@ -6,10 +6,10 @@ use Rattle.exchange.specs.declared.rule.LaneView.TheVariants.{Worker, Told}
 use Rattle.exchange.specs.Beginnings.{StartsWith, AreOfOne}
 use Rattle.exchange.specs.Lanes.{SeatState}
 use Rattle.exchange.specs.Steps.{meeting, unchanged, noting}
-use Rattle.exchange.specs.Ends.{WorkerBatchView}
-use Rattle.exchange.specs.Seats.{WorkerAgrees, worker_state_in, worker_batch_view, told_at, told_in, told_view}
+use Rattle.exchange.specs.Ends.{WorkerLaneView}
+use Rattle.exchange.specs.Seats.{WorkerAgrees, worker_state_in, worker_lane_view, told_at, told_in, told_view}
 use Rattle.exchange.proofs.ToldSteps.{notes_again, meets, checks}
-use Rattle.exchange.proofs.worker.WorkerBatch.check.Goals as goal
+use Rattle.exchange.proofs.worker.WorkerLane.check.Goals as goal
 
 pub split_seat-met-requires : goal.split_seat-met-requires
 split_seat-met-requires c = let t : List Answered = c.args.told.items in (
@@ -68,7 +68,7 @@ returns-clause-same c = let d : WorkerState = worker_state_in c.self.inside.seat
     let joined = c.join_seat.ensures.2 ∙ (λ
     j. let z : SeatState = (meeting (seated j).0 (met j).0, (seated j).1) in z) in
     let found = c.load.ensures.2 d t (ap (λ (m : SeatState). m.0) joined) in
-    (λ i. worker_batch_view ((c.load.ensures.0 ∙ c.join_seat.ensures.0) i) (worker_state_in (found.1 i).0))
+    (λ i. worker_lane_view ((c.load.ensures.0 ∙ c.join_seat.ensures.0) i) (worker_state_in (found.1 i).0))
     ∙ c.self.view_is
 
 pub returns-clause-handed_back : goal.returns-clause-handed_back
@@ -84,7 +84,7 @@ returns-clause-asked c = let d : WorkerState = worker_state_in c.self.inside.sea
     let joined = c.join_seat.ensures.2 ∙ (λ
     j. let z : SeatState = (meeting (seated j).0 (met j).0, (seated j).1) in z) in
     let found = c.load.ensures.2 d t (ap (λ (m : SeatState). m.0) joined) in
-    subst (λ (z : WorkerBatchView). StartsWith z.end.sent (asked_posted (worker_share t z.end.worker))) c.self.view_is
+    subst (λ (z : WorkerLaneView). StartsWith z.end.sent (asked_posted (worker_share t z.end.worker))) c.self.view_is
     found.0.asked
 
 pub returns-clause-one : goal.returns-clause-one
@@ -95,4 +95,4 @@ returns-clause-one c = let d : WorkerState = worker_state_in c.self.inside.seat.
     let joined = c.join_seat.ensures.2 ∙ (λ
     j. let z : SeatState = (meeting (seated j).0 (met j).0, (seated j).1) in z) in
     let found = c.load.ensures.2 d t (ap (λ (m : SeatState). m.0) joined) in
-    subst (λ (z : WorkerBatchView). AreOfOne z.end.seen t) c.self.view_is found.0.one
+    subst (λ (z : WorkerLaneView). AreOfOne z.end.seen t) c.self.view_is found.0.one

@@ -5,11 +5,11 @@ use Rattle.exchange.specs.declared.rule.WorkerState.{WorkerState}
 use Rattle.exchange.specs.declared.rule.LaneView.TheVariants.{Storage}
 use Rattle.exchange.specs.Lanes.{SeatState}
 use Rattle.exchange.specs.Steps.{comparing}
-use Rattle.exchange.specs.Seats.{storage_state_in, StorageAgrees, HasUntold, IsNamed, IsLane, storage_batch_view}
-use Rattle.exchange.specs.Ends.{WorkerView, WorkerBatchView, StorageBatchView, AreCompared}
+use Rattle.exchange.specs.Seats.{storage_state_in, StorageAgrees, HasUntold, IsNamed, IsLane, storage_lanes_view}
+use Rattle.exchange.specs.Ends.{WorkerView, WorkerLaneView, StorageLanesView, AreCompared}
 use Rattle.exchange.proofs.StorageSteps.{joins, compares}
 use Rattle.exchange.proofs.Comparisons.{compared_outside}
-use Rattle.exchange.proofs.storage.StorageBatch.join_worker.Goals as goal
+use Rattle.exchange.proofs.storage.StorageLanes.join_worker.Goals as goal
 
 pub join_seat-requires : goal.join_seat-requires
 join_seat-requires c = let d : StorageState = storage_state_in c.self.inside.seat.me.0 in
@@ -58,17 +58,17 @@ pub returns-clause-compared : goal.returns-clause-compared
 returns-clause-compared c = let d : StorageState = storage_state_in c.self.inside.seat.me.0 in
     let seated = c.self.invariant.3.seated in
     let theirs = c.into_seat-seat.ensures.seated in let u : WorkerState = theirs.0 in
-    let whole = ap (λ (v : WorkerBatchView). v.end) c.batched.ensures in
+    let whole = ap (λ (v : WorkerLaneView). v.end) c.batched.ensures in
     let joined = c.join_seat.ensures.2 ∙ (λ
     j. let z : SeatState = (comparing (seated j).0 (theirs.1 j).0, (seated j).1) in z) in
     let found = c.load.ensures.2 d u (ap (λ (m : SeatState). m.0) joined) in
     let table : c.into_seat-seat.result.0.table_id ≡ c.self.inside.seat.table_id =
     ap (λ (z : WorkerView). z.exchange) (sym theirs.2 ∙ whole)
-    ∙ (c.requires ∙ ap (λ (z : StorageBatchView). z.end.exchange) (sym c.self.view_is)) in
+    ∙ (c.requires ∙ ap (λ (z : StorageLanesView). z.end.exchange) (sym c.self.view_is)) in
     let lane = subst (λ (z : TableId × ℕ). IsLane z.0 z.1)
     (λ i. (table i, (theirs.2 i).worker)) c.into_seat-seat.ensures.lane in
     let l0 : 16 * u.worker + 16 < c.self.inside.seat.table_id.words = lane.0 in let size = c.self.invariant.1.0 in
-    subst (λ (z : StorageBatchView × WorkerView). AreCompared z.0.end z.1) (λ i. (c.self.view_is i, (sym theirs.2 ∙ whole) i))
+    subst (λ (z : StorageLanesView × WorkerView). AreCompared z.0.end z.1) (λ i. (c.self.view_is i, (sym theirs.2 ∙ whole) i))
     (compared_outside c.self.inside.seat.table_id c.into_seat-seat.result.0.table_id c.self.inside.workers
     c.self.inside.last d u
     (omega (arith, size)) found.0)
@@ -80,6 +80,6 @@ returns-clause-same c = let d : StorageState = storage_state_in c.self.inside.se
     let joined = c.join_seat.ensures.2 ∙ (λ
     j. let z : SeatState = (comparing (seated j).0 (theirs.1 j).0, (seated j).1) in z) in
     let found = c.load.ensures.2 d theirs.0 (ap (λ (m : SeatState). m.0) joined) in
-    (λ i. storage_batch_view ((c.load.ensures.0 ∙ c.join_seat.ensures.0) i) c.self.inside.workers c.self.inside.last
+    (λ i. storage_lanes_view ((c.load.ensures.0 ∙ c.join_seat.ensures.0) i) c.self.inside.workers c.self.inside.last
     (storage_state_in (found.1 i).0))
     ∙ c.self.view_is

@@ -1,7 +1,7 @@
 use Rattle.std.proofs.Common.{arith, ◌≡◌, ℕ, suc, ◌+◌, ◌∙◌, inl, inr}
 use Rattle.exchange.proofs.Looks.{IsTurn, found_in_turn, vain_in_turn, all_looked, each_once}
-use Rattle.exchange.proofs.storage.StorageBatch.next.Goals.{then-turn-workers, else-turn-workers}
-use Rattle.exchange.proofs.storage.StorageBatch.next.Goals as goal
+use Rattle.exchange.proofs.storage.StorageLanes.next.Goals.{then-turn-workers, else-turn-workers}
+use Rattle.exchange.proofs.storage.StorageLanes.next.Goals as goal
 
 pub loop-turn-preserved : goal.loop-turn-preserved
 loop-turn-preserved g c = let inv = c.loop-turn.invariant in let k : ℕ = inv.looks.0 in

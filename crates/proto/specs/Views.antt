@@ -18,7 +18,8 @@ use Rattle.proto.specs.PlainReader.{StorageLine, Line, message, storage_message,
 
 abbrev pub storage_line_of : StorageLineView → StorageLine
 storage_line_of h = record {
-  mode = h.mode;
+  word = h.word;
+  unique = h.unique;
   key = h.key.now;
   flags = h.flags;
   exptime = h.exptime;

@@ -47,14 +47,14 @@ pub use limits::{
     MAX_ANSWER, MAX_BLOCK, MAX_KEY, MAX_LENIENT_BLOCK, MAX_LENIENT_LINE, MAX_LINE, MAX_POSTS,
     MAX_VALUE, MAX_WORKERS, MIN_ITEM_SIZE, WINDOW,
 };
-pub use line::RequestView;
+pub use line::{RequestView, StorageWord};
 pub use message::{FatalKind, LocalKind, Message, Next, Put, Reply, Request, Touch};
 pub use next::{next_message, next_message_in, request_to_store, to_message};
 pub use no_memory::NoMemory;
 pub use pending_answer::{PendingAnswer, show};
 pub use stats::StatsText;
 pub use storage::Storage;
-pub use storage_line::{StorageLineView, StoreMode};
+pub use storage_line::StorageLineView;
 pub use system_clock::{ClockAnswer, SystemClock};
 pub use terms::Terms;
 pub use trace::{Noted, Trace};

@@ -1,28 +1,19 @@
 //! The line of a storage command, and how it is read.
 
 ghost use Rattle.std.specs.Prelude.{◌≡◌, option_map};
-ghost use Rattle.proto.specs.PlainReader.{storage, quiet_in, storage_in, tail_of, key_out};
+ghost use Rattle.proto.specs.PlainReader.{storage, quiet_in, storage_in, key_out};
 ghost use Rattle.proto.specs.Views.{storage_line_of};
 
 use crate::dialect::Dialect;
 use crate::line::StorageWord;
 use crate::words::{MAX_TEN_DIGITS, Words};
 
-/// How a storage command stores; `Cas` has the cas number that the entry is to have.
-#[derive(Clone, Copy)]
-pub enum StoreMode {
-    Set,
-    Add,
-    Replace,
-    Cas(u64),
-    Append,
-    Prepend,
-}
-
 /// What a storage line says; the key is lent from the line.
 #[derive(Drop)]
 pub struct StorageLineView<'a> {
-    pub mode: StoreMode,
+    pub word: StorageWord,
+    /// The cas number that the entry is to have; 0 unless the word is `cas`.
+    pub unique: u64,
     pub key: &'a [u8],
     pub flags: u32,
     pub exptime: i64,
@@ -35,10 +26,10 @@ pub struct StorageLineView<'a> {
 impl<'a> StorageLineView<'a> {
     /// The key that the command takes out if its item is too large: that of a `set`.
     pub(crate) fn key_out(&self) -> Option<&'a [u8]>
-        ensures { option_map (λ key. key.now) result ≡ key_out self.now.mode self.now.key.now }
+        ensures { option_map (λ key. key.now) result ≡ key_out self.now.word self.now.key.now }
     {
-        match self.mode {
-            StoreMode::Set => Some(self.key),
+        match self.word {
+            StorageWord::Set => Some(self.key),
             _ => None,
         }
     }
@@ -61,23 +52,20 @@ pub(crate) fn storage_line<'a>(
     word: StorageWord,
     mut words: Words<'a>,
 ) -> Option<StorageLineView<'a>>
-    ensures { option_map (λ h. storage (storage_line_of h)) result ≡ storage_in dialect (tail_of word) words.entry }
+    ensures { option_map (λ h. storage (storage_line_of h)) result ≡ storage_in dialect word words.entry }
 {
     let key = words.next_key()?;
     let flags = words.next_number(u32::MAX as u64)?;
     let written = words.next_signed()?;
     let size = words.next_number(MAX_TEN_DIGITS)?;
-    let mode = match word {
-        StorageWord::Set => StoreMode::Set,
-        StorageWord::Add => StoreMode::Add,
-        StorageWord::Replace => StoreMode::Replace,
-        StorageWord::Append => StoreMode::Append,
-        StorageWord::Prepend => StoreMode::Prepend,
-        StorageWord::Cas => StoreMode::Cas(words.next_number(u64::MAX)?),
+    let unique = match word {
+        StorageWord::Cas => words.next_number(u64::MAX)?,
+        _ => 0,
     };
     let noreply = noreply(words)?;
     Some(StorageLineView {
-        mode,
+        word,
+        unique,
         key,
         flags: flags as u32,
         exptime: dialect.meant(written),

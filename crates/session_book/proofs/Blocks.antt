@@ -13,8 +13,8 @@ use Rattle.proto.specs.declared.message.Message.{Message}
 use Rattle.proto.specs.declared.message.Message.TheVariants.{Ask, Local, Fatal}
 use Rattle.proto.specs.declared.message.LocalKind.TheVariants as local
 use Rattle.proto.specs.declared.message.FatalKind.TheVariants as fatal
-use Rattle.proto.specs.declared.storage_line.StoreMode.{StoreMode}
-use Rattle.proto.specs.declared.storage_line.StoreMode.TheVariants as mode
+use Rattle.proto.specs.declared.line.StorageWord.{StorageWord}
+use Rattle.proto.specs.declared.line.StorageWord.TheVariants as storing
 use Rattle.proto.specs.Answers.{is_ask}
 use Rattle.proto.specs.Grammar.{most_kept, Spells, fault_of, lenient_words, begins_with}
 use Rattle.proto.specs.Lines.{IsSearched, line_text}
@@ -69,14 +69,14 @@ data_last d b q quiet v has (inr h) =
     )
 
 -- the same by how the request stores
-pub put_last : (d : Dialect) (b : List ℕ) (how : StoreMode) (p : Put) (quiet : Bool) → Spells d b (message_by how p quiet)
+pub put_last : (d : Dialect) (b : List ℕ) (how : StorageWord) (unique : ℕ) (p : Put) (quiet : Bool) → Spells d b (message_by how unique p quiet)
     → (front : List ℕ) × (b ≡ front ++ (p.value ++ codes "\r\n"))
-put_last d b mode.Set p quiet h = data_last d b (Set p) quiet p.value refl h
-put_last d b mode.Add p quiet h = data_last d b (Add p) quiet p.value refl h
-put_last d b mode.Replace p quiet h = data_last d b (Replace p) quiet p.value refl h
-put_last d b (mode.Cas unique) p quiet h = data_last d b (Cas p unique) quiet p.value refl h
-put_last d b mode.Append p quiet h = data_last d b (Append p) quiet p.value refl h
-put_last d b mode.Prepend p quiet h = data_last d b (Prepend p) quiet p.value refl h
+put_last d b storing.Set unique p quiet h = data_last d b (Set p) quiet p.value refl h
+put_last d b storing.Add unique p quiet h = data_last d b (Add p) quiet p.value refl h
+put_last d b storing.Replace unique p quiet h = data_last d b (Replace p) quiet p.value refl h
+put_last d b storing.Cas unique p quiet h = data_last d b (Cas p unique) quiet p.value refl h
+put_last d b storing.Append unique p quiet h = data_last d b (Append p) quiet p.value refl h
+put_last d b storing.Prepend unique p quiet h = data_last d b (Prepend p) quiet p.value refl h
 
 -- the first bytes are the line, the data and a line end: so the data is cut out of them
 pub cut_out : (b front v : List ℕ) (n : ℕ) → n ≤ length b → take n b ≡ front ++ (v ++ codes "\r\n")
@@ -98,11 +98,11 @@ cut_out b front v n within e =
     )
 
 -- what the parser found has this data: it stands before the last two of its bytes
-pub data_within : (d : Dialect) (b : List ℕ) (how : StoreMode) (p : Put) (quiet : Bool) (n : ℕ) → n ≤ length b
-    → Spells d (take n b) (message_by how p quiet)
+pub data_within : (d : Dialect) (b : List ℕ) (how : StorageWord) (unique : ℕ) (p : Put) (quiet : Bool) (n : ℕ) → n ≤ length b
+    → Spells d (take n b) (message_by how unique p quiet)
     → (length p.value + 2 ≤ n) × (drop (n - 2 - length p.value) (take (n - 2) b) ≡ p.value)
-data_within d b how p quiet n within spells =
-    let h = put_last d (take n b) how p quiet spells in
+data_within d b how unique p quiet n within spells =
+    let h = put_last d (take n b) how unique p quiet spells in
     cut_out b h.0 p.value n within h.1
 
 -- nothing was dropped, and the message is taken out
@@ -119,12 +119,12 @@ taken_out i d gone kept left need n m same none within spells left_is =
     }))
 
 -- the same, where the request stores what the parser found
-pub taken_put : (i : InputState) (d : Dialect) (gone kept left : List ℕ) (need n : ℕ) (how : StoreMode) (found made : Put) (quiet : Bool)
+pub taken_put : (i : InputState) (d : Dialect) (gone kept left : List ℕ) (need n : ℕ) (how : StorageWord) (unique : ℕ) (found made : Put) (quiet : Bool)
     (q : Request) → record { dialect = d; unread = gone ++ kept; need = need } ≡ i → gone ≡ [] → n ≤ length kept
-    → Spells d (take n kept) (message_by how found quiet) → Ask q quiet ≡ message_by how made quiet → made ≡ found
+    → Spells d (take n kept) (message_by how unique found quiet) → Ask q quiet ≡ message_by how unique made quiet → made ≡ found
     → left ≡ drop n kept → Takes i (Ask q quiet) n (record { dialect = d; unread = gone ++ left; need = 1 })
-taken_put i d gone kept left need n how found made quiet q same none within spells q_is made_is left_is =
-    let message : Ask q quiet ≡ message_by how found quiet = q_is ∙ ap (λ (p : Put). message_by how p quiet) made_is in
+taken_put i d gone kept left need n how unique found made quiet q same none within spells q_is made_is left_is =
+    let message : Ask q quiet ≡ message_by how unique found quiet = q_is ∙ ap (λ (p : Put). message_by how unique p quiet) made_is in
     taken_out i d gone kept left need n (Ask q quiet) same none within
     (subst (λ (m : Message). Spells d (take n kept) m) (sym message) spells) left_is
 

@@ -214,8 +214,8 @@ impl Input {
             NextView::Found(MessageView::Put(head, data), length)
                 if self.kept.is_worth_taking(length) => {
                 // The request is taken out of the bytes: its value has their memory.
-                let (mode, flags, exptime) = (head.mode, head.flags, head.exptime);
-                let noreply = head.noreply;
+                let (word, unique) = (head.word, head.unique);
+                let (flags, exptime, noreply) = (head.flags, head.exptime, head.noreply);
                 let key = ByteString::from_slice(alloc, head.key)?;
                 let end = length - 2;
                 let start = end - data.len();
@@ -228,7 +228,7 @@ impl Input {
                     exptime,
                     value,
                 };
-                Ok(Found::Taken(request_to_store(mode, put), noreply, length))
+                Ok(Found::Taken(request_to_store(word, unique, put), noreply, length))
             }
             NextView::Found(view, length) => Ok(Found::Copied(to_message(alloc, view)?, length)),
             NextView::More(count) => {

@@ -24,8 +24,8 @@ pub overflow_sub-end : goal.overflow_sub-end
 overflow_sub-end c =
     let f = c.in-Found-Put-default in let d = c.self.inside.dialect in let seen = c.as_slice.result.now in
     let put : Put = record { key = f.head.key.now; flags = f.head.flags; exptime = f.head.exptime; value = f.data.now } in
-    let spells : Spells d (take f.length seen) (message_by f.head.mode put f.head.noreply) = search rules in
-    let found = data_within d seen f.head.mode put f.head.noreply f.length (search rules) spells in
+    let spells : Spells d (take f.length seen) (message_by f.head.word f.head.unique put f.head.noreply) = search rules in
+    let found = data_within d seen f.head.word f.head.unique put f.head.noreply f.length (search rules) spells in
     let fits : length f.data.now + 2 ≤ f.length = found.0 in
     omega (arith, fits)
 
@@ -33,8 +33,8 @@ pub overflow_sub-start : goal.overflow_sub-start
 overflow_sub-start c =
     let f = c.in-Found-Put-default in let d = c.self.inside.dialect in let seen = c.as_slice.result.now in
     let put : Put = record { key = f.head.key.now; flags = f.head.flags; exptime = f.head.exptime; value = f.data.now } in
-    let spells : Spells d (take f.length seen) (message_by f.head.mode put f.head.noreply) = search rules in
-    let found = data_within d seen f.head.mode put f.head.noreply f.length (search rules) spells in
+    let spells : Spells d (take f.length seen) (message_by f.head.word f.head.unique put f.head.noreply) = search rules in
+    let found = data_within d seen f.head.word f.head.unique put f.head.noreply f.length (search rules) spells in
     let fits : length f.data.now + 2 ≤ f.length = found.0 in
     omega (arith, fits)
 
@@ -50,18 +50,18 @@ returns-in_ok-value-in-Found-Put-default c =
     let key = c.in_ok-key-in-Found-Put-default.key in let value = c.in_ok-value-in-Found-Put-default.value in
     let none = none_gone i.dialect i.gone.items i.kept i.need (refused_by i.key i.noreply) c.self.invariant.3 (rw c.most_kept.ensures.value at c.if-self-most_kept.false) in
     let put : Put = record { key = f.head.key.now; flags = f.head.flags; exptime = f.head.exptime; value = f.data.now } in
-    let spells : Spells i.dialect (take f.length seen) (message_by f.head.mode put f.head.noreply) = search rules in
+    let spells : Spells i.dialect (take f.length seen) (message_by f.head.word f.head.unique put f.head.noreply) = search rules in
     let within : f.length ≤ length seen = (search rules) in
-    let found = data_within i.dialect seen f.head.mode put f.head.noreply f.length within spells in
+    let found = data_within i.dialect seen f.head.word f.head.unique put f.head.noreply f.length within spells in
     let value_is : value ≡ f.data.now = c.in_ok-value-in-Found-Put-default.ensures.part
     ∙ ap (λ (b : List ℕ). drop (f.length - 2 - length f.data.now) (take (f.length - 2) b)) (sym c.as_slice.ensures) ∙ found.1 in
     let fits : SFits w64 f.head.exptime = search rules in
-    let made = c.request_to_store.ensures f.head.noreply ∙ ap (λ (z : ℤ). message_by f.head.mode
+    let made = c.request_to_store.ensures f.head.noreply ∙ ap (λ (z : ℤ). message_by f.head.word f.head.unique
     (record { key = key; flags = f.head.flags; exptime = z; value = value }) f.head.noreply) (to_z-of_z w64 f.head.exptime fits) in
-    taken_put c.args.self.now i.dialect i.gone.items i.kept c.take_part.new.self i.need f.length f.head.mode put
+    taken_put c.args.self.now i.dialect i.gone.items i.kept c.take_part.new.self i.need f.length f.head.word f.head.unique put
     (record { key = key; flags = f.head.flags; exptime = f.head.exptime; value = value }) f.head.noreply c.request_to_store.result
     c.self.view_is none (subst (λ (b : List ℕ). f.length ≤ length b) c.as_slice.ensures within)
-    (subst (λ (b : List ℕ). Spells i.dialect (take f.length b) (message_by f.head.mode put f.head.noreply)) c.as_slice.ensures spells)
+    (subst (λ (b : List ℕ). Spells i.dialect (take f.length b) (message_by f.head.word f.head.unique put f.head.noreply)) c.as_slice.ensures spells)
     made
     (ap (λ (k : List ℕ). record { key = k; flags = f.head.flags; exptime = f.head.exptime; value = value })
     c.in_ok-key-in-Found-Put-default.ensures

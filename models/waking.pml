@@ -107,7 +107,7 @@ inline try_lock() {
   atomic { if :: !is_held -> is_held = true; holds = true :: else fi }
 }
 
-inline try_hold() {                                /* storage_thread/sharing.rt: try_hold, try_twice */
+inline try_hold() {                                /* storage_thread/sharing.rt: try_hold */
   try_lock();
   if
   :: !holds ->
@@ -244,7 +244,7 @@ proctype worker(byte me) {                         /* worker/run.rt: run_worker 
   :: sent < REQUESTS ->
      d_step { sent++; posted[me] = sent };         /* exchange/worker.rt: flush */
      if
-     :: unpark(storage_word)                       /* group/executing.rt: is_left */
+     :: unpark(storage_word)                       /* worker/worker.rt: posting */
      :: serve()                                    /* group/executing.rt: posted */
      fi;
      if :: sent < REQUESTS :: wait_for_answers() fi   /* it may read on before */

@@ -100,7 +100,8 @@ fn reply_bytes(reply: &Reply) -> usize {
 }
 
 /// Executes the open request, counts it, and answers it. If the store made room for it, the time
-/// since the clock was read is noted. Its worker is told at the next flush, or before.
+/// since the clock was read is noted. Its worker is told at the next flush, or before. A worker may
+/// hold the side.
 pub(crate) fn execute<S: StorageEngine, C: Clock, R: time::Clock>(
     rt: &R,
     signals: &GroupSignals,
@@ -109,6 +110,7 @@ pub(crate) fn execute<S: StorageEngine, C: Clock, R: time::Clock>(
     counts: &mut Counts,
     source: &mut StatsSource,
     end: &mut StorageLanes,
+    holder: Option<usize>,
     worker: usize,
     posted: Posted,
 ) -> Executed
@@ -142,18 +144,14 @@ pub(crate) fn execute<S: StorageEngine, C: Clock, R: time::Clock>(
         mut request,
     } = posted;
     let stored = carry_out(store, moment, &mut request);
-    let reply = source.reply(
-        rt,
-        signals,
-        clock.at(),
-        counts,
-        store,
-        worker,
-        &request,
-        stored,
-    );
+    let at = clock.at();
+    let reply = source.reply(rt, signals, at, counts, store, worker, &request, stored);
     counts.count(&request, &reply);
-    let bytes = reply_bytes(&reply);
+    let of_others = if holder == Some(worker) {
+        None
+    } else {
+        Some(reply_bytes(&reply))
+    };
     let answered = Answered {
         worker,
         session,
@@ -164,17 +162,20 @@ pub(crate) fn execute<S: StorageEngine, C: Clock, R: time::Clock>(
         reply,
     };
     let told = end.answer_later(answered);
-    let served = Served::Request { worker, bytes };
+    let served = Served::Request { at, of_others };
     Executed { told, served }
 }
 
-/// Tells the workers of all answers, and unparks the one whose answers they are.
-pub(crate) fn tell_workers(end: &mut StorageLanes, signals: &GroupSignals)
+/// Tells the workers of all answers, and unparks the one whose answers they are, unless it holds
+/// the side.
+pub(crate) fn tell_workers(end: &mut StorageLanes, signals: &GroupSignals, holder: Option<usize>)
     ensures end { end.new.end ≡ end.old.end }
     ensures told { end.new.told ≡ end.old.end.history }
 {
     if let Some(worker) = end.flush_answers() {
-        signals.unpark(worker);
+        if holder != Some(worker) {
+            signals.unpark(worker);
+        }
     }
 }
 
@@ -201,6 +202,7 @@ pub(crate) fn take_next<C: Clock>(
     clock: &AskedClock<C>,
     executed: u64,
     signals: &GroupSignals,
+    holder: Option<usize>,
 ) -> Option<Taken>
     requires shut { end.old.end.open_request ≡ None }
     requires fresh { clock.now.answers ≡ answers_by [] end.old.end.history }
@@ -208,11 +210,11 @@ pub(crate) fn take_next<C: Clock>(
     ensures told { IfNone result (end.new.told ≡ end.new.end.history) }
 {
     let Some(taken) = end.next_seen(clock) else {
-        tell_workers(end, signals);
+        tell_workers(end, signals, holder);
         return end.next(clock);
     };
     if tells_before(&taken, executed) {
-        tell_workers(end, signals);
+        tell_workers(end, signals, holder);
     }
     Some(taken)
 }
@@ -253,7 +255,7 @@ pub(crate) fn serve_until_idle<R: Wait + time::Clock, S: StorageEngine, C: Clock
     let mut has_served = false;
     let mut idle = 0;
     for _ in rt.forever() {
-        match side.serve_next(rt, signals, None) {
+        match side.serve_next(rt, signals, None, None) {
             Some(_) => {
                 has_served = true;
                 idle = 0;
@@ -281,7 +283,7 @@ pub(crate) fn serve<R: Wait + time::Clock, S: StorageEngine, C: Clock>(
     let mut idle = IdleTurns::new(IDLE_TURNS, signals.spin());
     let mut waits = Waits::new(rt, Some(signals.storage_gauges()));
     for _ in rt.forever() {
-        match side.serve_next(rt, signals, Some(&mut waits)) {
+        match side.serve_next(rt, signals, None, Some(&mut waits)) {
             Some(_) => idle.reset(signals.parking()),
             None if side.is_done() => return,
             None => pass_turn(rt, side, &mut idle, &mut waits, signals),

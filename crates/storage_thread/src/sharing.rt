@@ -30,7 +30,8 @@ impl LockId for Brand {
 
 /// What executes requests, as threads share it: a storage side of some store and some clock.
 pub trait Serve {
-    /// Takes a turn for the worker of this number. True if messages may be left.
+    /// Takes a turn for the worker of this number. True if messages may be left, or each worker has
+    /// said bye.
     fn serve_turn<R: time::Clock>(&mut self, rt: &R, signals: &GroupSignals, own: usize) -> bool;
 
     /// Executes requests until nothing has come for some turns. True if there was a message.
@@ -118,7 +119,7 @@ impl<S: StorageEngine, C: Clock, J: LockId> Serve for SharedSide<'_, S, C, J> {
     fn serve_turn<R: time::Clock>(&mut self, rt: &R, signals: &GroupSignals, own: usize) -> bool {
         let turn = self.side.serve_turn(rt, signals, own);
         self.note_held(rt, signals, turn.since);
-        turn.may_leave
+        turn.may_leave || self.side.is_done()
     }
 
     fn serve_until_idle<R: Wait + time::Clock>(&mut self, rt: &R, signals: &GroupSignals) -> bool {
@@ -163,24 +164,21 @@ impl<T: Serve> SharedStorage<T> {
         side.into_inner()
     }
 
-    /// The side, unless another thread holds it, which then looks at the lanes once more.
+    /// The side, unless another thread has held it at both of two tries, and has been told between
+    /// them that it is wanted: it then looks at the lanes once more.
     fn try_hold(&self) -> Option<MutexGuard<'_, T>> {
-        let held = self.try_twice()?;
+        let held = match self.side.try_lock() {
+            Some(held) => held,
+            None => {
+                self.wanted.store(1, Ordering::SeqCst);
+                self.side.try_lock()?
+            }
+        };
         // (a store takes much longer than a load)
         if self.is_wanted() {
             self.wanted.store(0, Ordering::SeqCst);
         }
         Some(held)
-    }
-
-    /// The side, unless another thread has held it at both of two tries, and has been told between
-    /// them that it is wanted.
-    fn try_twice(&self) -> Option<MutexGuard<'_, T>> {
-        if let Some(held) = self.side.try_lock() {
-            return Some(held);
-        }
-        self.wanted.store(1, Ordering::SeqCst);
-        self.side.try_lock()
     }
 
     /// Whether a thread has found the side held since it was taken last.
@@ -196,10 +194,9 @@ impl<T: Serve> SharedStorage<T> {
             let Some(mut side) = self.try_hold() else {
                 return true;
             };
-            let may_leave = side.serve_turn(rt, signals, own);
-            let is_done = side.is_done();
+            let is_left = side.serve_turn(rt, signals, own);
             drop(side);
-            if may_leave || is_done {
+            if is_left {
                 return false;
             }
             if !self.is_wanted() {

@@ -34,19 +34,13 @@ fn end_wait<R: time::Clock>(rt: &R, waits: Option<&mut Waits>) {
 /// A message that was served.
 #[derive(Clone, Copy)]
 pub enum Served {
-    /// A request of this worker, whose answer takes about so many bytes.
-    Request { worker: usize, bytes: usize },
+    Request {
+        /// When the clock was read for it.
+        at: Option<Instant>,
+        /// About how many bytes its answer takes, unless it is of the worker that holds the side.
+        of_others: Option<usize>,
+    },
     Bye,
-}
-
-impl Served {
-    /// About how many bytes its answer takes, if it was of another worker than this one.
-    fn bytes_of_others(self, own: usize) -> Option<usize> {
-        match self {
-            Served::Request { worker, bytes } if worker != own => Some(bytes),
-            _ => None,
-        }
-    }
 }
 
 /// A turn of a worker.
@@ -163,18 +157,20 @@ impl<S: StorageEngine, C: Clock> StorageSide<S, C> {
     }
 
     /// Takes the next message and executes it, if it is a request. If there was none, the workers
-    /// have been told of all answers. A wait of the thread ends once a message was taken.
+    /// have been told of all answers. A wait of the thread ends once a message was taken. A worker
+    /// that holds the side isn't woken.
     pub fn serve_next<R: time::Clock>(
         &mut self,
         rt: &R,
         signals: &GroupSignals,
+        holder: Option<usize>,
         waits: Option<&mut Waits>,
     ) -> Option<Served>
         ensures origin { self.new.origin ≡ self.old.origin }
         ensures told { IfNone result (self.new.end.told ≡ self.new.end.end.history) }
     {
         if self.state.left == 0 {
-            tell_workers(&mut self.state.end, signals);
+            tell_workers(&mut self.state.end, signals, holder);
             return None;
         }
         match take_next(
@@ -182,6 +178,7 @@ impl<S: StorageEngine, C: Clock> StorageSide<S, C> {
             &self.state.clock,
             self.state.executed,
             signals,
+            holder,
         ) {
             Some(Taken::Asked { worker, posted }) => {
                 end_wait(rt, waits);
@@ -199,6 +196,7 @@ impl<S: StorageEngine, C: Clock> StorageSide<S, C> {
                     &mut self.state.counts,
                     &mut self.state.source,
                     &mut self.state.end,
+                    holder,
                     worker,
                     posted,
                 );
@@ -217,26 +215,13 @@ impl<S: StorageEngine, C: Clock> StorageSide<S, C> {
         }
     }
 
-    /// Tells the workers of all answers.
-    fn tell(&mut self, signals: &GroupSignals)
-        ensures origin { self.new.origin ≡ self.old.origin }
-        ensures told { self.new.end.told ≡ self.new.end.end.history }
-    {
-        tell_workers(&mut self.state.end, signals);
-    }
-
     /// Whether all was executed that can have been posted, in a turn of the only worker.
     fn is_spent(&self) -> bool {
-        let (_, _, seen) = self.state.end.seen();
-        self.state.end.workers() == 1 && seen == 0
-    }
-
-    /// When the clock was read for what was served last, if that is a request.
-    fn read_at(&self, served: Served) -> Option<Instant> {
-        match served {
-            Served::Request { .. } => self.state.clock.at(),
-            Served::Bye => None,
+        if self.state.end.workers() > 1 {
+            return false;
         }
+        let (_, _, seen) = self.state.end.seen();
+        seen == 0
     }
 
     /// Executes what stands in the lanes, for the worker of this number: of others no more requests
@@ -252,24 +237,26 @@ impl<S: StorageEngine, C: Clock> StorageSide<S, C> {
         let mut requests = 0u64;
         let mut bytes = 0usize;
         for _ in 0..MESSAGES_A_TURN {
-            let Some(served) = self.serve_next(rt, signals, None) else {
+            let Some(served) = self.serve_next(rt, signals, Some(own), None) else {
                 turn.may_leave = false;
                 return turn;
             };
-            turn.since = turn.since.or(self.read_at(served));
+            if let Served::Request { at, of_others } = served {
+                turn.since = turn.since.or(at);
+                if let Some(more) = of_others {
+                    requests = requests.saturating_add(1);
+                    bytes = bytes.saturating_add(more);
+                }
+            }
             if self.is_spent() {
                 turn.may_leave = false;
                 break;
-            }
-            if let Some(more) = served.bytes_of_others(own) {
-                requests = requests.saturating_add(1);
-                bytes = bytes.saturating_add(more);
             }
             if requests >= OTHERS_A_TURN || bytes >= OTHERS_BYTES_A_TURN {
                 break;
             }
         }
-        self.tell(signals);
+        tell_workers(&mut self.state.end, signals, Some(own));
         turn
     }
 }

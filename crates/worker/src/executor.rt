@@ -7,14 +7,9 @@ use exchange::GroupSignals;
 pub struct Posting {
     /// The worker's number.
     pub worker: usize,
-    /// How many of its requests aren't answered yet.
-    pub requests: u64,
-    /// Whether they are for so many keys, or their answers so large, that the worker sends one at a
-    /// time.
-    pub is_crowded: bool,
-    /// Whether the worker has more to do before it waits for the answers: requests that the window
-    /// has no room for, or streams that may have input.
-    pub has_more: bool,
+    /// Whether it is left to another thread: it is large, and the worker has more to do before it
+    /// waits for the answers.
+    pub is_left: bool,
 }
 
 /// Sees to it that what workers have posted is executed, by another thread or by the caller's. No

@@ -16,8 +16,12 @@ const IDLE_TURNS: u32 = 40;
 pub(crate) struct Pauses<'a> {
     idle: IdleTurns,
     backoff: Backoff,
+    /// Whether the last turn was idle.
+    is_idle: bool,
     /// Whether it spins for a time.
     is_timed: bool,
+    /// Whether there are other workers, which may tell this one's gauges.
+    pub(crate) has_others: bool,
     /// How long the worker waited, for answers or in its port.
     pub(crate) waits: Waits<'a>,
     pub(crate) retries: Retries,
@@ -27,11 +31,13 @@ pub(crate) struct Pauses<'a> {
 impl<'a> Pauses<'a> {
     /// A worker that waits for an answer spins for `spin` microseconds before it parks, or for
     /// `IDLE_TURNS` turns.
-    pub(crate) fn new(spin: Option<u32>, waits: Waits<'a>) -> Pauses<'a> {
+    pub(crate) fn new(spin: Option<u32>, has_others: bool, waits: Waits<'a>) -> Pauses<'a> {
         Pauses {
             idle: IdleTurns::new(IDLE_TURNS, spin),
             backoff: Backoff::new(),
+            is_idle: false,
             is_timed: spin.is_some(),
+            has_others,
             waits,
             retries: Retries::default(),
             seconds: Seconds::default(),
@@ -40,6 +46,10 @@ impl<'a> Pauses<'a> {
 
     /// Something came: the next idle turn is the first of a row.
     pub(crate) fn reset(&mut self, parking: Option<&ParkingWord>) {
+        if !self.is_idle {
+            return;
+        }
+        self.is_idle = false;
         if let Some(parking) = parking {
             self.idle.reset(parking);
         }
@@ -53,6 +63,7 @@ impl<'a> Pauses<'a> {
         for_answers: bool,
         parking: Option<&ParkingWord>,
     ) {
+        self.is_idle = true;
         match parking {
             Some(parking) if for_answers => {
                 if self.is_timed || self.idle.parks_next() {

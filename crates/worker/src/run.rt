@@ -36,13 +36,14 @@ const EVENTS_WHILE_BUSY: usize = 8;
 /// The most requests that a session is asked for in a row, while others wait to be asked and much
 /// output waits. Else it is all that a window has, since the pipelines of fewer sessions are then
 /// under way, and stay in the processor's cache.
-const ASKS_IN_A_ROW: usize = 8;
+const ASKS_IN_A_ROW: u64 = 8;
 
 /// The bytes of output above which no further session is offered its own in a turn: so turns stay
 /// short beside large answers.
-const OUTPUT_A_TURN: u64 = 1_048_576;
+const OUTPUT_A_TURN: usize = 1_048_576;
 
-/// A worker that doesn't wait sets its gauges each time that it has taken so many turns.
+/// A worker that doesn't wait sets its gauges for the others each time that it has taken so many
+/// turns.
 const TURNS_PER_GAUGES: u32 = 16;
 
 /// What a worker leaves.
@@ -59,7 +60,8 @@ pub struct WorkerReport<P> {
 }
 
 /// Takes an event, if there is one, and gives how many bytes of input it brought. The time for
-/// which the port may wait isn't busy, and before it the worker sets its gauges.
+/// which the port may wait isn't busy, and before it the worker sets its gauges, if there are
+/// others.
 fn take_event<P: Port, R: Clock>(
     rt: &R,
     worker: &mut Worker<P>,
@@ -70,7 +72,9 @@ fn take_event<P: Port, R: Clock>(
 {
     let may_wait = worker.may_wait(&pauses.retries);
     if may_wait {
-        worker.state.set_gauges(storage);
+        if pauses.has_others {
+            worker.state.set_gauges(storage);
+        }
         pauses.waits.begin(rt);
     }
     let came = worker.take_event(may_wait);
@@ -141,12 +145,10 @@ fn ask_session<P: Port, G: Gate>(
     requires { worker.old.request ≡ None }
     ensures { Continues P.told P.leads_to worker.old worker.new }
 {
-    let most = if worker.state.book.has_little_output() {
-        WINDOW as usize
-    } else {
-        ASKS_IN_A_ROW
-    };
-    for _ in 0..most {
+    for asked in 0..WINDOW {
+        if asked >= ASKS_IN_A_ROW && !worker.state.book.has_little_output() {
+            break;
+        }
         match worker.ask_and_put(session, gate, storage) {
             AskAgain::Now => {}
             AskAgain::Later => return,
@@ -218,25 +220,18 @@ fn settle_answers<P: Port, G: Gate>(worker: &mut Worker<P>, gate: &G) -> bool
 fn give_output<P: Port>(worker: &mut Worker<P>, task: Task, most: usize) -> (usize, bool)
     ensures { Continues P.told P.leads_to worker.old worker.new }
 {
-    let written = worker.state.book.written();
-    let (mut count, mut moved) = (0, false);
+    let (mut count, mut bytes, mut moved) = (0, 0_usize, false);
     for taken in 1..=most {
-        moved |= worker.give_next(task);
         count = taken;
-        if worker.state.book.written().wrapping_sub(written) >= OUTPUT_A_TURN {
+        if let Some(accepted) = worker.give_next(task) {
+            moved = true;
+            bytes = bytes.saturating_add(accepted);
+        }
+        if bytes >= OUTPUT_A_TURN {
             break;
         }
     }
     (count, moved)
-}
-
-/// Gives the output that wasn't offered yet. True if something was done.
-fn give_new_output<P: Port>(worker: &mut Worker<P>) -> bool
-    ensures { Continues P.told P.leads_to worker.old worker.new }
-{
-    let most = worker.state.book.ready(Task::Give);
-    let (_, moved) = give_output(worker, Task::Give, most);
-    moved
 }
 
 /// Offers output again that clients didn't take. True if something was done.
@@ -367,7 +362,8 @@ fn take_turn<P: Port, G: Gate, E: Executor, R: Clock>(
     let asked = feed_and_ask(worker, came, gate, storage);
     worker.flush(executor, came == EVENTS_A_TURN);
     let settled = settle_answers(worker, gate);
-    let given = give_new_output(worker);
+    let new = worker.state.book.ready(Task::Give);
+    let (_, given) = give_output(worker, Task::Give, new);
     let waited = serve_waiting(rt, worker, pauses, storage);
     held || came > 0 || asked || settled || given || waited
 }
@@ -425,10 +421,14 @@ pub fn run_worker<P: Port, G: Gate, E: Executor, R: Wait + Clock>(
     let parking = storage.worker_parking(worker_end.worker());
     let gauges = storage.gauges(worker_end.worker());
     let mut worker = Worker::new(alloc, port, worker_end, dialect, output_budget);
-    let mut pauses = Pauses::new(storage.spin(), Waits::new(rt, gauges));
-    let mut turns = 0;
+    let has_others = storage.workers() > 1;
+    let mut pauses = Pauses::new(storage.spin(), has_others, Waits::new(rt, gauges));
+    let mut turns: u32 = 0;
     for _ in rt.forever() {
-        count_turn(&mut turns, &worker, storage);
+        turns = turns.wrapping_add(1);
+        if has_others && turns % TURNS_PER_GAUGES == 0 {
+            worker.state.set_gauges(storage);
+        }
         if take_turn(rt, &mut worker, &mut pauses, gate, executor, storage) {
             pauses.reset(parking);
         } else if has_drained(&mut worker) {
@@ -438,14 +438,6 @@ pub fn run_worker<P: Port, G: Gate, E: Executor, R: Wait + Clock>(
         }
     }
     unreachable!()
-}
-
-/// Counts a turn. At each of so many the worker sets its gauges.
-fn count_turn<P: Port>(turns: &mut u32, worker: &Worker<P>, storage: &GroupSignals) {
-    *turns = turns.wrapping_add(1);
-    if *turns % TURNS_PER_GAUGES == 0 {
-        worker.state.set_gauges(storage);
-    }
 }
 
 /// Says bye, as whoever executes is told, and leaves the report.
@@ -478,9 +470,7 @@ fn leave<P: Port, E: Executor>(worker: Worker<P>, executor: &E) -> WorkerReport<
     worker_end.bye();
     executor.posted(Posting {
         worker: worker_end.worker(),
-        requests: 0,
-        is_crowded: false,
-        has_more: false,
+        is_left: false,
     });
     WorkerReport {
         port,

@@ -22,6 +22,9 @@ use std::alloc::Global;
 use std::marker::Model;
 use worker_port::{CloseReason, Gone, Port, PortEvent};
 
+/// The requests from which on a posting is large.
+const LARGE_REQUESTS: u64 = 32;
+
 /// What asking a session brought.
 #[derive(Clone, Copy)]
 pub(crate) enum Asked {
@@ -172,13 +175,16 @@ impl<P: Port> WorkerState<P> {
         }
     }
 
-    /// What the worker says once it has posted. The port may have more events, or not.
+    /// What the worker says once it has posted. The port may have more events, or not. A posting of
+    /// many requests is large; so is one for so many keys, or with answers so large, that the worker
+    /// sends one request at a time. There is more to do if streams may have input, or the window has
+    /// no room for requests.
     fn posting(&self, may_read_on: bool) -> Posting {
+        let has_more = may_read_on || self.book.ready(Task::Ask) > 0;
         Posting {
             worker: self.batch.worker(),
-            requests: self.batch.outstanding(),
-            is_crowded: self.book.is_crowded(),
-            has_more: may_read_on || self.book.ready(Task::Ask) > 0,
+            is_left: has_more
+                && (self.batch.outstanding() >= LARGE_REQUESTS || self.book.is_crowded()),
         }
     }
 }
@@ -433,27 +439,29 @@ impl<P: Port> Worker<P> {
     }
 
     /// Offers in one call the output of the next session that is to be taken up for the task, if it
-    /// is worth it, and shuts the session if it has finished. True if something was done.
-    pub(crate) fn give_next(&mut self, task: Task) -> bool
+    /// is worth it, and shuts the session if it has finished. It gives how many bytes were accepted,
+    /// and None if nothing was done.
+    pub(crate) fn give_next(&mut self, task: Task) -> Option<usize>
         ensures { Continues P.told P.leads_to self.old self.new }
     {
         let Some(session) = self.state.book.next_ready(task) else {
-            return false;
+            return None;
         };
         let offer = self.state.book.offer(session);
         if offer.out.is_empty() {
             let finished = offer.finished;
-            return self.finish(session, finished);
+            return self.finish(session, finished).then_some(0);
         }
         let history = self.state.batch.told();
         match self.state.port.give(session, offer.out, history) {
             Ok(accepted) => {
                 let finished = self.state.book.gave(session, accepted);
-                self.finish(session, finished) || accepted > 0
+                let is_shut = self.finish(session, finished);
+                (is_shut | (accepted > 0)).then_some(accepted)
             }
             Err(Gone) => {
                 self.state.close(session, EndCause::Gone);
-                true
+                Some(0)
             }
         }
     }

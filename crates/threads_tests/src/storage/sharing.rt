@@ -80,7 +80,7 @@ impl Serve for SaidSide {
         _signals: &GroupSignals,
         _own: usize,
     ) -> bool {
-        self.may_leave
+        self.may_leave || self.is_done
     }
 
     fn serve_until_idle<R: Wait + time::Clock>(

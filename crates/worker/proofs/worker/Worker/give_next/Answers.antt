@@ -104,15 +104,10 @@ pub invariant_of-self-in-Ok : goal.invariant_of-self-in-Ok
 invariant_of-self-in-Ok g c = (gave_some g (goal.at.invariant_of-self-in-Ok g c).After-gave-finished).serving
 
 -- then the session was shut if it had finished
-pub returns-then-finish : goal.returns-then-finish
-returns-then-finish g c = continues_trans g.met.P.Port.leads_transitive
-    (continues c.self.view_is c.in-Ok.ensures.leads (gave_some g (goal.at.returns-then-finish g c).After-gave-finished))
-    c.finish-in-Ok.ensures
-
-pub returns-else-finish : goal.returns-else-finish
-returns-else-finish g c = continues_trans g.met.P.Port.leads_transitive
-    (continues c.self.view_is c.in-Ok.ensures.leads (gave_some g (goal.at.returns-else-finish g c).After-gave-finished))
-    c.finish-in-Ok.ensures
+pub returns-in-Ok : goal.returns-in-Ok
+returns-in-Ok g c = continues_trans g.met.P.Port.leads_transitive
+    (continues c.self.view_is c.in-Ok.ensures.leads (gave_some g (goal.at.returns-in-Ok g c).After-gave-finished))
+    c.finish-is_shut.ensures
 
 pub invariant_of-self-in-Err : goal.invariant_of-self-in-Err
 invariant_of-self-in-Err g c = (lost g (goal.at.invariant_of-self-in-Err g c).After-close).serving

@@ -1,5 +1,7 @@
-//! When output is offered again that clients didn't take, and how long sessions wait for room.
+//! When output is offered again that clients didn't take, and what passes while sessions wait for
+//! memory.
 
+use session_book::Tick;
 use std::time::{Clock, Duration, Instant};
 
 /// The most sessions that are offered their output again in a turn, at a port that doesn't tell of
@@ -43,34 +45,54 @@ impl Retries {
     }
 }
 
-/// Seconds, as they pass while sessions wait for memory.
+/// The microseconds of a tick: a sixteenth of a second.
+const TICK_MICROS: u64 = 62_500;
+
+/// The turns in a row in which nothing came that are a tick too: the port was polled in them.
+const IDLE_TURNS: u32 = 8;
+
+/// What passes while sessions wait for memory.
 #[derive(Clone, Copy, Default)]
-pub(crate) struct Seconds {
-    /// When the second began that runs; none if no session waits, or the clock couldn't be read.
+pub(crate) struct Ticks {
+    /// When the tick began that runs; none if no session waits, or the clock couldn't be read.
     since: Option<Instant>,
+    /// The turns in a row in which nothing came.
+    idle: u32,
 }
 
-impl Seconds {
+impl Ticks {
     /// No session waits.
     pub(crate) fn stop(&mut self) {
         self.since = None;
+        self.idle = 0;
     }
 
-    /// Whether another second has passed in which a session waited for memory. The clock is read
-    /// only while one does.
-    pub(crate) fn has_passed<R: Clock>(&mut self, rt: &R, is_waiting: bool) -> bool {
+    /// Something came in this turn, or nothing did.
+    pub(crate) fn count_turn(&mut self, is_idle: bool) {
+        self.idle = if is_idle {
+            self.idle.saturating_add(1)
+        } else {
+            0
+        };
+    }
+
+    /// What has passed while a session waited for memory, if something has. The clock is read only
+    /// while one does.
+    pub(crate) fn next<R: Clock>(&mut self, rt: &R, is_waiting: bool) -> Option<Tick> {
         if !is_waiting {
             self.stop();
-            return false;
+            return None;
         }
-        let Ok(now) = Instant::now(rt) else {
-            return false;
-        };
+        if self.idle >= IDLE_TURNS {
+            self.idle = 0;
+            return Some(Tick::Idle);
+        }
+        let now = Instant::now(rt).ok()?;
         let since = *self.since.get_or_insert(now);
-        if now.duration_since(since) < Duration::from_secs(1) {
-            return false;
+        if now.duration_since(since) < Duration::from_micros(TICK_MICROS) {
+            return None;
         }
         self.since = Some(now);
-        true
+        Some(Tick::Time)
     }
 }

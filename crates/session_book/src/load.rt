@@ -29,10 +29,10 @@ pub const OUTPUT_BUDGET: usize = 67_108_864;
 /// would exceed them isn't read on.
 const INPUT_BUDGET: usize = 67_108_864;
 
-/// The bytes of large messages that come at once, as long as their clients send fast: so most of
-/// such a message stands in the processor's cache until it is whole, and others wait for few pieces
-/// of them.
-const INPUT_AT_ONCE: usize = 2_097_152;
+/// The bytes of large messages that come at once if it is more than one of them, as long as their
+/// clients send fast: so they stand in the processor's cache until they are whole, and others wait
+/// for few of their pieces.
+const INPUT_AT_ONCE: usize = 1_048_576;
 
 /// The room of a large message, and how often room had aged when it was reserved.
 #[derive(Clone, Copy, Default)]

@@ -44,7 +44,7 @@ impl<'a> Pauses<'a> {
             self.idle.reset(parking);
         }
         self.backoff.reset();
-        self.ticks.count_turn(false);
+        self.ticks.end_idle_turns();
     }
 
     /// One idle turn, in which answers are waited for or not.
@@ -63,7 +63,7 @@ impl<'a> Pauses<'a> {
                 self.waits.end(rt);
             }
             _ => {
-                self.ticks.count_turn(true);
+                self.ticks.count_idle_turn();
                 self.backoff.snooze();
             }
         }

@@ -57,42 +57,57 @@ pub(crate) struct Ticks {
     /// When the tick began that runs; none if no session waits, or the clock couldn't be read.
     since: Option<Instant>,
     /// The turns in a row in which nothing came.
-    idle: u32,
+    idle_turns: u32,
+    /// Whether these were the last tick.
+    was_idle: bool,
 }
 
 impl Ticks {
     /// No session waits.
     pub(crate) fn stop(&mut self) {
         self.since = None;
-        self.idle = 0;
+        self.idle_turns = 0;
     }
 
-    /// Something came in this turn, or nothing did.
-    pub(crate) fn count_turn(&mut self, is_idle: bool) {
-        self.idle = if is_idle {
-            self.idle.saturating_add(1)
-        } else {
-            0
-        };
+    /// Nothing came in this turn.
+    pub(crate) fn count_idle_turn(&mut self) {
+        self.idle_turns = self.idle_turns.saturating_add(1);
     }
 
-    /// What has passed while a session waited for memory, if something has. The clock is read only
+    /// Something came in this turn.
+    pub(crate) fn end_idle_turns(&mut self) {
+        self.idle_turns = 0;
+    }
+
+    /// Whether another tick has passed while a session waited for memory. The clock is read only
     /// while one does.
-    pub(crate) fn next<R: Clock>(&mut self, rt: &R, is_waiting: bool) -> Option<Tick> {
+    pub(crate) fn has_passed<R: Clock>(&mut self, rt: &R, is_waiting: bool) -> bool {
         if !is_waiting {
             self.stop();
-            return None;
+            return false;
         }
-        if self.idle >= IDLE_TURNS {
-            self.idle = 0;
-            return Some(Tick::Idle);
+        self.was_idle = self.idle_turns >= IDLE_TURNS;
+        if self.was_idle {
+            self.idle_turns = 0;
+            return true;
         }
-        let now = Instant::now(rt).ok()?;
+        let Ok(now) = Instant::now(rt) else {
+            return false;
+        };
         let since = *self.since.get_or_insert(now);
         if now.duration_since(since) < Duration::from_micros(TICK_MICROS) {
-            return None;
+            return false;
         }
         self.since = Some(now);
-        Some(Tick::Time)
+        true
+    }
+
+    /// The tick that has passed.
+    pub(crate) fn last(&self) -> Tick {
+        if self.was_idle {
+            Tick::Idle
+        } else {
+            Tick::Time
+        }
     }
 }

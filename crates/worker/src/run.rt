@@ -274,10 +274,10 @@ fn shut_stalled<P: Port, R: Clock>(
 ) -> bool
     ensures { Continues P.told P.leads_to worker.old worker.new }
 {
-    let Some(tick) = ticks.next(rt, worker.state.book.waits_for_memory()) else {
+    if !ticks.has_passed(rt, worker.state.book.waits_for_memory()) {
         return false;
-    };
-    worker.state.book.count_tick(tick);
+    }
+    worker.state.book.count_tick(ticks.last());
     let mut moved = false;
     for _ in 0..WINDOW {
         let Some(session) = worker.state.book.find_stalled() else {

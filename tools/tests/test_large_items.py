@@ -4,10 +4,11 @@ requests hold that stop within their values.
 A `set` of a value that doesn't fit takes out the old one, and its session goes on behind it.
 """
 import contextlib
+import threading
 import time
 
 import pytest
-from asking import MISS, NO_NUMBER, STORED, TOO_LARGE, ask, hit, opened
+from asking import MISS, NO_NUMBER, STORED, TOO_LARGE, ask, hit, opened, seconds_to
 from replays import given
 from served import read_to_end
 from stats_of import numbers, told, wait_for
@@ -147,24 +148,75 @@ def test_who_stops_while_others_wait_is_closed(serve):
     assert numbers(other)["closed_unread"] >= 2
 
 
+def send_slowly(streams, text, seconds):
+    """Each sends the text evenly within so many seconds, or later if it isn't taken."""
+    sent, began = dict.fromkeys(streams, 0), time.monotonic()
+    for stream in streams:
+        stream.setblocking(False)
+    while sent:
+        most = min(int((time.monotonic() - began) / seconds * len(text)) + 1, len(text))
+        for stream in list(sent):
+            with contextlib.suppress(BlockingIOError):
+                sent[stream] += stream.send(text[sent[stream] : most])
+            if sent[stream] == len(text):
+                del sent[stream]
+        time.sleep(0.01)
+    for stream in streams:
+        stream.setblocking(True)
+
+
 def test_who_sends_slowly_is_waited_for(serve):
-    """80 send their values within twelve seconds each; more than have room, and all are stored."""
+    """More than have room send their values within twelve seconds each, and all are stored."""
     value, server = value_of(1_000_000), serve(*SIZES, "--workers", "1")
     begun = opened(server, HAVE_ROOM + 14)
-    left = dict.fromkeys(begun, put(b"set", b"a", value))
+    send_slowly(begun, put(b"set", b"a", value), 12)
     for stream in begun:
-        stream.setblocking(False)
-    while left:
-        for stream in list(left):
-            with contextlib.suppress(BlockingIOError):
-                left[stream] = left[stream][stream.send(left[stream][:20_000]) :]
-            if not left[stream]:
-                del left[stream]
-        time.sleep(0.24)
-    for stream in begun:
-        stream.setblocking(True)
         ask(stream, b"get a\r\n", STORED + hit(b"a", value, 7))
     assert told(begun[0])["closed_unread"] == "0"
+
+
+@contextlib.contextmanager
+def busy(server):
+    """Meanwhile others ask as fast as they are answered, so the worker is never idle for long."""
+    streams, is_over = opened(server, 3), threading.Event()
+
+    def ask_on(stream):
+        while not is_over.is_set():
+            ask(stream, 200 * MISS, 200 * END)
+
+    threads = [threading.Thread(target=ask_on, args=(it,)) for it in streams]
+    for thread in threads:
+        thread.start()
+    try:
+        yield
+    finally:
+        is_over.set()
+        for thread in threads:
+            thread.join()
+
+
+@pytest.mark.parametrize("is_busy", [False, True])
+def test_fifty_slow_clients_take_the_time_of_one(serve, is_busy):
+    """Few values come at once, but those that come slowly hold up no others for long."""
+    server = serve(*SIZES, "--workers", "1")
+    streams, text, began = opened(server, 50), put(b"set", b"a", value_of(1_000_000)), 0
+    with busy(server) if is_busy else contextlib.nullcontext():
+        began = time.monotonic()
+        send_slowly(streams, text, 1)
+        for stream in streams:
+            ask(stream, b"", STORED)
+        assert time.monotonic() - began < 3
+
+
+@pytest.mark.parametrize("is_busy", [False, True])
+def test_values_that_stop_half_way_hold_up_others_for_a_second_at_most(serve, is_busy):
+    server = serve(*SIZES, "--workers", "1")
+    stopped(server, HAVE_ROOM - 2, 524_288)
+    stream, = opened(server, 1)
+    with busy(server) if is_busy else contextlib.nullcontext():
+        # (twice as long on a machine that is busy otherwise)
+        assert seconds_to(stream, *set_and_get(value_of(LONGEST))) < 2
+        assert seconds_to(stream, *set_and_get(value_of(LONGEST))) < 0.5
 
 
 # Each connection has room for 262,144 bytes at first. A block that no item may have, as those have

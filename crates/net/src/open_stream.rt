@@ -10,7 +10,7 @@ ghost use Rattle.net.specs.Sockets.{IsNewLog};
 ghost use Rattle.net.specs.Shown.{seen_of, Arrives, listing, Lists, ListsRead, IsTakenOff};
 ghost use Rattle.worker_port.specs.Giving.{MayBeSent, by_system_clock, sent_for};
 
-use crate::read_memory::ReadMemory;
+use crate::read_memory::{LARGE_READ, ReadMemory};
 use crate::sockets::ServedStream;
 use crate::streams::Owner;
 use bytes::{Bytes, BytesMut};
@@ -94,6 +94,9 @@ pub(crate) struct OpenStream {
     pub(crate) input: Input,
     /// The last read brought a whole piece, so that the next one may bring several.
     reads_much: bool,
+    /// It was paused once, so it may be again: only behind a read that was whole does one bring
+    /// several pieces, so that little is ahead of a stream that is paused.
+    was_paused: bool,
     /// Something was heard of since what is ahead was read.
     has_more: bool,
     output: Output,
@@ -112,6 +115,7 @@ impl OpenStream {
             stream,
             input: Input::Waiting,
             reads_much: false,
+            was_paused: false,
             has_more: false,
             output: Output::Free,
             active: looks,
@@ -285,7 +289,12 @@ impl OpenStream {
         {
             Ok(Some(0)) => Reading::Ended,
             Ok(Some(count)) => {
-                self.reads_much = count >= MAX_PIECE;
+                let least = if self.was_paused {
+                    LARGE_READ
+                } else {
+                    MAX_PIECE
+                };
+                self.reads_much = count >= least;
                 self.has_more = false;
                 self.tell(session, drains, looks, ready)
             }
@@ -362,6 +371,7 @@ impl OpenStream {
     pub(crate) fn pause(&mut self)
         ensures { seen_of self.new ≡ then_paused true (seen_of self.old) }
     {
+        self.was_paused = true;
         self.input = match self.input {
             Input::Waiting => Input::Paused { is_listed: false },
             Input::Listed | Input::Draining => Input::Paused { is_listed: true },

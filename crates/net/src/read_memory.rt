@@ -8,7 +8,7 @@ use std::alloc::{AllocError, Global};
 use std::collections::VecDeque;
 
 /// The most bytes of one large read.
-const LARGE_READ: usize = 131_072;
+pub(crate) const LARGE_READ: usize = 131_072;
 
 /// The most blocks of memory for large reads that a port has.
 const MOST: usize = 32;

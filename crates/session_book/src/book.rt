@@ -18,7 +18,7 @@ use crate::fault_line::FaultLine;
 use crate::load::Load;
 use crate::ready_queues::Task;
 use crate::session::{MAX_WAITING, Offer, Session};
-use crate::upkeep::{Upkeep, key_count};
+use crate::upkeep::{Tick, Upkeep, key_count};
 use bytes::Bytes;
 use indexmap::IndexMap;
 use proto::{Answered, Dialect, Gauge, Gauges, MAX_POSTS, NoMemory, Request, WINDOW};
@@ -336,18 +336,18 @@ impl Book {
 
     /// Whether nothing can be done before a client takes output or sends something.
     pub fn waits_for_clients(&self) -> bool {
-        self.upkeep.ready.only_wait() && !self.has_room_for_first()
+        self.upkeep.ready.only_wait() && !self.has_room_for_first() && !self.may_read_on()
     }
 
-    /// A second has passed in which a session waited for memory.
-    pub fn count_second(&mut self)
+    /// This has passed while a session waited for memory.
+    pub fn count_tick(&mut self, tick: Tick)
         ensures { self.new ≡ self.old }
     {
-        self.upkeep.seconds = self.upkeep.seconds.saturating_add(1);
+        self.upkeep.count(tick);
     }
 
-    /// A lenient session whose client has stopped for ten of the seconds that were counted, if it
-    /// holds memory that others wait for: it took none of more than 16,384 bytes of output, or sent
+    /// A lenient session whose client has stopped for ten seconds, as they were counted, if it holds
+    /// memory that others wait for: it took none of more than 16,384 bytes of output, or sent
     /// no more of a large message.
     pub fn find_stalled(&self) -> Option<u64>
         ensures { IfSome result (IsStalled self.now) }
@@ -355,7 +355,8 @@ impl Book {
         if matches!(self.dialect, Dialect::Strict) {
             return None;
         }
-        let (for_output, for_input) = (self.waits_for_room(), self.waits_to_read());
+        let for_output = self.waits_for_room();
+        let for_input = self.waits_to_read() && !self.may_read_on();
         for (session, open) in self.sessions.iter() {
             if open.is_stalled(for_output, for_input, &self.upkeep) {
                 return Some(*session);
@@ -367,6 +368,21 @@ impl Book {
     /// Whether a session is paused until there is room for its large message.
     fn waits_to_read(&self) -> bool {
         self.upkeep.ready.count(Task::ReadOn) > 0
+    }
+
+    /// Whether the first of them has room though no other message comes before: once it is known
+    /// that the others come slowly.
+    fn may_read_on(&self) -> bool {
+        let Some((session, mut place)) = self.upkeep.ready.first(Task::ReadOn) else {
+            return false;
+        };
+        let Some(place) = find(&self.sessions, session, &mut place) else {
+            return true;
+        };
+        match self.sessions.get_index(place) {
+            Some((_, open)) => self.upkeep.load.has_budget_for(open.large_need()),
+            None => true,
+        }
     }
 
     /// Takes out the next session that is to be paused. It waits for room for its large message.

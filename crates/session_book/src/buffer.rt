@@ -90,6 +90,24 @@ impl Buffer {
         Ok(())
     }
 
+    /// Moves the bytes into a spare buffer of large input, if they need as much room and there is
+    /// one that has it.
+    pub fn enlarge(&mut self, need: usize, spares: &mut SpareBuffers)
+        ensures { self.new ≡ self.old }
+    {
+        if self.bytes.capacity() >= need {
+            return;
+        }
+        let mut larger = Vec::new(*self.bytes.allocator());
+        spares.lend(Use::LargeInput, &mut larger);
+        if larger.capacity() < need || larger.extend_from_slice(self.as_slice()).is_err() {
+            spares.keep(Use::LargeInput, larger);
+            return;
+        }
+        spares.keep(Use::Input, mem::replace(&mut self.bytes, larger));
+        self.start = 0;
+    }
+
     /// Whether the first `n` bytes are to be taken out with the memory of all, and the others
     /// copied: they are many, and most.
     pub fn is_worth_taking(&self, n: usize) -> bool {
@@ -176,12 +194,14 @@ impl Buffer {
 #[derive(Clone, Copy)]
 pub(crate) enum Use {
     Input,
+    /// Input of large messages.
+    LargeInput,
     Output,
     Hits,
 }
 
 /// How many uses there are.
-const USES: usize = 3;
+const USES: usize = 4;
 
 /// The most spare buffers that are kept of a use.
 const MAX_BUFFERS: usize = 128;
@@ -218,7 +238,12 @@ impl Model for SpareBuffers {
 impl SpareBuffers {
     pub(crate) fn new(alloc: Global) -> SpareBuffers {
         SpareBuffers {
-            stacks: [Vec::new(alloc), Vec::new(alloc), Vec::new(alloc)],
+            stacks: [
+                Vec::new(alloc),
+                Vec::new(alloc),
+                Vec::new(alloc),
+                Vec::new(alloc),
+            ],
             bytes: 0,
         }
     }

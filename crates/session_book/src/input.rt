@@ -27,7 +27,7 @@ const BESIDE_MESSAGE: usize = 65_536;
 pub const MAX_SMALL_MESSAGE: usize = 196_608;
 
 /// The bytes of a message for which there is memory as soon as its length is known.
-const ROOM_AT_ONCE: usize = 262_144;
+pub(crate) const ROOM_AT_ONCE: usize = 262_144;
 
 /// What the input begins with.
 #[derive(Drop)]
@@ -183,6 +183,7 @@ impl Input {
         ensures err { OnErr result (self.new ≡ self.old) }
     {
         if self.need <= self.dialect.most_kept() {
+            self.kept.enlarge(self.large_need(), spares);
             let room = self.room();
             return self.kept.append(piece, room, spares);
         }

@@ -18,3 +18,4 @@ pub use causes::{EndCause, OpenFault, Received, Settled, Unasked};
 pub use fault_line::FaultLine;
 pub use load::OUTPUT_BUDGET;
 pub use ready_queues::Task;
+pub use upkeep::Tick;

@@ -1,6 +1,7 @@
 //! How much is unfinished in all sessions of a book, and what it counts for `stats`.
 
 use proto::{FatalKind, Gauge, Gauges, LocalKind, Message, WINDOW};
+use std::mem;
 
 /// The bytes up to which an answer is small: it waits for no room.
 pub const SMALL_ANSWER: usize = 16_384;
@@ -26,7 +27,74 @@ pub const OUTPUT_BUDGET: usize = 67_108_864;
 
 /// The bytes of large messages for which there is room, over all sessions. A session whose message
 /// would exceed them isn't read on.
-pub const INPUT_BUDGET: usize = 67_108_864;
+const INPUT_BUDGET: usize = 67_108_864;
+
+/// The bytes of large messages that come at once if it is more than one of them, as long as their
+/// clients send fast: so they stand in the processor's cache until they are whole, and others wait
+/// for few of their pieces.
+const INPUT_AT_ONCE: usize = 1_048_576;
+
+/// The room of a large message, and how often room had aged when it was reserved.
+#[derive(Clone, Copy, Default)]
+pub(crate) struct Room {
+    bytes: usize,
+    age: u64,
+}
+
+impl Room {
+    pub(crate) fn is_reserved(&self) -> bool {
+        self.bytes > 0
+    }
+}
+
+/// The room that is reserved for large messages. What was reserved before room aged twice is of
+/// clients that send slowly or have stopped. As much as that may come at once beside them, so soon
+/// all have room that one budget has.
+#[derive(Clone, Copy, Default)]
+struct Rooms {
+    new: usize,
+    /// What was reserved before room aged last.
+    aged: usize,
+    slow: usize,
+    /// How often room has aged.
+    age: u64,
+}
+
+impl Rooms {
+    /// What comes fast, as far as is known.
+    fn coming(&self) -> usize {
+        self.new.saturating_add(self.aged)
+    }
+
+    /// Whether there is room for so many bytes more.
+    fn has_budget_for(&self, n: usize) -> bool {
+        let reserved = self.coming().saturating_add(self.slow);
+        reserved.saturating_add(n) <= INPUT_BUDGET
+    }
+
+    /// Whether so many bytes more may come now.
+    fn has_room_for(&self, n: usize) -> bool {
+        let coming = self.coming();
+        let most = INPUT_AT_ONCE.max(self.slow);
+        self.has_budget_for(n) && (coming == 0 || coming.saturating_add(n) <= most)
+    }
+
+    /// All room ages.
+    fn grow_old(&mut self) {
+        self.slow = self.slow.saturating_add(self.aged);
+        self.aged = mem::take(&mut self.new);
+        self.age = self.age.saturating_add(1);
+    }
+
+    /// The message of this room has come, or doesn't any more.
+    fn release(&mut self, room: Room) {
+        match self.age.saturating_sub(room.age) {
+            0 => self.new = self.new.saturating_sub(room.bytes),
+            1 => self.aged = self.aged.saturating_sub(room.bytes),
+            _ => self.slow = self.slow.saturating_sub(room.bytes),
+        }
+    }
+}
 
 /// What a book counts for `stats`. After the greatest number a count goes on from 0.
 #[derive(Clone, Copy, Default)]
@@ -83,8 +151,7 @@ pub(crate) struct Load {
     pub(crate) output: usize,
     /// The bytes that output and the answers on their way may take.
     pub(crate) output_budget: usize,
-    /// The bytes of large messages for which room is reserved.
-    reserved: usize,
+    rooms: Rooms,
     counts: BookCounts,
 }
 
@@ -97,7 +164,7 @@ impl Load {
             key_bytes: KeyBytes::default(),
             output: 0,
             output_budget: OUTPUT_BUDGET,
-            reserved: 0,
+            rooms: Rooms::default(),
             counts: BookCounts::default(),
         }
     }
@@ -151,19 +218,32 @@ impl Load {
         self.counts.unread = self.counts.unread.wrapping_add(n as u64);
     }
 
-    /// Reserves room for a message of so many bytes. False if there is none.
-    pub(crate) fn reserve(&mut self, n: usize) -> bool {
-        let all = self.reserved.saturating_add(n);
-        if all > INPUT_BUDGET {
-            return false;
+    /// Reserves room for a message of so many bytes. None if there is none now.
+    pub(crate) fn reserve(&mut self, n: usize) -> Option<Room> {
+        let rooms = &mut self.rooms;
+        if !rooms.has_room_for(n) {
+            return None;
         }
-        self.reserved = all;
-        true
+        rooms.new = rooms.new.saturating_add(n);
+        Some(Room {
+            bytes: n,
+            age: rooms.age,
+        })
     }
 
-    /// A message of this length was read, for which so much room was reserved.
-    pub(crate) fn read(&mut self, message: &Message, length: usize, reserved: usize) {
-        self.reserved = self.reserved.saturating_sub(reserved);
+    /// Whether there may be room for a message of so many bytes before another one has come.
+    pub(crate) fn has_budget_for(&self, n: usize) -> bool {
+        self.rooms.has_budget_for(n)
+    }
+
+    /// The room of large messages ages.
+    pub(crate) fn grow_old(&mut self) {
+        self.rooms.grow_old();
+    }
+
+    /// A message of this length was read, for which this room was reserved.
+    pub(crate) fn read(&mut self, message: &Message, length: usize, room: Room) {
+        self.rooms.release(room);
         let counts = &mut self.counts;
         counts.unread = counts.unread.wrapping_sub(length as u64);
         match message {
@@ -228,9 +308,9 @@ impl Load {
 
     /// So many bytes of input and of output count no more, nor does the room that was reserved:
     /// their session is closed.
-    pub(crate) fn forget(&mut self, unread: usize, output: usize, reserved: usize) {
+    pub(crate) fn forget(&mut self, unread: usize, output: usize, room: Room) {
         self.output = self.output.saturating_sub(output);
-        self.reserved = self.reserved.saturating_sub(reserved);
+        self.rooms.release(room);
         self.counts.unread = self.counts.unread.wrapping_sub(unread as u64);
     }
 

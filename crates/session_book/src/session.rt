@@ -15,7 +15,7 @@ use crate::buffer::{Buffer, Use};
 use crate::causes::{EndCause, Received, Unasked, Unsettled};
 use crate::fault_line::FaultLine;
 use crate::input::{Found, Input};
-use crate::load::{KeyBytes, Load, SMALL_ANSWER};
+use crate::load::{KeyBytes, Load, Room, SMALL_ANSWER};
 use crate::ready_queues::{ReadyQueues, Task, Tickets};
 use crate::upkeep::{Upkeep, Waiting};
 use bytes::Bytes;
@@ -61,11 +61,11 @@ pub struct Session {
     key_bytes: KeyBytes,
     /// What the `get` waits for that was read and isn't asked yet.
     waiting: Option<Waiting>,
-    /// The second at which its client took nothing, if it took nothing since.
+    /// The tick at which its client took nothing, if it took nothing since.
     refused_at: Option<u64>,
-    /// The bytes of the large message that it sends, for which room is reserved.
-    reserved: usize,
-    /// The second at which input came last, or from which on it may come.
+    /// What is reserved for the large message that it sends.
+    room: Room,
+    /// The tick at which input came last, or from which on it may come.
     received_at: u64,
 }
 
@@ -111,7 +111,7 @@ impl Session {
             key_bytes: KeyBytes::default(),
             waiting: None,
             refused_at: None,
-            reserved: 0,
+            room: Room::default(),
             received_at: 0,
         }
     }
@@ -121,7 +121,7 @@ impl Session {
         ensures { TakesPiece self.old piece result self.new }
     {
         upkeep.load.received(piece.len());
-        self.received_at = upkeep.seconds;
+        self.received_at = upkeep.ticks;
         if self.held.is_some() {
             return Received::Refused;
         }
@@ -151,8 +151,8 @@ impl Session {
         fed
     }
 
-    /// Puts a piece of input after the unread bytes, if it fits, to be asked from. A session that
-    /// has read Quit or a fatal message drops it.
+    /// Puts a piece of input after the unread bytes, if it fits, to be asked from once there is
+    /// enough. A session that has read Quit or a fatal message drops it.
     fn feed(&mut self, session: u64, piece: &[u8], upkeep: &mut Upkeep) -> Result<bool, NoMemory>
         ensures full { (result ≡ Ok false) ↔ IsInputFull self.old piece.now }
         ensures fed { result ≡ Ok true → self.new ≡ once_fed self.old piece.now }
@@ -165,6 +165,9 @@ impl Session {
             }
             self.input.append(piece, &mut upkeep.spares)?;
             upkeep.load.fed(piece.len());
+            if !self.input.has_enough() {
+                return Ok(true);
+            }
         }
         upkeep.ready.add(Task::Ask, session, &mut self.tickets.ask);
         Ok(true)
@@ -202,16 +205,16 @@ impl Session {
                 put_behind(&mut self.queue, &mut self.output, &message, upkeep)?;
                 upkeep.fault = FaultLine::copied(self.alloc, &message, &self.input);
                 self.input.take(length, &mut upkeep.spares);
-                let reserved = mem::take(&mut self.reserved);
-                upkeep.load.read(&message, length, reserved);
+                let room = mem::take(&mut self.room);
+                upkeep.load.read(&message, length, room);
                 self.ended = cause_of(&message);
                 Ok(Some(message))
             }
             Found::Taken(request, noreply, length) => {
                 let message = Message::Ask(request, noreply);
                 self.queue.push_back_reserved(PendingAnswer::of(&message));
-                let reserved = mem::take(&mut self.reserved);
-                upkeep.load.read(&message, length, reserved);
+                let room = mem::take(&mut self.room);
+                upkeep.load.read(&message, length, room);
                 Ok(Some(message))
             }
         }
@@ -267,16 +270,18 @@ impl Session {
         ensures { self.new ≡ self.old }
     {
         let needed = self.input.large_need();
-        if needed == 0 || self.reserved > 0 || upkeep.ready.has(self.tickets.read) {
+        if needed == 0 || self.room.is_reserved() || upkeep.ready.has(self.tickets.read) {
             return;
         }
-        if upkeep.ready.none_waits_to_read() && upkeep.load.reserve(needed) {
-            self.reserved = needed;
-        } else {
-            upkeep
-                .ready
-                .add(Task::Pause, session, &mut self.tickets.read);
+        if upkeep.ready.none_waits_to_read() {
+            if let Some(room) = upkeep.load.reserve(needed) {
+                self.room = room;
+                return;
+            }
         }
+        upkeep
+            .ready
+            .add(Task::Pause, session, &mut self.tickets.read);
     }
 
     /// It is paused, until there is room for its large message.
@@ -293,14 +298,13 @@ impl Session {
         ensures same { self.new ≡ self.old }
         ensures none_held { OnTrue result (self.old.held ≡ []) }
     {
-        let needed = self.input.large_need();
-        if upkeep.load.reserve(needed) {
-            self.reserved = needed;
-        } else if !has_ended {
-            return false;
+        match upkeep.load.reserve(self.input.large_need()) {
+            Some(room) => self.room = room,
+            None if has_ended => {}
+            None => return false,
         }
         upkeep.ready.take(Task::ReadOn);
-        self.received_at = upkeep.seconds;
+        self.received_at = upkeep.ticks;
         if self.held.is_some() {
             upkeep
                 .ready
@@ -396,7 +400,7 @@ impl Session {
             upkeep
                 .ready
                 .add(Task::RetryWrite, session, &mut self.tickets.give);
-            self.refused_at = self.refused_at.or(Some(upkeep.seconds));
+            self.refused_at = self.refused_at.or(Some(upkeep.ticks));
         } else {
             self.refused_at = None;
             if left > 0 {
@@ -427,7 +431,7 @@ impl Session {
 
     /// What is left of its input and its output counts no more: the session is closed.
     pub fn forget(&self, load: &mut Load) {
-        load.forget(self.input.len(), self.output.len(), self.reserved);
+        load.forget(self.input.len(), self.output.len(), self.room);
     }
 
     /// No more input comes.
@@ -448,6 +452,11 @@ impl Session {
         self.waiting.map_or(0, |waiting| waiting.likely)
     }
 
+    /// The bytes of the large message for which it waits to be read on, if it does; else 0.
+    pub fn large_need(&self) -> usize {
+        self.input.large_need()
+    }
+
     /// What keys took in the last answer.
     pub fn key_bytes(&self) -> KeyBytes {
         self.key_bytes
@@ -458,7 +467,7 @@ impl Session {
     pub fn is_stalled(&self, for_output: bool, for_input: bool, upkeep: &Upkeep) -> bool
         ensures { OnTrue result (MayStall self.now) }
     {
-        let holds_input = for_input && self.reserved > 0;
+        let holds_input = for_input && self.room.is_reserved();
         if (for_output || holds_input) && self.is_unread(upkeep) {
             return true;
         }
@@ -473,7 +482,7 @@ impl Session {
         self.output.len() > SMALL_ANSWER
             && self
                 .refused_at
-                .is_some_and(|second| upkeep.has_stopped_since(second))
+                .is_some_and(|tick| upkeep.has_stopped_since(tick))
     }
 
     /// Whether it began a large message, of which its client sent nothing for some seconds.

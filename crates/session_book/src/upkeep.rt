@@ -4,13 +4,24 @@ ghost use Rattle.std.specs.Prelude.{◌≡◌};
 
 use crate::buffer::{LARGE_MESSAGE, SpareBuffers, Use};
 use crate::fault_line::FaultLine;
+use crate::input::ROOM_AT_ONCE;
 use crate::load::{KeyBytes, Load};
 use crate::ready_queues::{ReadyQueues, Task};
 use proto::{Answered, Keys, Reply, Request, SpareBuffer};
 use std::alloc::Global;
 
-/// The seconds, as they are counted, after which a client that took and sent nothing has stopped.
-const STOPPED_SECONDS: u64 = 10;
+/// What has passed while sessions waited for memory.
+#[derive(Clone, Copy)]
+pub enum Tick {
+    /// A sixteenth of a second.
+    Time,
+    /// Several turns of the owner in a row in which nothing came.
+    Idle,
+}
+
+/// The sixteenths of a second, as they are counted, after which a client that took and sent nothing
+/// has stopped.
+const STOPPED_TICKS: u64 = 160;
 
 /// What a `get` waits for that was read and isn't asked yet.
 #[derive(Clone, Copy)]
@@ -48,8 +59,8 @@ pub(crate) struct Upkeep {
     pub(crate) asked: u64,
     pub(crate) fault: Option<FaultLine>,
     pub(crate) load: Load,
-    /// The seconds that were counted.
-    pub(crate) seconds: u64,
+    /// The sixteenths of a second that were counted.
+    pub(crate) ticks: u64,
     pub(crate) spares: SpareBuffers,
 }
 
@@ -61,7 +72,7 @@ impl Upkeep {
             asked: 0,
             fault: None,
             load: Load::new(),
-            seconds: 0,
+            ticks: 0,
             spares: SpareBuffers::new(alloc),
         }
     }
@@ -91,9 +102,19 @@ impl Upkeep {
         })
     }
 
-    /// Whether a client that did nothing since this second has stopped.
-    pub(crate) fn has_stopped_since(&self, second: u64) -> bool {
-        self.seconds.saturating_sub(second) >= STOPPED_SECONDS
+    /// Whether a client that did nothing since this tick has stopped.
+    pub(crate) fn has_stopped_since(&self, tick: u64) -> bool {
+        self.ticks.saturating_sub(tick) >= STOPPED_TICKS
+    }
+
+    /// Room for large messages ages, once as time passes. Where nothing came it is all of clients
+    /// that send slowly.
+    pub(crate) fn count(&mut self, tick: Tick) {
+        match tick {
+            Tick::Time => self.ticks = self.ticks.saturating_add(1),
+            Tick::Idle => self.load.grow_old(),
+        }
+        self.load.grow_old();
     }
 
     /// Counts the keys of a `get` that is asked with this number, and lends it a spare buffer for
@@ -130,7 +151,9 @@ impl Upkeep {
         }
         if let Some(spare) = request.into_buffer() {
             let bytes = spare.into_bytes();
-            if bytes.capacity() >= LARGE_MESSAGE {
+            if bytes.capacity() > ROOM_AT_ONCE {
+                self.spares.keep(Use::LargeInput, bytes);
+            } else if bytes.capacity() >= LARGE_MESSAGE {
                 self.spares.keep(Use::Input, bytes);
             }
         }

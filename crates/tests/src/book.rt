@@ -109,8 +109,8 @@ fn check_step(rt: &impl Abort, player: &mut Player, step: &Step, place: Place) -
         EndInput(session) => check_same(rt, player.book.end_input(*session), None, place),
         Ask(session, number) => check_same(rt, player.ask(*session)?, *number, place),
         AskNext(session) => {
-            let next = player.last.saturating_add(1);
-            check_same(rt, player.ask(*session)?, Some(next), place);
+            let next = Some(player.last.saturating_add(1));
+            check_same(rt, player.ask(*session)?, next, place);
         }
         AskLater(session) => player.book.ask_later(*session),
         Settle(first, settled) => {
@@ -126,7 +126,7 @@ fn check_step(rt: &impl Abort, player: &mut Player, step: &Step, place: Place) -
         Give(session) => player.give(*session)?,
         Accept(session, length) => player.give_some(*session, *length)?,
         Budget(bytes) => player.book.set_output_budget(*bytes),
-        Second => player.book.count_second(),
+        Second => player.pass_second(),
         Close(session) => player.book.close(*session),
         See(sight) => check_sight(rt, player, sight, place),
     }

@@ -5,6 +5,7 @@ use crate::made::spell;
 use crate::player::{Given, Player};
 use crate::same::check_same;
 use proto::Dialect;
+use session_book::Tick;
 use std::alloc::Global;
 use std::process::Abort;
 use std::test::Fail;
@@ -144,76 +145,124 @@ fn a_large_block_is_dropped_as_it_comes(rt: HostRuntime) -> Result<(), Fail> {
     Ok(())
 }
 
-/// The line of a request of 1,000,021 bytes: 67 of them have room.
+/// The line of a request of 1,000,021 bytes: two of them come at once, and 67 have room.
 const LARGE: &[u8] = b"set a 0 0 1000000\r\n";
+
+const AT_ONCE: u64 = 2;
 
 const HAVE_ROOM: u64 = 67;
 
-/// Opens so many sessions, each of which has sent the line of its request.
-fn begin_large(player: &mut Player, count: u64) -> Result<(), Fail> {
+/// Opens so many sessions, each of which has sent the line of its request. Those without room are
+/// paused. How many these are.
+fn begin_large(player: &mut Player, count: u64) -> Result<u64, Fail> {
+    let mut paused = 0_u64;
     for session in 1..=count {
         player.book.open(session)?;
         player.feed(session, LARGE)?;
         let _ = player.ask(session)?;
+        if player.book.next_to_pause().is_some() {
+            paused = paused.saturating_add(1);
+        }
     }
+    Ok(paused)
+}
+
+/// How many sessions are resumed now.
+fn resumed(player: &mut Player) -> u64 {
+    for count in 0..2 * HAVE_ROOM {
+        if player.book.next_to_resume(false).is_none() {
+            return count;
+        }
+    }
+    2 * HAVE_ROOM
+}
+
+/// How many are resumed once this has passed.
+fn resumed_after(player: &mut Player, tick: Tick) -> u64 {
+    player.book.count_tick(tick);
+    resumed(player)
+}
+
+/// Nothing comes for so long that all have room who may have it. How many are resumed.
+fn let_all_in(player: &mut Player) -> u64 {
+    let mut count = 0_u64;
+    for _ in 0..HAVE_ROOM {
+        count = count.saturating_add(resumed_after(player, Tick::Idle));
+    }
+    count
+}
+
+/// The rest of a session's large request comes. The number of the request.
+fn end_large(player: &mut Player, session: u64) -> Result<Option<u64>, Fail> {
+    player.feed_letters(session, 1_000_000)?;
+    player.feed(session, b"\r\n")?;
+    Ok(player.ask(session)?)
+}
+
+/// How many are paused, and then resumed: at once, after a tick, once one request has come, and
+/// after each of further ticks.
+fn resumed_in_turn(player: &mut Player) -> Result<[u64; 8], Fail> {
+    let paused = begin_large(player, 20)?;
+    let at_once = resumed(player);
+    let after_tick = resumed_after(player, Tick::Time);
+    let _ = end_large(player, 1)?;
+    Ok([
+        paused,
+        at_once,
+        after_tick,
+        resumed(player),
+        resumed_after(player, Tick::Time),
+        resumed_after(player, Tick::Time),
+        resumed_after(player, Tick::Time),
+        resumed_after(player, Tick::Idle),
+    ])
+}
+
+#[test]
+fn few_large_requests_come_at_once_and_more_beside_slow_ones(rt: HostRuntime) -> Result<(), Fail> {
+    let mut player = Player::new(rt.alloc(), Dialect::Lenient(1_048_512), None);
+    let resumed = resumed_in_turn(&mut player);
+    drop(player);
+    // What has room for two ticks is slow: one, two and three of them, and at the last tick all.
+    let wanted = [18, 0, 0, 1, 1, 1, 2, 6];
+    check_same(&rt, resumed?, wanted, "resumed");
     Ok(())
 }
 
-/// Which sessions are to be paused or resumed, or have stopped, one after the other.
-fn turned(player: &mut Player) -> [Option<u64>; 7] {
-    let book = &mut player.book;
-    let paused = [
-        book.next_to_pause(),
-        book.next_to_pause(),
-        book.next_to_pause(),
-    ];
-    let waits = book.next_to_resume(false);
-    book.close(3);
-    let resumed = [book.next_to_resume(false), book.next_to_resume(false)];
-    [
-        paused[0],
-        paused[1],
-        paused[2],
-        waits,
-        resumed[0],
-        resumed[1],
-        book.next_to_resume(true),
-    ]
+/// How many are resumed at all, after one was closed, and when the port has ended.
+fn resumed_at_last(player: &mut Player) -> Result<[u64; 4], Fail> {
+    begin_large(player, HAVE_ROOM + 2)?;
+    let all = let_all_in(player);
+    player.book.close(3);
+    let behind_closed = resumed(player);
+    let is_resumed = player.book.next_to_resume(true) == Some(HAVE_ROOM + 2);
+    Ok([all, behind_closed, u64::from(is_resumed), resumed(player)])
 }
 
 #[test]
 fn large_requests_wait_for_room(rt: HostRuntime) -> Result<(), Fail> {
     let mut player = Player::new(rt.alloc(), Dialect::Lenient(1_048_512), None);
-    let begun = begin_large(&mut player, HAVE_ROOM + 2);
-    let turned = turned(&mut player);
+    let resumed = resumed_at_last(&mut player);
     drop(player);
-    begun?;
-    let wanted = [
-        Some(HAVE_ROOM + 1),
-        Some(HAVE_ROOM + 2),
-        None,
-        None,
-        Some(HAVE_ROOM + 1),
-        None,
-        Some(HAVE_ROOM + 2),
-    ];
-    check_same(&rt, turned, wanted, "paused and resumed");
+    check_same(&rt, resumed?, [HAVE_ROOM - AT_ONCE, 1, 1, 0], "resumed");
     Ok(())
+}
+
+fn pass_seconds(player: &mut Player, count: u64) {
+    for _ in 0..count {
+        player.pass_second();
+    }
 }
 
 /// Ten seconds pass, in the last of which the first session sends on. Which have stopped is asked
 /// before, after, and when none waits.
 fn stopped(player: &mut Player) -> Result<[Option<u64>; 3], Fail> {
     begin_large(player, HAVE_ROOM + 2)?;
-    for _ in 0..2 {
-        player.book.next_to_pause();
-    }
-    for _ in 0..9 {
-        player.book.count_second();
-    }
+    let_all_in(player);
+    pass_seconds(player, 9);
     let before = player.book.find_stalled();
     player.feed(1, b"kkk")?;
-    player.book.count_second();
+    pass_seconds(player, 1);
     let after = player.book.find_stalled();
     for _ in 0..2 {
         player.book.next_to_resume(true);
@@ -232,25 +281,35 @@ fn who_sends_nothing_for_ten_seconds_while_others_wait_has_stopped(
     Ok(())
 }
 
+/// Two sessions have stopped, and one waits, for which there would be room.
+fn stopped_beside_room(player: &mut Player) -> Result<Option<u64>, Fail> {
+    begin_large(player, AT_ONCE + 1)?;
+    pass_seconds(player, 20);
+    Ok(player.book.find_stalled())
+}
+
+#[test]
+fn who_stops_where_there_is_room_stays(rt: HostRuntime) -> Result<(), Fail> {
+    let mut player = Player::new(rt.alloc(), Dialect::Lenient(1_048_512), None);
+    let stopped = stopped_beside_room(&mut player);
+    drop(player);
+    check_same(&rt, stopped?, None, "stopped");
+    Ok(())
+}
+
 /// Twice as many sessions as have room have begun. After ten seconds those that had room are
 /// closed, and the others resumed but for one. Whether one has stopped is asked then, and ten
 /// seconds later.
 fn stopped_late(player: &mut Player) -> Result<[bool; 2], Fail> {
     begin_large(player, 2 * HAVE_ROOM + 1)?;
-    for _ in 0..=HAVE_ROOM {
-        player.book.next_to_pause();
-    }
-    for _ in 0..10 {
-        player.book.count_second();
-    }
+    let_all_in(player);
+    pass_seconds(player, 10);
     for session in 1..=HAVE_ROOM {
         player.book.close(session);
-        player.book.next_to_resume(false);
     }
+    let_all_in(player);
     let before = player.book.find_stalled().is_some();
-    for _ in 0..10 {
-        player.book.count_second();
-    }
+    pass_seconds(player, 10);
     Ok([before, player.book.find_stalled().is_some()])
 }
 

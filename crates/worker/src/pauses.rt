@@ -1,6 +1,6 @@
 //! What a worker does in a turn in which nothing came, and what it waits for.
 
-use crate::retries::{Retries, Seconds};
+use crate::retries::{Retries, Ticks};
 use crossbeam_utils::Backoff;
 use exchange::{IdleTurns, ParkingWord, Waits};
 use std::sync::Wait;
@@ -25,7 +25,7 @@ pub(crate) struct Pauses<'a> {
     /// How long the worker waited, for answers or in its port.
     pub(crate) waits: Waits<'a>,
     pub(crate) retries: Retries,
-    pub(crate) seconds: Seconds,
+    pub(crate) ticks: Ticks,
 }
 
 impl<'a> Pauses<'a> {
@@ -40,7 +40,7 @@ impl<'a> Pauses<'a> {
             has_others,
             waits,
             retries: Retries::default(),
-            seconds: Seconds::default(),
+            ticks: Ticks::default(),
         }
     }
 
@@ -54,6 +54,7 @@ impl<'a> Pauses<'a> {
             self.idle.reset(parking);
         }
         self.backoff.reset();
+        self.ticks.end_idle_turns();
     }
 
     /// One idle turn, in which answers are waited for or not.
@@ -72,7 +73,10 @@ impl<'a> Pauses<'a> {
                 self.idle.turn(rt, parking);
                 self.waits.end(rt);
             }
-            _ => self.backoff.snooze(),
+            _ => {
+                self.ticks.count_idle_turn();
+                self.backoff.snooze();
+            }
         }
     }
 }

@@ -1,5 +1,7 @@
-//! When output is offered again that clients didn't take, and how long sessions wait for room.
+//! When output is offered again that clients didn't take, and what passes while sessions wait for
+//! memory.
 
+use session_book::Tick;
 use std::time::{Clock, Duration, Instant};
 
 /// The most sessions that are offered their output again in a turn, at a port that doesn't tell of
@@ -43,34 +45,69 @@ impl Retries {
     }
 }
 
-/// Seconds, as they pass while sessions wait for memory.
+/// The microseconds of a tick: a sixteenth of a second.
+const TICK_MICROS: u64 = 62_500;
+
+/// The turns in a row in which nothing came that are a tick too: the port was polled in them.
+const IDLE_TURNS: u32 = 8;
+
+/// What passes while sessions wait for memory.
 #[derive(Clone, Copy, Default)]
-pub(crate) struct Seconds {
-    /// When the second began that runs; none if no session waits, or the clock couldn't be read.
+pub(crate) struct Ticks {
+    /// When the tick began that runs; none if no session waits, or the clock couldn't be read.
     since: Option<Instant>,
+    /// The turns in a row in which nothing came.
+    idle_turns: u32,
+    /// Whether these were the last tick.
+    was_idle: bool,
 }
 
-impl Seconds {
+impl Ticks {
     /// No session waits.
     pub(crate) fn stop(&mut self) {
         self.since = None;
+        self.idle_turns = 0;
     }
 
-    /// Whether another second has passed in which a session waited for memory. The clock is read
-    /// only while one does.
+    /// Nothing came in this turn.
+    pub(crate) fn count_idle_turn(&mut self) {
+        self.idle_turns = self.idle_turns.saturating_add(1);
+    }
+
+    /// Something came in this turn.
+    pub(crate) fn end_idle_turns(&mut self) {
+        self.idle_turns = 0;
+    }
+
+    /// Whether another tick has passed while a session waited for memory. The clock is read only
+    /// while one does.
     pub(crate) fn has_passed<R: Clock>(&mut self, rt: &R, is_waiting: bool) -> bool {
         if !is_waiting {
             self.stop();
             return false;
         }
+        self.was_idle = self.idle_turns >= IDLE_TURNS;
+        if self.was_idle {
+            self.idle_turns = 0;
+            return true;
+        }
         let Ok(now) = Instant::now(rt) else {
             return false;
         };
         let since = *self.since.get_or_insert(now);
-        if now.duration_since(since) < Duration::from_secs(1) {
+        if now.duration_since(since) < Duration::from_micros(TICK_MICROS) {
             return false;
         }
         self.since = Some(now);
         true
+    }
+
+    /// The tick that has passed.
+    pub(crate) fn last(&self) -> Tick {
+        if self.was_idle {
+            Tick::Idle
+        } else {
+            Tick::Time
+        }
     }
 }

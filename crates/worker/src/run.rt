@@ -10,7 +10,7 @@ ghost use Rattle.worker.specs.Starts.{IsPortAt, HasSentNothing};
 use crate::executor::{Executor, Posting};
 use crate::gate::Gate;
 use crate::pauses::Pauses;
-use crate::retries::{Retries, Seconds};
+use crate::retries::{Retries, Ticks};
 use crate::session_list::SessionList;
 use crate::worker::{AskAgain, Worker, WorkerState};
 use exchange::{GroupSignals, Waits, WorkerEnd};
@@ -41,6 +41,9 @@ const ASKS_IN_A_ROW: u64 = 8;
 /// The bytes of output above which no further session is offered its own in a turn: so turns stay
 /// short beside large answers.
 const OUTPUT_A_TURN: usize = 1_048_576;
+
+/// The most paused sessions that are resumed in a turn.
+const RESUMED_A_TURN: usize = 4;
 
 /// A worker that doesn't wait sets its gauges for the others each time that it has taken so many
 /// turns.
@@ -256,21 +259,20 @@ fn count_stalled(worker: usize, storage: &GroupSignals) {
     }
 }
 
-/// Once another second has passed in which a session waited for memory, shuts sessions that hold
-/// some and whose clients have stopped for ten such seconds, until none waits. True if something
-/// was done.
+/// Once more has passed while a session waited for memory, shuts sessions that hold some and whose
+/// clients have stopped for ten such seconds, until none waits. True if something was done.
 fn shut_stalled<P: Port, R: Clock>(
     rt: &R,
     worker: &mut Worker<P>,
-    seconds: &mut Seconds,
+    ticks: &mut Ticks,
     storage: &GroupSignals,
 ) -> bool
     ensures { Continues P.told P.leads_to worker.old worker.new }
 {
-    if !seconds.has_passed(rt, worker.state.book.waits_for_memory()) {
+    if !ticks.has_passed(rt, worker.state.book.waits_for_memory()) {
         return false;
     }
-    worker.state.book.count_second();
+    worker.state.book.count_tick(ticks.last());
     let mut moved = false;
     for _ in 0..WINDOW {
         let Some(session) = worker.state.book.find_stalled() else {
@@ -294,12 +296,12 @@ fn pause_sessions<P: Port>(worker: &mut Worker<P>) -> bool
     moved
 }
 
-/// Resumes the sessions for whose large messages there is room by now. True if something was done.
+/// Resumes sessions for whose large messages there is room by now. True if something was done.
 fn resume_sessions<P: Port>(worker: &mut Worker<P>) -> bool
     ensures { Continues P.told P.leads_to worker.old worker.new }
 {
     let mut moved = false;
-    for _ in 0..worker.state.book.ready(Task::ReadOn) {
+    for _ in 0..worker.state.book.ready(Task::ReadOn).min(RESUMED_A_TURN) {
         moved |= worker.resume_next();
     }
     moved
@@ -310,16 +312,16 @@ fn resume_sessions<P: Port>(worker: &mut Worker<P>) -> bool
 fn share_memory<P: Port, R: Clock>(
     rt: &R,
     worker: &mut Worker<P>,
-    seconds: &mut Seconds,
+    ticks: &mut Ticks,
     storage: &GroupSignals,
 ) -> bool
     ensures { Continues P.told P.leads_to worker.old worker.new }
 {
     if worker.state.book.has_memory_for_all() {
-        seconds.stop();
+        ticks.stop();
         return false;
     }
-    let shut = shut_stalled(rt, worker, seconds, storage);
+    let shut = shut_stalled(rt, worker, ticks, storage);
     let paused = pause_sessions(worker);
     let resumed = resume_sessions(worker);
     shut | paused | resumed
@@ -336,11 +338,11 @@ fn serve_waiting<P: Port, R: Clock>(
     ensures { Continues P.told P.leads_to worker.old worker.new }
 {
     if worker.state.book.is_idle() {
-        pauses.seconds.stop();
+        pauses.ticks.stop();
         return false;
     }
     let given = retry_output(worker, &mut pauses.retries);
-    let shared = share_memory(rt, worker, &mut pauses.seconds, storage);
+    let shared = share_memory(rt, worker, &mut pauses.ticks, storage);
     given | shared
 }
 

@@ -8,7 +8,7 @@ use Rattle.worker.proofs.run.shut_stalled.Goals as goal
 pub loop-init : goal.loop-init
 loop-init g c = let w = c.worker.inside.state in
     subst (λ (b : BookState). Continues g.P.Port.told g.P.Port.leads_to c.args.worker.now (record w { book = b })
-    × IsWorkerServing g.P.Port.told (record w { book = b })) (sym c.count_second.ensures) (
+    × IsWorkerServing g.P.Port.told (record w { book = b })) (sym c.count_tick.ensures) (
       continues c.worker.view_is (g.met.P.Port.leads_reflexive _) (goes_on_same g.P.Port.told w c.worker.invariant),
       c.worker.invariant,
     )

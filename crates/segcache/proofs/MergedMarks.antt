@@ -306,7 +306,7 @@ holds_marked p index marks tied =
     }
 
 -- what relocating requires
-pub can_relocate : (p : PoolState) (index : Table) (marks : Marks) → IsTied p index marks → HasPlan p marks
+pub can_relocate : (p : PoolState) (index : Table) (marks : Marks) → IsTied p index marks → HasPlan (lives_by marks) p
     → IfSome p.plan (λ plan. IsPool (carried_out p plan))
     → CanRelocate (key_at p) (keys_after_merge p) index (planned_moves p.plan)
 can_relocate p index marks tied h behind =
@@ -320,7 +320,7 @@ can_relocate p index marks tied h behind =
 
 -- what is known after all calls
 pub merge_relocated : (p after : PoolState) (index found : Table) (marks : Marks) → IsTied p index marks
-    → (h : HasPlan p marks)
+    → (h : HasPlan (lives_by marks) p)
     → IfSome p.plan (λ plan. after ≡ carried_out p plan) → IsPool after
     → IsRelocated (key_at p) (keys_after_merge p) (moved_by (planned_moves p.plan)) index found → IsSameSize index found
     → IsMergeRelocated p h.plan after index found marks

@@ -5,7 +5,7 @@ use Rattle.std.specs.Prelude.{IsTrue, IfSome, All, ◌||◌, not, is_some, filte
 use Rattle.std.specs.List.{list_any}
 use Rattle.std.specs.FinMap as finite
 use Rattle.std.proofs.Math.Nat.{mul-le-mul_left}
-use Rattle.std.proofs.lemmas.Bool.{cases_Bool, false≢true, eq-eqb}
+use Rattle.std.proofs.lemmas.Bool.{cases_Bool, false≢true, eq-eqb, or_left, or_right}
 use Rattle.std.proofs.lemmas.Option.{none-some}
 use Rattle.std.proofs.lemmas.List.{length-take}
 use Rattle.std.proofs.lemmas.List.Sums.{sum_by-cons, sum_by-append}
@@ -35,7 +35,8 @@ use Rattle.segcache.proofs.OpeningMoments.{earlier}
 use Rattle.proto.specs.declared.eviction.Eviction.{Eviction}
 use Rattle.segcache.proofs.TiedParts.{current_item}
 use Rattle.segcache.proofs.LeftPlaces.{is_left, standing_all}
-use Rattle.segcache.proofs.EvictedKeys.{IsCurrent, HaveStayed, size_in, segment_sizes, evicted_kept, current_among}
+use Rattle.segcache.proofs.EvictedKeys.{IsCurrent, Waits, HaveStayed, size_in, segment_sizes, evicted_kept, current_among, all_wait}
+use Rattle.proto.specs.Cache.{has_arrived}
 use Rattle.segcache.proofs.MergedMarks.{IsMergeRelocated}
 use Rattle.std.proofs.lemmas.List.Elements.{All-cons, All-head, All-tail}
 use Rattle.segments.proofs.CarryLemmas.{All-item_at}
@@ -126,6 +127,12 @@ into_exact : (p : PoolState) (c : Choice) (numbers : List ℕ) (items : List Ite
     → (merged_into p c numbers items).exact ≡ p.exact
 into_exact p c [] items = refl
 into_exact p c (n ∷ numbers) items = refl
+
+-- and its rule
+into_rule : (p : PoolState) (c : Choice) (numbers : List ℕ) (items : List Item)
+    → (merged_into p c numbers items).eviction ≡ p.eviction
+into_rule p c [] items = refl
+into_rule p c (n ∷ numbers) items = refl
 
 -- no segment gets another moment
 past_merged : (p : PoolState) (plan : Plan) (after : PoolState) (t : ℕ) → IsPool p → IsTrue (qualifies p plan.choice)
@@ -242,6 +249,23 @@ live_current p index marks (n ∷ numbers) tied =
     (current_among p index marks (standing p n) tied (λ k d lt. (standing_all p n k d lt).1))
     (live_current p index marks numbers tied)
 
+-- they wait where all current items of their segments do
+live_wait : (p : PoolState) (index : Table) (marks : Marks) (t : ℕ) (numbers : List ℕ) → IsTied p index marks
+    → ((q : List ℕ) (r : Place) → finite.get (current p index) q ≡ Some r → contains_number numbers r.segment ≡ true
+    → has_arrived (place_deadline p r) t ≡ false)
+    → All (Waits p t) (live_items (lives_by marks) p numbers)
+live_wait p index marks t [] tied wait = All-nil (Waits p t)
+live_wait p index marks t (n ∷ numbers) tied wait =
+    let ss = live_standing (lives_by marks) p n in
+    All-append (Waits p t) ss (live_items (lives_by marks) p numbers)
+    (all_wait p index t n ss
+    (All-filter (λ (s : Standing). is_marked marks s.place) (λ (s : Standing). s.place.segment ≡ n) (standing p n)
+    (λ k d lt. (standing_all p n k d lt).0))
+    (current_among p index marks (standing p n) tied (λ k d lt. (standing_all p n k d lt).1))
+    (λ q r e same. wait q r e (or_left (n == r.segment) (contains_number numbers r.segment) (eq-eqb n r.segment (sym same)))))
+    (live_wait p index marks t numbers tied
+    (λ q r e later. wait q r e (or_right (n == r.segment) (contains_number numbers r.segment) later)))
+
 -- some of them are no more than all
 part_sizes : (test : Standing → Bool) (ss : List Standing) → sum_by size_in (filter test ss) ≤ sum_by size_in ss
 part_sizes test [] = omega arith
@@ -327,18 +351,24 @@ merged_stayed p plan after index found marks w =
 -- room is made
 pub merged_made : (p : PoolState) (plan : Plan) (after : PoolState) (index found : Table) (marks : Marks) (t : ℕ)
     → IsMergeRelocated p plan after index found marks
+    → ((q : List ℕ) (r : Place) → finite.get (current p index) q ≡ Some r
+    → contains_number (merged_segments p plan.choice) r.segment ≡ true → has_arrived (place_deadline p r) t ≡ false)
     → IsCrowded p index t → IsRoomMade p index t after found
-merged_made p plan after index found marks t w crowded =
+merged_made p plan after index found marks t w wait crowded =
     let all = live_items (lives_by marks) p (merged_segments p plan.choice) in
     let ss = lost plan.moves all in
     record {
       sizes = w.out.sizes;
+      rule = ap (λ (r : PoolState). r.eviction) w.after_is
+          ∙ into_rule p plan.choice (merged_segments p plan.choice) (carried_items p plan.moves);
       exact = ap (λ (r : PoolState). r.exact) w.after_is
           ∙ into_exact p plan.choice (merged_segments p plan.choice) (carried_items p plan.moves);
       past = past_merged p plan after t w.tied.known.pool w.is_plan.next.qualifying w.out.sources w.after_is crowded.past;
       free = w.out.has_free;
       absent = λ q none. w.relocated.places q ∙ ap (option_and_then (moved_by plan.moves)) none;
       kept = evicted_kept p index after found t ss crowded
+          (All-filter (λ (s : Standing). not (is_some (moved_by plan.moves s.place))) (Waits p t) all
+          (live_wait p index marks t (merged_segments p plan.choice) w.tied wait))
           (All-filter (λ (s : Standing). not (is_some (moved_by plan.moves s.place))) (IsCurrent p index) all
           (live_current p index marks (merged_segments p plan.choice) w.tied))
           (merged_stayed p plan after index found marks w)

@@ -22,6 +22,12 @@ abbrev pub goes_over_by : Eviction → Bool → Bool
 goes_over_by Oldest exact = exact
 goes_over_by LeastRead exact = true
 
+-- whether items with deadlines of their own stand in the chain of those without one, whatever their
+-- times to live: by the rule of the least read, where items have such deadlines
+abbrev pub shares_one_chain : Eviction → Bool → Bool
+shares_one_chain Oldest exact = false
+shares_one_chain LeastRead exact = exact
+
 -- what a rule merges next: of the first chain from the cursor on that can be merged its front; or
 -- of the places looked at the first whose segment has a mate
 abbrev pub IsNextBy : Eviction → List (Option Used) → List ℕ → ℕ → ℕ → Choice → Type 0

@@ -5,7 +5,7 @@ ghost use Rattle.std.specs.Prelude.{◌≡◌, ◌<◌, ◌≤◌, All, MatchOpt
 ghost use Rattle.segments.specs.Inside.{shown_segments, IsOpeningInRange};
 ghost use Rattle.segments.specs.Pools.{bucket_count};
 ghost use Rattle.segments.specs.Rules.{opening_moment, goes_over_by, most_merged, NoneBy, IsNextBy, order_by};
-ghost use Rattle.segments.specs.Rules.{IsVictimOf, NoVictimOf};
+ghost use Rattle.segments.specs.Rules.{IsVictimOf, NoVictimOf, shares_one_chain};
 
 mod least_read;
 mod oldest;
@@ -37,6 +37,17 @@ pub fn goes_over(eviction: Eviction, exact: bool) -> bool
     match eviction {
         Eviction::Oldest => exact,
         Eviction::LeastRead => true,
+    }
+}
+
+/// Whether items with deadlines of their own stand in the chain of those without one, by whether
+/// items have such deadlines.
+pub fn shares_one_chain(eviction: Eviction, exact: bool) -> bool
+    ensures { result ≡ shares_one_chain eviction exact }
+{
+    match eviction {
+        Eviction::Oldest => false,
+        Eviction::LeastRead => exact,
     }
 }
 

@@ -249,14 +249,14 @@ pub expired_agree_at : (p : PoolState) (n : ℕ) (index found : Table) (marks ot
     → IsTied p index marks → IsTied p found others
     → HaveExpiredLeft p t among (current p index) (current p found) → among n ≡ true
     → AgreeAt p n (live_marks marks t) (lives_by others)
-expired_agree_at p n index found marks others t among tied left h yes =
+expired_agree_at p n index found marks others t among tied left h is_so =
     record {
       each = λ place i same e. elim (cases_Bool (is_marked others place)) [
         | inl y ↦
             let now = left.marked place i e y in
             both_true (is_marked marks place) (not (has_arrived (place_deadline p place) t))
             (tied.held i.key place (h.before i.key place now))
-            (not_false _ (h.waiting i.key place now (ap among same ∙ yes))) ∙ sym y
+            (not_false _ (h.waiting i.key place now (ap among same ∙ is_so))) ∙ sym y
         | inr f ↦
             both_false (is_marked marks place) (not (has_arrived (place_deadline p place) t))
             (λ was waits. false≢true (sym f
@@ -289,7 +289,7 @@ dead_left p index found marks others t n tied left h =
           same_has_live p (live_marks others t) (live_marks marks t) n agree ∙ y in
           any_more (λ s. live_marks others t s.place s.item (item_deadline s.item shared)) (λ s. is_marked others s.place)
           (λ s. ⊤) (standing p n) (λ k d lt. tt)
-          (λ s true_of yes. (and_parts (is_marked others s.place) (not (has_arrived (item_deadline s.item shared) t)) yes).0)
+          (λ s here lives. (and_parts (is_marked others s.place) (not (has_arrived (item_deadline s.item shared) t)) lives).0)
           now ∙ sym y
       | inr f ↦
           sym (same_live_at p (live_marks marks t) (lives_by others) n

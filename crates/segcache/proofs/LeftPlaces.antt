@@ -282,7 +282,13 @@ pub expiring_first : (p : PoolState) (t : ℕ) (among : ℕ → Bool) (index : T
     → IsExpiring p t among (current p index) index marks 0
 expiring_first p t among index marks tied = record {
   tied = tied;
-  left = record { before = λ q r h. h; waiting = λ q r h among_it. absurd (false≢true among_it); others = λ q r h w. h };
+  left = record {
+    before = λ q r h. h;
+    waiting = λ q r h among_it.
+        (let lt = ltb-true r.segment 0 (and_parts (nat_lt r.segment 0) (among r.segment) among_it).0 in
+        absurd (omega (arith, lt)));
+    others = λ q r h w. h;
+  };
 }
 
 -- what two tests say of the numbers below the next one
@@ -328,7 +334,7 @@ pub expiring_more : (p : PoolState) (t : ℕ) (among : ℕ → Bool) (old : Plac
     → IsTied p found others → among n ≡ true
     → HaveArrivedLeft p t n (current p index) (current p found)
     → IsExpiring p t among old found others (n + 1)
-expiring_more p t among old index found marks others n h tied yes left =
+expiring_more p t among old index found marks others n h tied is_so left =
     record {
       tied = tied;
       left = record {
@@ -341,7 +347,7 @@ expiring_more p t among old index found marks others n h tied yes left =
         others = λ q r e w.
             left.others q r (h.left.others q r e (λ among_it. w (sooner among r.segment n among_it)))
             (λ same. w (and_from (nat_lt r.segment (n + 1)) (among r.segment)
-            (lt-ltb r.segment (n + 1) (omega (arith, same))) (ap among same ∙ yes)));
+            (lt-ltb r.segment (n + 1) (omega (arith, same))) (ap among same ∙ is_so)));
       };
     }
 

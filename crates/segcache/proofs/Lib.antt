@@ -34,6 +34,8 @@ pub mod MergePlans
 pub mod ForgottenKeys
 -- the contracts of `merge` and `clear_victim`: `evicted`
 pub mod MergedKeys
+-- the contract of `unindex_dead`: which segments have a live item
+pub mod LiveSegments
 -- the contracts of `unindex_merged` and `merge`: the segments that are merged
 pub mod PlannedSegments
 -- for `write`: `kept`, where little is held

@@ -75,8 +75,8 @@ plan_left p index found marks others t tied left gone h =
       plan = h.plan;
       planned = h.planned;
       is_plan = same_plan_at p h.plan (live_marks marks t) (lives_by others)
-          (λ n yes. expired_agree_at p n index found marks others t (contains_number (planned_segments p)) tied left gone
-          (ap (λ numbers. contains_number numbers n) (planned_are (live_marks marks t) p h) ∙ yes)) h.is_plan;
+          (λ n is_so. expired_agree_at p n index found marks others t (contains_number (planned_segments p)) tied left gone
+          (ap (λ numbers. contains_number numbers n) (planned_are (live_marks marks t) p h) ∙ is_so)) h.is_plan;
     }
 
 -- ---- the merge once the expired items have left
@@ -116,8 +116,9 @@ left_plan old left a = plan_left left.pool old.index left.index old.marks left.m
 
 -- room is made
 pub merge_made : (old left : MapState) (after : PoolState) (found : Table) → (a : AsksMerge old left)
-    → IsMergeRelocated left.pool a.asked.plan after left.index found left.marks
+    → IsMergeRelocated left.pool (left_plan old left a).plan after left.index found left.marks
     → IsRoomMade left.pool old.index left.moment after found
+unfolding left_plan plan_left
 merge_made old left after found a w =
     let p = left.pool in
     let t = left.moment in
@@ -125,14 +126,15 @@ merge_made old left after found a w =
     let s = swept_left p old.index left.index left.marks t some a.crowded.past a.tied a.gone in
     swept_evicted p old.index t p left.index left.marks after found s
     (merged_made p a.asked.plan after left.index found left.marks t w
-    (λ q r e yes. a.gone.waiting q r e
-    (ap (λ numbers. contains_number numbers r.segment) (planned_are (live_marks old.marks t) p a.asked) ∙ yes))
+    (λ q r e is_so. a.gone.waiting q r e
+    (ap (λ numbers. contains_number numbers r.segment) (planned_are (live_marks old.marks t) p a.asked) ∙ is_so))
     (crowded_left p old.index t p left.index left.marks s a.crowded))
 
 -- and exactly the keys are forgotten of the items that were live and aren't kept
 pub merge_evicted : (old left : MapState) (after : PoolState) (found : Table) → (a : AsksMerge old left)
-    → IsMergeRelocated left.pool a.asked.plan after left.index found left.marks
+    → IsMergeRelocated left.pool (left_plan old left a).plan after left.index found left.marks
     → IsEvicted (live_marks old.marks left.moment) left.pool old.index left.moment after found
+unfolding left_plan plan_left
 merge_evicted old left after found a w =
     let p = left.pool in
     let t = left.moment in
@@ -141,8 +143,8 @@ merge_evicted old left after found a w =
     let s = swept_left p old.index left.index left.marks t some a.crowded.past a.tied a.gone in
     let e = merged_evicted lives p a.asked.plan after left.index found left.marks t w a.asked.is_plan
     (same_items_at p lives (lives_by left.marks) (merged_segments p a.asked.plan.choice)
-    (λ n yes. expired_agree_at p n old.index left.index old.marks left.marks t some a.was a.tied a.gone
-    (ap (λ numbers. contains_number numbers n) (planned_are lives p a.asked) ∙ yes))) in
+    (λ n is_so. expired_agree_at p n old.index left.index old.marks left.marks t some a.was a.tied a.gone
+    (ap (λ numbers. contains_number numbers n) (planned_are lives p a.asked) ∙ is_so))) in
     record {
       evicted = e.evicted;
       entries = e.entries ∙ ap (λ (es : Entries). without_keys es (keys_evicted lives p after e.evicted)) s.entries;

@@ -17,14 +17,13 @@ use engine::has_arrived;
 use segments::{ItemRef, Live, LiveMarks, Place, Pool};
 
 /// Which items are live at a moment: the marked ones whose deadline hasn't come then.
+#[derive(Drop)]
 struct LiveAt<'a> {
     marks: &'a LiveMarks,
     moment: u64,
 }
 
 impl<'a> Live for LiveAt<'a> {
-    ghost use Rattle.std.specs.Prelude.{⊥};
-
     ghost lives_at = { λ a. live_marks a.marks.now a.moment };
 
     // Whether a segment has a live item isn't known.

@@ -39,6 +39,8 @@ pub struct SegmentMap {
     pub(crate) counts: StoreCounts,
     /// How often an item was looked up whose deadline had come.
     expired_gets: AtomicU64,
+    /// For each segment the index's slot of an item that was live there when that was asked last.
+    pub(crate) witnesses: Vec<usize>,
 }
 
 impl Model for SegmentMap {
@@ -428,6 +430,7 @@ impl StoreMap for SegmentMap {
             read_ahead: AtomicU64::new(0),
             counts: StoreCounts::default(),
             expired_gets: AtomicU64::new(0),
+            witnesses: vec![in alloc; 0; geometry.segments() as usize]?,
         })
     }
 

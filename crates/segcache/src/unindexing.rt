@@ -1,7 +1,7 @@
 //! Takes items out of the index, with their marks: one, those of a segment, those whose deadline
 //! has come, and all.
 
-ghost use Rattle.std.specs.Prelude.{◌≡◌, ◌<◌, true, false, Some};
+ghost use Rattle.std.specs.Prelude.{◌≡◌, ◌<◌, true, false, Some, is_some};
 ghost use Rattle.std.specs.FinMap as map;
 ghost use Rattle.segcache.specs.Invariants.{IsTied, AreDated};
 ghost use Rattle.segcache.specs.Shown.{current};
@@ -60,32 +60,113 @@ fn may_expire(exact: bool, shared: Option<u64>, moment: u64) -> bool
     }
 }
 
-/// Whether a segment has a current item whose deadline hasn't come at the moment.
-fn has_waiting(pool: &Pool, marks: &LiveMarks, moment: u64, segment: u32) -> bool
+/// The slot that a search found.
+fn slot_of(found: Entry) -> usize {
+    match found {
+        Entry::At { slot, .. } => slot,
+        Entry::Gap { slot, .. } => slot,
+    }
+}
+
+/// Whether the index has a place in a slot that is in the segment, of an item whose deadline hasn't
+/// come at the moment.
+fn is_witnessed(
+    pool: &Pool,
+    index: &Index,
+    _marks: &LiveMarks,
+    moment: u64,
+    segment: u32,
+    slot: usize,
+) -> bool
+    requires tied { IsTied pool.now index.now _marks.now }
+    ensures { result ≡ true → has_live (live_marks _marks.now moment) pool.now segment ≡ true }
+{
+    match index.place_in(slot) {
+        Some(place) => place.segment == segment && !has_arrived(pool.item(place).deadline, moment),
+        None => false,
+    }
+}
+
+/// The index's slot of the first current item of a segment whose deadline hasn't come at the moment;
+/// None if the segment has none.
+fn find_waiting(
+    pool: &Pool,
+    index: &Index,
+    marks: &LiveMarks,
+    moment: u64,
+    segment: u32,
+) -> Option<usize>
     requires in_range { segment < pool.now.sizes.segments }
-    ensures { result ≡ has_live (live_marks marks.now moment) pool.now segment }
+    requires tied { IsTied pool.now index.now marks.now }
+    ensures { is_some result ≡ has_live (live_marks marks.now moment) pool.now segment }
 {
     let mut walk = pool.walk(segment);
     while let Some((place, item)) = walk.next() {
-        if marks.is_marked(place) && !has_arrived(item.deadline, moment) {
-            return true;
+        if marks.is_marked(place) {
+            if !has_arrived(item.deadline, moment) {
+                return Some(slot_of(index.find(pool, item.key)));
+            }
         }
     }
-    false
+    None
+}
+
+/// Whether a segment has a current item whose deadline hasn't come at the moment. The one that was
+/// noted last is looked at first.
+fn has_waiting(
+    pool: &Pool,
+    index: &Index,
+    marks: &LiveMarks,
+    moment: u64,
+    segment: u32,
+    witnesses: &mut Vec<usize>,
+) -> bool
+    requires in_range { segment < pool.now.sizes.segments }
+    requires tied { IsTied pool.now index.now marks.now }
+    ensures { result ≡ has_live (live_marks marks.now moment) pool.now segment }
+{
+    let number = segment as usize;
+    if number < witnesses.len()
+        && is_witnessed(pool, index, marks, moment, segment, witnesses[number])
+    {
+        return true;
+    }
+    match find_waiting(pool, index, marks, moment, segment) {
+        Some(slot) => {
+            if number < witnesses.len() {
+                witnesses[number] = slot;
+            }
+            true
+        }
+        None => false,
+    }
 }
 
 /// Whether a segment may have items whose deadline has come at the moment, and has no other current
 /// ones. Where items have none of their own, that of the segment says it.
-fn is_expired(pool: &Pool, marks: &LiveMarks, moment: u64, segment: u32) -> bool
+fn is_expired(
+    pool: &Pool,
+    index: &Index,
+    marks: &LiveMarks,
+    moment: u64,
+    segment: u32,
+    witnesses: &mut Vec<usize>,
+) -> bool
     requires in_range { segment < pool.now.sizes.segments }
+    requires tied { IsTied pool.now index.now marks.now }
     requires dated { AreDated pool.now }
     ensures dead { result ≡ true → is_dead marks.now pool.now moment segment ≡ true }
     ensures alive { result ≡ false → is_dead marks.now pool.now moment segment ≡ true
         → AllWaitIn pool.now moment segment }
 {
     let exact = pool.is_exact();
-    may_expire(exact, pool.deadline(segment), moment)
-        && !(exact && has_waiting(pool, marks, moment, segment))
+    if !may_expire(exact, pool.deadline(segment), moment) {
+        return false;
+    }
+    if !exact {
+        return true;
+    }
+    !has_waiting(pool, index, marks, moment, segment, witnesses)
 }
 
 impl SegmentMap {
@@ -175,7 +256,14 @@ impl SegmentMap {
         ensures moment { self.new.moment ≡ self.old.moment }
     {
         for segment in 0..self.pool.geometry().segments() {
-            if is_expired(&self.pool, &self.marks, self.moment, segment) {
+            if is_expired(
+                &self.pool,
+                &self.index,
+                &self.marks,
+                self.moment,
+                segment,
+                &mut self.witnesses,
+            ) {
                 self.unindex_arrived(segment);
             }
         }

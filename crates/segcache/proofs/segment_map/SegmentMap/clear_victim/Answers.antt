@@ -16,7 +16,7 @@ use Rattle.segcache.proofs.segment_map.SegmentMap.clear_victim.Goals as goal
 pub invariant_of-self : goal.invariant_of-self
 invariant_of-self c =
     let a = c.self.inside in
-    let b = c.self-in-Some.inside in
+    let b = c.self-in-Some-2.inside in
     let n = c.in-Some.segment in
     let m : MapState = record { pool = a.pool; index = a.index; marks = a.marks; moment = a.moment } in
     let left = c.unindex_arrived.new.self in
@@ -24,15 +24,15 @@ invariant_of-self c =
     let first : left.pool ≡ a.pool =
     c.unindex_arrived.ensures.same.pool ∙ sym (ap (λ (x : MapState). x.pool) c.self.view_is) in
     let again : b.pool ≡ left.pool =
-    ap (λ (x : MapState). x.pool) c.self-in-Some.view_is ∙ c.unindex_segment.ensures.same.pool in
-    let moment : b.moment ≡ a.moment = ap (λ (x : MapState). x.moment) c.self-in-Some.view_is
+    ap (λ (x : MapState). x.pool) c.self-in-Some-2.view_is ∙ c.unindex_segment.ensures.same.pool in
+    let moment : b.moment ≡ a.moment = ap (λ (x : MapState). x.moment) c.self-in-Some-2.view_is
     ∙ c.unindex_segment.ensures.moment ∙ c.unindex_arrived.ensures.moment
     ∙ sym (ap (λ (x : MapState). x.moment) c.self.view_is) in
     let arrived : HaveArrivedLeft a.pool a.moment n (current a.pool a.index) (current left.pool left.index) =
     (let h = c.unindex_arrived.ensures.left in rw (← c.self.view_is) at h) in
     let gone : HasLeft n (current left.pool left.index) (current b.pool b.index) =
-    (let h = c.unindex_segment.ensures.left in rw (← c.self-in-Some.view_is) at h) in
-    let asks = asks_clear m left cleared n c.self.invariant c.unindex_arrived.ensures.same.kept c.self-in-Some.invariant
+    (let h = c.unindex_segment.ensures.left in rw (← c.self-in-Some-2.view_is) at h) in
+    let asks = asks_clear m left cleared n c.self.invariant c.unindex_arrived.ensures.same.kept c.self-in-Some-2.invariant
     first again arrived gone in
     let is : c.clear.new.self ≡ without_segment a.pool n =
     c.clear.ensures.cleared ∙ ap (λ (q : PoolState). without_segment q n) (again ∙ first) in
@@ -47,7 +47,7 @@ invariant_of-self c =
 pub returns-in-Some-clause-made : goal.returns-in-Some-clause-made
 returns-in-Some-clause-made c =
     let a = c.self.inside in
-    let b = c.self-in-Some.inside in
+    let b = c.self-in-Some-2.inside in
     let n = c.in-Some.segment in
     let m : MapState = record { pool = a.pool; index = a.index; marks = a.marks; moment = a.moment } in
     let left = c.unindex_arrived.new.self in
@@ -55,15 +55,15 @@ returns-in-Some-clause-made c =
     let first : left.pool ≡ a.pool =
     c.unindex_arrived.ensures.same.pool ∙ sym (ap (λ (x : MapState). x.pool) c.self.view_is) in
     let again : b.pool ≡ left.pool =
-    ap (λ (x : MapState). x.pool) c.self-in-Some.view_is ∙ c.unindex_segment.ensures.same.pool in
-    let moment : b.moment ≡ a.moment = ap (λ (x : MapState). x.moment) c.self-in-Some.view_is
+    ap (λ (x : MapState). x.pool) c.self-in-Some-2.view_is ∙ c.unindex_segment.ensures.same.pool in
+    let moment : b.moment ≡ a.moment = ap (λ (x : MapState). x.moment) c.self-in-Some-2.view_is
     ∙ c.unindex_segment.ensures.moment ∙ c.unindex_arrived.ensures.moment
     ∙ sym (ap (λ (x : MapState). x.moment) c.self.view_is) in
     let arrived : HaveArrivedLeft a.pool a.moment n (current a.pool a.index) (current left.pool left.index) =
     (let h = c.unindex_arrived.ensures.left in rw (← c.self.view_is) at h) in
     let gone : HasLeft n (current left.pool left.index) (current b.pool b.index) =
-    (let h = c.unindex_segment.ensures.left in rw (← c.self-in-Some.view_is) at h) in
-    let asks = asks_clear m left cleared n c.self.invariant c.unindex_arrived.ensures.same.kept c.self-in-Some.invariant
+    (let h = c.unindex_segment.ensures.left in rw (← c.self-in-Some-2.view_is) at h) in
+    let asks = asks_clear m left cleared n c.self.invariant c.unindex_arrived.ensures.same.kept c.self-in-Some-2.invariant
     first again arrived gone in
     let is : c.clear.new.self ≡ without_segment a.pool n =
     c.clear.ensures.cleared ∙ ap (λ (q : PoolState). without_segment q n) (again ∙ first) in
@@ -74,7 +74,7 @@ returns-in-Some-clause-made c =
 pub returns-in-Some-clause-evicted : goal.returns-in-Some-clause-evicted
 returns-in-Some-clause-evicted c =
     let a = c.self.inside in
-    let b = c.self-in-Some.inside in
+    let b = c.self-in-Some-2.inside in
     let n = c.in-Some.segment in
     let m : MapState = record { pool = a.pool; index = a.index; marks = a.marks; moment = a.moment } in
     let left = c.unindex_arrived.new.self in
@@ -82,15 +82,15 @@ returns-in-Some-clause-evicted c =
     let first : left.pool ≡ a.pool =
     c.unindex_arrived.ensures.same.pool ∙ sym (ap (λ (x : MapState). x.pool) c.self.view_is) in
     let again : b.pool ≡ left.pool =
-    ap (λ (x : MapState). x.pool) c.self-in-Some.view_is ∙ c.unindex_segment.ensures.same.pool in
-    let moment : b.moment ≡ a.moment = ap (λ (x : MapState). x.moment) c.self-in-Some.view_is
+    ap (λ (x : MapState). x.pool) c.self-in-Some-2.view_is ∙ c.unindex_segment.ensures.same.pool in
+    let moment : b.moment ≡ a.moment = ap (λ (x : MapState). x.moment) c.self-in-Some-2.view_is
     ∙ c.unindex_segment.ensures.moment ∙ c.unindex_arrived.ensures.moment
     ∙ sym (ap (λ (x : MapState). x.moment) c.self.view_is) in
     let arrived : HaveArrivedLeft a.pool a.moment n (current a.pool a.index) (current left.pool left.index) =
     (let h = c.unindex_arrived.ensures.left in rw (← c.self.view_is) at h) in
     let gone : HasLeft n (current left.pool left.index) (current b.pool b.index) =
-    (let h = c.unindex_segment.ensures.left in rw (← c.self-in-Some.view_is) at h) in
-    let asks = asks_clear m left cleared n c.self.invariant c.unindex_arrived.ensures.same.kept c.self-in-Some.invariant
+    (let h = c.unindex_segment.ensures.left in rw (← c.self-in-Some-2.view_is) at h) in
+    let asks = asks_clear m left cleared n c.self.invariant c.unindex_arrived.ensures.same.kept c.self-in-Some-2.invariant
     first again arrived gone in
     let is : c.clear.new.self ≡ without_segment a.pool n =
     c.clear.ensures.cleared ∙ ap (λ (q : PoolState). without_segment q n) (again ∙ first) in

@@ -38,17 +38,17 @@ returns-then-plan_merge-clause-made c =
     let a = c.self.inside in
     let h = c.if-plan_merge.ensures.plan in
     let crowded : IsCrowded a.pool a.index a.moment = (let h = c.requires.crowded in rw (← c.self.view_is) at h) in
-    rw (← c.self.view_is) (subst (λ (m : MapState). IsRoomMade a.pool a.index a.moment m.pool m.index) (sym c.self-then-plan_merge.view_is)
+    rw (← c.self.view_is)
     (made_replanned a.pool c.plan_merge.new.pool (Some h.0) a.index a.marks a.moment c.merge.new.self.pool
-    c.merge.new.self.index c.self.invariant.tied c.plan_merge.ensures.pool h.2 crowded c.merge.ensures.made))
+    c.merge.new.self.index c.self.invariant.tied c.plan_merge.ensures.pool h.2 crowded c.merge.ensures.made)
 
 pub returns-then-plan_merge-clause-evicted : goal.returns-then-plan_merge-clause-evicted
 returns-then-plan_merge-clause-evicted c =
     let a = c.self.inside in
     let h = c.if-plan_merge.ensures.plan in
-    rw (← c.self.view_is) (subst (λ (m : MapState). IsEvicted (live_marks a.marks a.moment) a.pool a.index a.moment m.pool m.index) (sym c.self-then-plan_merge.view_is)
+    rw (← c.self.view_is)
     (evicted_replanned (live_marks a.marks a.moment) a.pool c.plan_merge.new.pool (Some h.0) a.index a.marks a.moment c.merge.new.self.pool
-    c.merge.new.self.index c.self.invariant.tied c.plan_merge.ensures.pool h.2 c.merge.ensures.evicted))
+    c.merge.new.self.index c.self.invariant.tied c.plan_merge.ensures.pool h.2 c.merge.ensures.evicted)
 
 pub invariant_of-self-else-plan_merge : goal.invariant_of-self-else-plan_merge
 invariant_of-self-else-plan_merge c =
@@ -75,15 +75,15 @@ returns-else-plan_merge-clause-made c =
     let a = c.self.inside in
     let h = c.if-plan_merge.ensures.plan in
     let crowded : IsCrowded a.pool a.index a.moment = (let h = c.requires.crowded in rw (← c.self.view_is) at h) in
-    rw (← c.self.view_is) (subst (λ (m : MapState). IsRoomMade a.pool a.index a.moment m.pool m.index) (sym c.self-else-plan_merge.view_is)
+    rw (← c.self.view_is)
     (made_replanned a.pool c.plan_merge.new.pool None a.index a.marks a.moment c.clear_victim.new.self.pool
-    c.clear_victim.new.self.index c.self.invariant.tied c.plan_merge.ensures.pool h.1 crowded c.clear_victim.ensures.made))
+    c.clear_victim.new.self.index c.self.invariant.tied c.plan_merge.ensures.pool h.1 crowded c.clear_victim.ensures.made)
 
 pub returns-else-plan_merge-clause-evicted : goal.returns-else-plan_merge-clause-evicted
 returns-else-plan_merge-clause-evicted c =
     let a = c.self.inside in
     let h = c.if-plan_merge.ensures.plan in
-    rw (← c.self.view_is) (subst (λ (m : MapState). IsEvicted (live_marks a.marks a.moment) a.pool a.index a.moment m.pool m.index) (sym c.self-else-plan_merge.view_is)
+    rw (← c.self.view_is)
     (evicted_replanned (live_marks a.marks a.moment) a.pool c.plan_merge.new.pool None a.index a.marks a.moment c.clear_victim.new.self.pool
     c.clear_victim.new.self.index c.self.invariant.tied c.plan_merge.ensures.pool h.1 (c.clear_victim.ensures.evicted
-    (none_replanned a.pool c.plan_merge.new.pool None h.1 h.0))))
+    (none_replanned a.pool c.plan_merge.new.pool None h.1 h.0)))

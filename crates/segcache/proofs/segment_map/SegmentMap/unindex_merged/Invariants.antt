@@ -8,6 +8,7 @@ use Rattle.segcache.proofs.segment_map.SegmentMap.unindex_merged.Given as goal
 abbrev pub invariant-loop-k : goal.invariant-loop-k
 invariant-loop-k l = record {
   kept : IsSegmentedMap l.fn.self;
+  now : IsSegmentedMap l.self;
   pool : l.self.pool ≡ l.fn.self.pool;
   moment : l.self.moment ≡ l.fn.self.moment;
   left : HaveExpiredLeft l.fn.self.pool l.fn.self.moment (contains_number (take l.k (planned_segments l.fn.self.pool)))

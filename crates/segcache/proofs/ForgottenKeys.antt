@@ -80,8 +80,8 @@ keys_replanned lives p o after keys h = by h.evicted h.keys_are
         → EvictsKeys lives p after keys
     by (inl m) are =
         let long = leb-true 2 (length (front p m.choice)) m.next.qualifying in
-        let four = length-take (most_merged p.eviction) (front p m.choice) in
-        let two = most_two p.eviction in
+        let four = length-take (most_merged p.eviction m.choice.bucket) (front p m.choice) in
+        let two = most_two p.eviction m.choice.bucket in
         record {
           evicted = inl (record {
             choice = m.choice;

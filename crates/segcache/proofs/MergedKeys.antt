@@ -107,8 +107,8 @@ merged_evicted lives p plan after index found marks t w h same =
     let keys : map key_in ss ≡ map (λ j. j.item.key) (filter (λ j. not j.is_kept) h.judged) =
     ap (λ xs. map key_in (lost plan.moves xs)) (sym (h.is_judged.all_live ∙ same)) ∙ lost_keys plan.moves h.judged kept in
     let long = leb-true 2 (length (front p plan.choice)) h.next.qualifying in
-    let four = length-take (most_merged p.eviction) (front p plan.choice) in
-    let two = most_two p.eviction in
+    let four = length-take (most_merged p.eviction plan.choice.bucket) (front p plan.choice) in
+    let two = most_two p.eviction plan.choice.bucket in
     record {
       evicted = inl (record {
         choice = plan.choice;

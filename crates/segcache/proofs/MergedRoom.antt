@@ -73,12 +73,12 @@ opened_by rule false true items f o t u h a b = let r = filled_opened items f u 
 opened_by rule false false items f o t u h a b = b u h
 
 -- what one move keeps in front of items that are dated as they may be is so too
-moved_dated : (exact : Bool) (d : Option ℕ) (b : Bool) (o : Option Item) (rest : List Item)
+moved_dated : (ev : Eviction) (exact : Bool) (d : Option ℕ) (b : Bool) (o : Option Item) (rest : List Item)
     → ((i : Item) → o ≡ Some i → IsDatedIn exact d i) → All (IsDatedIn exact d) rest
-    → All (IsDatedIn exact d) (cons_option (if b then option_map with_reads_halved o else None) rest)
-moved_dated exact d true None rest each all = all
-moved_dated exact d true (Some i) rest each all = All-cons (IsDatedIn exact d) (with_reads_halved i) rest (each i refl) all
-moved_dated exact d false o rest each all = all
+    → All (IsDatedIn exact d) (cons_option (if b then option_map (with_reads_halved ev) o else None) rest)
+moved_dated ev exact d true None rest each all = all
+moved_dated ev exact d true (Some i) rest each all = All-cons (IsDatedIn exact d) (with_reads_halved ev i) rest (each i refl) all
+moved_dated ev exact d false o rest each all = all
 
 -- what moves keep that start in segments with one deadline
 carried_dated : (p : PoolState) (d : Option ℕ) (moves : List Move) → AreDated p
@@ -87,7 +87,7 @@ carried_dated : (p : PoolState) (d : Option ℕ) (moves : List Move) → AreDate
 carried_dated p d [] dated all = All-nil (IsDatedIn p.exact d)
 carried_dated p d (m ∷ moves) dated all =
     let P : Move → Type 0 = λ x. deadline_in (segment_at p x.source.segment) ≡ d in
-    moved_dated p.exact d (is_some m.target) (item_in p m.source) (carried_items p moves)
+    moved_dated p.eviction p.exact d (is_some m.target) (item_in p m.source) (carried_items p moves)
     (λ i e. subst (λ (x : Option ℕ). IsDatedIn p.exact x i) (All-head P m moves all) (dated m.source i e))
     (carried_dated p d moves dated (All-tail P m moves all))
 
@@ -299,12 +299,12 @@ moved_entry p plan after index found marks w q r s e m =
     let x = current_item p index q r e in
     elim (cases_Bool (contains_number (merged_segments p plan.choice) r.segment)) [
       | inl y ↦
-          let there : (item_in after s ≡ Some (with_reads_halved x.0)) × (place_deadline after s ≡ place_deadline p r) =
+          let there : (item_in after s ≡ Some (with_reads_halved p.eviction x.0)) × (place_deadline after s ≡ place_deadline p r) =
           subst (λ (o : Option Place). IfSome o
-          (λ place. (item_in after place ≡ Some (with_reads_halved x.0))
+          (λ place. (item_in after place ≡ Some (with_reads_halved p.eviction x.0))
           × (place_deadline after place ≡ place_deadline p r))) m
           (moved_live (lives_by marks) p plan after r x.0 w.is_plan w.out x.1 (w.tied.held q r e) y) in
-          entry_is after s (with_reads_halved x.0) there.0 ∙ ap (λ (d : Option ℕ). kept_entry d x.0) there.1
+          entry_is after s (with_reads_halved p.eviction x.0) there.0 ∙ ap (λ (d : Option ℕ). kept_entry d x.0) there.1
           ∙ sym (entry_is p r x.0 x.1)
       | inr n ↦
           let o = moved_other p plan after r w.out n in
@@ -375,7 +375,7 @@ merged_made p plan after index found marks t w wait crowded =
           (let part = part_sizes (λ (s : Standing). not (is_some (moved_by plan.moves s.place))) all in
           let whole = live_sizes p marks (merged_segments p plan.choice) w.tied.known.pool in
           let four : length (merged_segments p plan.choice) ≤ 4 =
-          (let l = length-take (most_merged p.eviction) (front p plan.choice) in let m = most_four p.eviction in
+          (let l = length-take (most_merged p.eviction plan.choice.bucket) (front p plan.choice) in let m = most_four p.eviction plan.choice.bucket in
           omega (arith, l, m)) in
           let most = mul-le-mul_left p.sizes.segment_size four in
           omega (arith, part, whole, most));

@@ -4,6 +4,7 @@ use Rattle.std.specs.Prelude.{All, option_map}
 use Rattle.std.proofs.lemmas.Bool.{cases_Bool, false≢true}
 use Rattle.std.proofs.lemmas.List.Elements.{All-nil, All-append, All-filter, All-map, filter_passes}
 use Rattle.segments.specs.declared.place.Place.{Place}
+use Rattle.proto.specs.declared.eviction.Eviction.{Eviction}
 use Rattle.segments.specs.Items.{Item, with_reads_halved}
 use Rattle.segments.specs.Pools.{PoolState, Plan, IsPool, Liveness, Standing, segment_at, items_of, item_in, place_deadline, deadline_in, standing}
 use Rattle.segments.specs.Pools.{live_standing}
@@ -71,17 +72,17 @@ unfolding key_at
 key_by p q a b e = ap (option_map (λ (i : Item). i.key)) e
 
 -- an item keeps its key when its reads are halved
-half_key : (o : Option Item) → option_map (λ (i : Item). i.key) (option_map with_reads_halved o)
+half_key : (ev : Eviction) (o : Option Item) → option_map (λ (i : Item). i.key) (option_map (with_reads_halved ev) o)
     ≡ option_map (λ (i : Item). i.key) o
-half_key None = refl
-half_key (Some i) = refl
+half_key ev None = refl
+half_key ev (Some i) = refl
 
 -- where the item of one place stands at another, with its reads halved, both places have the same
 -- key
-key_half : (p q : PoolState) (a b : Place) → item_in p a ≡ option_map with_reads_halved (item_in q b)
+key_half : (ev : Eviction) (p q : PoolState) (a b : Place) → item_in p a ≡ option_map (with_reads_halved ev) (item_in q b)
     → key_at p a ≡ key_at q b
 unfolding key_at
-key_half p q a b e = ap (option_map (λ (i : Item). i.key)) e ∙ half_key (item_in q b)
+key_half ev p q a b e = ap (option_map (λ (i : Item). i.key)) e ∙ half_key ev (item_in q b)
 
 -- a table of the live items' places can be relocated by the moves of the merge that was planned for
 -- them
@@ -97,22 +98,22 @@ plan_relocates lives p plan t k h behind layout index holds =
       held = λ i d lt some. (let s = starts i d lt in holds.held (get_or plan.moves i d).source s.item s.stands s.live);
       in_turn = plan_in_turn lives p plan k h;
       moved = λ i d lt.
-          if_some_map {A = λ r. (item_in after r ≡ option_map with_reads_halved
+          if_some_map {A = λ r. (item_in after r ≡ option_map (with_reads_halved p.eviction)
           (item_in p (get_or plan.moves i d).source)) ×
           (place_deadline after r ≡ place_deadline p (get_or plan.moves i d).source)}
           {B = λ r. key_at after r ≡ key_at (with_merge_planned p plan) (get_or plan.moves i d).source}
           (get_or plan.moves i d).target (c.moved i d lt)
-          (λ r x. key_half after (with_merge_planned p plan) r (get_or plan.moves i d).source x.0);
+          (λ r x. key_half p.eviction after (with_merge_planned p plan) r (get_or plan.moves i d).source x.0);
       inside = λ i d lt.
-          if_some_map {A = λ r. (item_in after r ≡ option_map with_reads_halved
+          if_some_map {A = λ r. (item_in after r ≡ option_map (with_reads_halved p.eviction)
           (item_in p (get_or plan.moves i d).source)) ×
           (place_deadline after r ≡ place_deadline p (get_or plan.moves i d).source)}
           {B = IsInLayout t.layout} (get_or plan.moves i d).target (c.moved i d lt)
           (λ r x.
           let s = starts i d lt in
-          let there : item_in after r ≡ Some (with_reads_halved s.item) = x.0
-          ∙ ap (option_map with_reads_halved) s.stands in
-          place_in_layout after t.layout r (with_reads_halved s.item) behind (rw c.sizes layout) there);
+          let there : item_in after r ≡ Some (with_reads_halved p.eviction s.item) = x.0
+          ∙ ap (option_map (with_reads_halved p.eviction)) s.stands in
+          place_in_layout after t.layout r (with_reads_halved p.eviction s.item) behind (rw c.sizes layout) there);
       others = λ q held none.
           (let i = value_there (item_in p q) (some_key p q (held_key (key_at p) t index q held)) in
           let live = holds.live q i.0 held i.1 in

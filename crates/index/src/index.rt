@@ -211,6 +211,21 @@ impl Index {
         }
     }
 
+    /// The place in a slot; None if the slot has none, or the table no such slot.
+    pub fn place_in(&self, slot: usize) -> Option<Place>
+        ensures { IfSome result (HasPlace self.now) }
+    {
+        if slot >= self.slots.len() {
+            return None;
+        }
+        let found = self.slots.get(slot);
+        if found.is_used() {
+            Some(found.place)
+        } else {
+            None
+        }
+    }
+
     /// Gives the key whose search found this a place, and returns the one that it had. If it had
     /// none, the used part of the table grows first, up to three slots for each key; a gap is
     /// searched for again only if it grew.

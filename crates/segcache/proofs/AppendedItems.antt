@@ -1,12 +1,12 @@
 -- An item put into a segment: with what deadline, and what is shown then.
 use Rattle.std.proofs.Common.{◌≡◌, ℕ, ◌+◌, ◌-◌, ◌<◌, ◌≤◌, true, false, ◌∷◌, [], Option, Some, None, refl, sym, ap, subst}
 use Rattle.std.proofs.Common.{◌∙◌, inl, inr, arith, le_trans}
-use Rattle.std.specs.Prelude.{IsSome, ◌⊎◌, ◌==◌, nat_lt, nat_le, max, if◌then◌else◌, not}
+use Rattle.std.specs.Prelude.{IsSome, ◌⊎◌, ◌==◌, ◌&&◌, nat_lt, nat_le, max, if◌then◌else◌, not}
 use Rattle.std.specs.Option.{option_map_or}
 use Rattle.std.specs.FinMap as finite
 use Rattle.std.specs.Result.{MatchResult, is_err}
 use Rattle.std.proofs.Common.{Result, Ok, Err}
-use Rattle.std.proofs.lemmas.Bool.{cases_Bool, eq-eqb, ne_eqb, false≢true, or_parts, leb-false, lt-leb, ltb-true, eqb-true, le-leb, not-true}
+use Rattle.std.proofs.lemmas.Bool.{cases_Bool, eq-eqb, ne_eqb, false≢true, or_parts, leb-false, lt-leb, ltb-true, eqb-true, le-leb, not-true, and_parts}
 use Rattle.std.proofs.lemmas.Option.{option_and_then_some, cond_some, none-some}
 use Rattle.std.proofs.lemmas.Slice.Eq.{bytes_eq-Decides}
 use Rattle.proto.specs.Cache.{Entry, Entries, has_arrived}
@@ -16,11 +16,12 @@ use Rattle.segments.specs.declared.place.Place.{Place}
 use Rattle.segments.specs.Items.{Item, size_of_item}
 use Rattle.segments.specs.Pools.{PoolState, IsPool, Used, Liveness, item_in, place_deadline, deadline_in}
 use Rattle.segments.specs.Pools.{bucket_deadline, segment_at, tail, is_sealed, lasting}
-use Rattle.segments.specs.Rules.{opening_moment}
+use Rattle.segments.specs.Rules.{opening_moment, shares_one_chain}
 use Rattle.segments.specs.Changes.{IsAddedToTail, IsAddedToFree, open_tail, if_takes, takes, with_item, has_own, may_join}
 use Rattle.segments.proofs.Places.{appended, set_at, takes_open}
 use Rattle.segments.proofs.OpeningLemmas.{opening_le, opening_open, open_joins}
 use Rattle.proto.specs.declared.eviction.Eviction.{Eviction}
+use Rattle.proto.specs.declared.eviction.Eviction.TheVariants.{Oldest, LeastRead}
 use Rattle.segments.proofs.LinkLemmas.{some_within, last_passes, in_chain}
 use Rattle.segments.proofs.InTimeLemmas.{in_time_appended}
 use Rattle.segments.specs.Marks.{Marks}
@@ -40,8 +41,9 @@ use Rattle.segcache.proofs.AppendNeeds.{appended_here, appended_other}
 use Rattle.std.proofs.Common.{Bool}
 use Rattle.segcache.specs.Invariants.{IsDatedIn}
 use Rattle.segments.specs.Items.{deadline_if_there, item_deadline, own_or_shared}
-use Rattle.segcache.proofs.OwnDeadlines.{MayStand, stands_appended, own_dated}
+use Rattle.segcache.proofs.OwnDeadlines.{MayStand, stands_appended, stands_alone, own_dated, arrived_expires}
 use Rattle.segcache.specs.OwnDeadlines.{own_deadline_by}
+use Rattle.segcache.specs.ItemBuckets.{bucket_for}
 use Rattle.engine.specs.Deadlines.{is_storable_deadline}
 use Rattle.segments.specs.Places.{same_place}
 use Rattle.segments.proofs.MovedPlaces.{same_place_is}
@@ -208,16 +210,50 @@ shared_before t bucket opened (Some asked) waits is was d e =
     let same : asked ≡ d = cc in
     subst (λ n. has_arrived (bucket_deadline bucket opened) n ≡ true) same (rw f early)
 
+-- all stand in one chain only where items have deadlines of their own
+one_chain_exact : (e : Eviction) (exact : Bool) → shares_one_chain e exact ≡ true → exact ≡ true
+one_chain_exact Oldest exact h = absurd (false≢true h)
+one_chain_exact LeastRead exact h = h
+
 -- what an item gets that is appended where it may join: it has its own deadline, or the segment's
 -- may be given
 appended_gets : (p : PoolState) (t bucket opened : ℕ) (i : Item) (asked : Option ℕ) → has_arrived asked t ≡ false
-    → bucket ≡ bucket_of (time_to_live asked t) → opened ≤ t → i.own_deadline ≡ own_deadline_by p.exact asked
+    → bucket ≡ bucket_for p t asked → opened ≤ t → i.own_deadline ≡ own_deadline_by p.exact asked
     → may_join (has_own i) bucket opened t ≡ true → MayStand p.exact t asked (bucket_deadline bucket opened)
 appended_gets p t bucket opened i asked waits of_bucket was own joins =
-    stands_appended p.exact t asked (bucket_deadline bucket opened) waits
-    (shared_before t bucket opened asked waits of_bucket was)
-    (λ none. (let z = eq-eqb i.own_deadline 0 (own ∙ none) in let open_now : not (is_sealed bucket opened t) ≡ true = rw z at joins in
-    deadline_may t bucket opened asked waits of_bucket was (not-true (is_sealed bucket opened t) open_now)))
+    let one_chain = shares_one_chain p.eviction p.exact in
+    elim (cases_Bool (one_chain && is_storable_deadline asked)) [
+      | inl y ↦
+          let a = and_parts one_chain (is_storable_deadline asked) y in
+          let last : bucket ≡ lasting = rw y at of_bucket in
+          let none : bucket_deadline bucket opened ≡ None = ap (λ b. bucket_deadline b opened) last in
+          subst (MayStand p.exact t asked) (sym none)
+          (stands_alone p.exact t asked (one_chain_exact p.eviction p.exact a.0) a.1 waits)
+      | inr n ↦
+          let of_life : bucket ≡ bucket_of (time_to_live asked t) = rw n at of_bucket in
+          stands_appended p.exact t asked (bucket_deadline bucket opened) waits
+          (λ d e. arrived_expires (bucket_deadline bucket opened) d (shared_before t bucket opened asked waits of_life was d e))
+          (λ none. (let z = eq-eqb i.own_deadline 0 (own ∙ none) in
+          let open_now : not (is_sealed bucket opened t) ≡ true = rw z at joins in
+          deadline_may t bucket opened asked waits of_life was (not-true (is_sealed bucket opened t) open_now)))
+    ]
+
+-- a pool by the same rule puts an item into the same bucket
+pub same_bucket : (p q : PoolState) (t : ℕ) (asked : Option ℕ) → q.eviction ≡ p.eviction → q.exact ≡ p.exact
+    → bucket_for q t asked ≡ bucket_for p t asked
+same_bucket p q t asked rule exact =
+    ap (λ (e : Eviction). if shares_one_chain e q.exact && is_storable_deadline asked then lasting
+    else bucket_of (time_to_live asked t)) rule
+    ∙ ap (λ (x : Bool). if shares_one_chain p.eviction x && is_storable_deadline asked then lasting
+    else bucket_of (time_to_live asked t)) exact
+
+-- what has no deadline goes to the bucket of that
+pub bucket_of_none : (p : PoolState) (t : ℕ) → bucket_for p t None ≡ lasting
+bucket_of_none p t = by (shares_one_chain p.eviction p.exact)
+  where
+    by : (b : Bool) → (if b && true then lasting else bucket_of (time_to_live None t)) ≡ lasting
+    by true = refl
+    by false = refl
 
 -- a deadline that an entry may get at a moment hasn't come at that moment
 pub may_wait : (t : ℕ) (asked given : Option ℕ) → MayLive t asked given → has_arrived given t ≡ false
@@ -246,7 +282,7 @@ put_shown p after index found marks bucket t i place tied added is waits =
 pub record AsksAppend (m : MapState) (i : Item) (asked : Option ℕ) (bucket : ℕ) : Type 0 where
   pub own : i.own_deadline ≡ own_deadline_by m.pool.exact asked
   pub waits : has_arrived asked m.moment ≡ false
-  pub of_bucket : bucket ≡ bucket_of (time_to_live asked m.moment)
+  pub of_bucket : bucket ≡ bucket_for m.pool m.moment asked
 
 -- what an appended item gets
 pub record IsDated (p : PoolState) (t : ℕ) (i : Item) (asked : Option ℕ) (after : PoolState) (place : Place) : Type 0 where
@@ -260,7 +296,7 @@ pub record IsDated (p : PoolState) (t : ℕ) (i : Item) (asked : Option ℕ) (af
 pub put_deadline : (p after : PoolState) (bucket t : ℕ) (i : Item) (asked : Option ℕ)
     (place : Place) → IsPast p t → IsPool p
     → IsAddedToTail p bucket t i after place ⊎ IsAddedToFree p bucket t i after place
-    → i.own_deadline ≡ own_deadline_by p.exact asked → has_arrived asked t ≡ false → bucket ≡ bucket_of (time_to_live asked t)
+    → i.own_deadline ≡ own_deadline_by p.exact asked → has_arrived asked t ≡ false → bucket ≡ bucket_for p t asked
     → IsDated p t i asked after place
 put_deadline p after bucket t i asked place past pool added own waits of_bucket =
     let a = appended p bucket t i after place pool added in
@@ -295,7 +331,7 @@ pub put_made : (p : PoolState) (index : Table) (mid : PoolState) (between : Tabl
     → IsAddedToTail mid bucket t i after place ⊎ IsAddedToFree mid bucket t i after place
     → current after found ≡ finite.insert (current mid between) i.key place
     → i.own_deadline ≡ own_deadline_by p.exact asked
-    → has_arrived asked t ≡ false → bucket ≡ bucket_of (time_to_live asked t) → IsPut p index t i asked after found
+    → has_arrived asked t ≡ false → bucket ≡ bucket_for mid t asked → IsPut p index t i asked after found
 put_made p index mid between marks bucket t i asked after found place sizes exact kept past tied added is own waits of_bucket =
     let a = appended mid bucket t i after place tied.known.pool added in
     let d = put_deadline mid after bucket t i asked place past tied.known.pool added
@@ -323,7 +359,7 @@ pub put_placed : (lives : Liveness) (p : PoolState) (index : Table) (mid : PoolS
     → IsAddedToTail mid bucket t i after place ⊎ IsAddedToFree mid bucket t i after place
     → current after found ≡ finite.insert (current mid between) i.key place
     → i.own_deadline ≡ own_deadline_by mid.exact asked
-    → has_arrived asked t ≡ false → bucket ≡ bucket_of (time_to_live asked t)
+    → has_arrived asked t ≡ false → bucket ≡ bucket_for mid t asked
     → PlacesItem lives p index bucket t i after found
 put_placed lives p index mid between marks bucket t i asked after found place made past tied added is own waits of_bucket =
     let d = put_deadline mid after bucket t i asked place past tied.known.pool added own waits of_bucket in
@@ -345,7 +381,7 @@ pub put_over : (p : PoolState) (index : Table) (marks : Marks) (bucket t : ℕ) 
     → IsAddedToTail p bucket t i after place ⊎ IsAddedToFree p bucket t i after place
     → current after found ≡ finite.insert (current p index) i.key place
     → i.own_deadline ≡ own_deadline_by p.exact asked
-    → has_arrived asked t ≡ false → bucket ≡ bucket_of (time_to_live asked t) → IsPutOver p index t i asked after found
+    → has_arrived asked t ≡ false → bucket ≡ bucket_for p t asked → IsPutOver p index t i asked after found
 put_over p index marks bucket t i asked after found place past tied added is own waits of_bucket =
     let a = appended p bucket t i after place tied.known.pool added in
     let d = put_deadline p after bucket t i asked place past tied.known.pool added own waits of_bucket in

@@ -33,7 +33,6 @@ use Rattle.segcache.proofs.OpeningMoments.{past_changed}
 use Rattle.segcache.proofs.WriteParts.{may_store}
 use Rattle.segcache.proofs.KeptEntries.{adds_none, keeps_changed}
 use Rattle.segcache.proofs.WritesWithRoom.{written_more, all_last}
-use Rattle.segcache.specs.Invariants.{AreDated}
 use Rattle.segments.specs.Items.{deadline_if_there, item_deadline}
 use Rattle.segments.specs.Pools.{shared_at}
 use Rattle.segcache.specs.Writes.{unread_by}
@@ -191,16 +190,16 @@ sized_over old new key e w = keeps_over (with_value e w.item) (item_in old.pool 
     (subst (λ (o : Option Item). fits_over (with_value e w.item) o ≡ true) (sym w.is_at) w.fits)
 
 -- and keeps what was stored
-keeps_over_key : (old new : MapState) (key : List ℕ) (e : Entry) → AreDated old.pool → ChangesInPlace old key e new
+keeps_over_key : (old new : MapState) (key : List ℕ) (e : Entry) → ChangesInPlace old key e new
     → KeepsEntry (λ (m : MapState). m.pool.sizes) (λ (m : MapState). shown_entries m.pool m.index m.moment)
     (λ (m : MapState). m.moment) KeepsStored old key e new
-keeps_over_key old new key e dated w items keeps adds within =
+keeps_over_key old new key e w items keeps adds within =
     let p = old.pool in
     let t = old.moment in
     let k = keeps_changed (λ _. with_value e w.item) old new w.place (sized_over old new key e w)
-    (ap (λ (m : MapState). m.pool) w.new_is) items keeps in
+    (ap (λ (m : MapState). m.pool) w.new_is) items (λ i was. keeps.none_dated w.place w.item w.is_at) keeps in
     let moment : new.moment ≡ t = ap (λ (m : MapState). m.moment) w.new_is in
-    let none : e.deadline ≡ None = adds_none p (current p old.index) t key e dated keeps.all_last adds in
+    let none : e.deadline ≡ None = adds_none p (current p old.index) t key e keeps.none_dated keeps.all_last adds in
     let bucket : bucket_of (time_to_live e.deadline t) ≡ lasting =
     ap (λ (d : Option ℕ). bucket_of (time_to_live d t)) none in
     let one : StoredItem = record { size = entry_size key e; bucket = bucket_of (time_to_live e.deadline t) } in
@@ -210,6 +209,7 @@ keeps_over_key old new key e dated w items keeps adds within =
       record {
         filled = k.filled;
         all_last = k.all_last;
+        none_dated = k.none_dated;
         undated = all_last items one keeps.undated bucket;
         held = omega arith;
       },
@@ -291,5 +291,5 @@ rewritten m key e place found pool asks kept at fits is whole =
       changed = w;
       written = written_exactly m.pool.sizes m.moment (shown_entries m.pool m.index m.moment) key e
           (shown_entries pool m.index m.moment) asks.waits w.entries;
-      keeps = keeps_over_key m new key e kept.past.dated w;
+      keeps = keeps_over_key m new key e w;
     }

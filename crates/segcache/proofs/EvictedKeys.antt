@@ -2,17 +2,17 @@
 -- segments, and not too many bytes of them.
 use Rattle.std.proofs.Common.{◌≡◌, ℕ, zero, suc, ◌+◌, ◌-◌, ◌*◌, ◌<◌, ◌≤◌, Bool, true, false, cond, List, [], ◌∷◌, map}
 use Rattle.std.proofs.Common.{Option, Some, None, refl, sym, ap, subst, ◌∙◌, inl, inr, arith}
-use Rattle.std.specs.Prelude.{bytes_eq, IsSome, All, ◌||◌, ◌⊎◌, option_map, sum_by, filter, is_some, ◌==◌, if◌then◌else◌}
+use Rattle.std.specs.Prelude.{bytes_eq, IsSome, All, ◌||◌, ◌⊎◌, not, option_map, sum_by, filter, is_some, ◌==◌, if◌then◌else◌}
 use Rattle.std.specs.List.{list_any, list_all}
 use Rattle.std.specs.Option.{option_map_or}
 use Rattle.std.specs.FinMap as finite
 use Rattle.std.specs.Ordering.{nat_cmp}
 use Rattle.std.specs.Cmp.Lexicographic.{slice_cmp, nat_list_cmp_total}
-use Rattle.std.proofs.lemmas.Bool.{cases_Bool, cases_eq, ne_eqb, false≢true}
+use Rattle.std.proofs.lemmas.Bool.{cases_Bool, cases_eq, ne_eqb, false≢true, and_parts, not-true}
 use Rattle.std.proofs.lemmas.Slice.Eq.{bytes_eq-Decides}
 use Rattle.std.proofs.lemmas.Option.{none-some}
 use Rattle.std.proofs.lemmas.List.Sums.{sum_by-cons}
-use Rattle.std.proofs.lemmas.List.Elements.{All-head, All-tail, All-nil, All-cons}
+use Rattle.std.proofs.lemmas.List.Elements.{All-head, All-tail, All-nil, All-cons, All-filter}
 use Rattle.proto.specs.Cache.{Entry, Entries}
 use Rattle.proto.specs.Steps.{size_at, without_keys}
 use Rattle.proto.proofs.CacheLemmas.{entry_size, contains_bytes, get-remove, if_live}
@@ -25,16 +25,20 @@ use Rattle.segments.proofs.Places.{cleared_item, cleared_deadline, cleared_free}
 use Rattle.segments.proofs.MovedPlaces.{same_place_is, same_place_itself}
 use Rattle.segments.proofs.MarkedPlaces.{knows_after}
 use Rattle.segments.specs.Pools.{key_at}
-use Rattle.segments.specs.Marks.{Marks, is_marked, lives_by}
+use Rattle.segments.specs.Marks.{Marks, is_marked}
 use Rattle.index.specs.Table.{Table, Places}
 use Rattle.segcache.specs.Shown.{current, shown_entries, entry_at, kept_entry, dead_entry}
 use Rattle.segcache.specs.Removals.{HasLeft}
 use Rattle.segcache.proofs.OpeningMoments.{past_cleared}
 use Rattle.segcache.specs.Invariants.{IsTied, IsPast}
-use Rattle.segcache.specs.Room.{AllWait, IsCrowded, IsRoomMade, AreKept}
+use Rattle.segcache.specs.Room.{IsCrowded, IsRoomMade, AreKept}
+use Rattle.segcache.specs.LiveItems.{live_marks}
+use Rattle.proto.specs.Cache.{has_arrived}
+use Rattle.segments.specs.Items.{item_deadline}
+use Rattle.segments.specs.Pools.{deadline_in}
 use Rattle.segcache.proofs.ShownItems.{get-live_in, entry_live, entry_is, shown_without}
 use Rattle.segcache.proofs.TiedParts.{current_item, tied_same}
-use Rattle.segcache.proofs.LeftPlaces.{is_left, standing_all, standing_left}
+use Rattle.segcache.proofs.LeftPlaces.{is_left, standing_all, standing_left, deadline_standing}
 
 -- ---- what is shown of current items that are live
 
@@ -42,14 +46,17 @@ use Rattle.segcache.proofs.LeftPlaces.{is_left, standing_all, standing_left}
 abbrev pub IsCurrent : PoolState → Table → Standing → Type 0
 IsCurrent p index s = (item_in p s.place ≡ Some s.item) × (finite.get (current p index) s.item.key ≡ Some s.place)
 
--- where no current deadline has come, a current item is shown as the entry that it keeps, with its
--- deadline
-pub shown_item : (p : PoolState) (index : Table) (t : ℕ) (s : Standing) → AllWait p (current p index) t
+-- the deadline of an item's place hasn't come
+abbrev pub Waits : PoolState → ℕ → Standing → Type 0
+Waits p t s = has_arrived (place_deadline p s.place) t ≡ false
+
+-- a current item whose deadline hasn't come is shown as the entry that it keeps, with its deadline
+pub shown_item : (p : PoolState) (index : Table) (t : ℕ) (s : Standing) → Waits p t s
     → IsCurrent p index s
     → finite.get (shown_entries p index t) s.item.key ≡ Some (kept_entry (place_deadline p s.place) s.item)
 shown_item p index t s wait c =
     get-live_in p (current p index) t s.item.key ∙ ap (λ (o : Option Place). if_live t (option_map (entry_at p) o)) c.1
-    ∙ entry_live p s.place t s.item c.0 (wait s.item.key s.place c.1) ∙ ap Some (entry_is p s.place s.item c.0)
+    ∙ entry_live p s.place t s.item c.0 wait ∙ ap Some (entry_is p s.place s.item c.0)
 
 -- the key of an item that stands at a place
 abbrev pub key_in : Standing → List ℕ
@@ -59,27 +66,27 @@ key_in s = s.item.key
 abbrev pub size_in : Standing → ℕ
 size_in s = size_of_item s.item
 
--- where no current deadline has come, an entry is shown at the key of each of some current items
-pub all_shown : (p : PoolState) (index : Table) (t : ℕ) (ss : List Standing) → AllWait p (current p index) t
+-- an entry is shown at the key of each of some current items whose deadline hasn't come
+pub all_shown : (p : PoolState) (index : Table) (t : ℕ) (ss : List Standing) → All (Waits p t) ss
     → All (IsCurrent p index) ss
     → list_all (finite.contains_key (shown_entries p index t)) (map key_in ss) ≡ true
 all_shown p index t [] wait all = refl
 all_shown p index t (s ∷ ss) wait all =
     let here : finite.contains_key (shown_entries p index t) s.item.key ≡ true =
-    ap is_some (shown_item p index t s wait (All-head (IsCurrent p index) s ss all)) in
-    rw here (all_shown p index t ss wait (All-tail (IsCurrent p index) s ss all))
+    ap is_some (shown_item p index t s (All-head (Waits p t) s ss wait) (All-head (IsCurrent p index) s ss all)) in
+    rw here (all_shown p index t ss (All-tail (Waits p t) s ss wait) (All-tail (IsCurrent p index) s ss all))
 
--- where no current deadline has come, the entries shown at the keys of current items take the bytes
--- that these items take
-pub shown_sizes : (p : PoolState) (index : Table) (t : ℕ) (ss : List Standing) → AllWait p (current p index) t
+-- the entries shown at the keys of current items whose deadline hasn't come take the bytes that
+-- these items take
+pub shown_sizes : (p : PoolState) (index : Table) (t : ℕ) (ss : List Standing) → All (Waits p t) ss
     → All (IsCurrent p index) ss
     → sum_by (size_at (shown_entries p index t)) (map key_in ss) ≡ sum_by size_in ss
 shown_sizes p index t [] wait all = refl
 shown_sizes p index t (s ∷ ss) wait all =
     let here : size_at (shown_entries p index t) s.item.key ≡ size_of_item s.item = ap
     (λ (o : Option Entry). option_map_or (entry_size s.item.key) o 0)
-    (shown_item p index t s wait (All-head (IsCurrent p index) s ss all)) in
-    let rest = shown_sizes p index t ss wait (All-tail (IsCurrent p index) s ss all) in
+    (shown_item p index t s (All-head (Waits p t) s ss wait) (All-head (IsCurrent p index) s ss all)) in
+    let rest = shown_sizes p index t ss (All-tail (Waits p t) s ss wait) (All-tail (IsCurrent p index) s ss all) in
     let one = sum_by-cons (size_at (shown_entries p index t)) s.item.key (map key_in ss) in
     let other = sum_by-cons size_in s ss in
     omega (arith, here, rest, one, other)
@@ -140,7 +147,7 @@ many_keys (suc k) m entries h =
 
 -- of items that all have a property, and of which some pass a test, one passes it and has the
 -- property
-found_live : (t : Standing → Bool) (xs : List Standing) → list_any t xs ≡ true → (P : Standing → Type 0) → All P xs
+pub found_live : (t : Standing → Bool) (xs : List Standing) → list_any t xs ≡ true → (P : Standing → Type 0) → All P xs
     → (s : Standing) × (t s ≡ true) × P s
 found_live t [] h P all = absurd (false≢true h)
 found_live t (x ∷ xs) h P all =
@@ -149,17 +156,23 @@ found_live t (x ∷ xs) h P all =
       | inr n ↦ (let later : list_any t xs ≡ true = rw n at h in found_live t xs later P (All-tail P x xs all))
     ]
 
--- where each segment has a current item, and all are live, there are as many entries as segments
+-- where each segment has a live item, there are as many entries as segments
 pub many_shown : (p : PoolState) (index : Table) (marks : Marks) (t : ℕ) → IsTied p index marks
-    → AllWait p (current p index) t
-    → ((n : ℕ) → n < p.sizes.segments → has_live (lives_by marks) p n ≡ true)
+    → ((n : ℕ) → n < p.sizes.segments → has_live (live_marks marks t) p n ≡ true)
     → p.sizes.segments ≤ finite.len (shown_entries p index t)
-many_shown p index marks t tied wait live =
+many_shown p index marks t tied live =
     many_keys p.sizes.segments (current p index) (shown_entries p index t)
     (λ n lt.
-    let w = found_live (λ s. is_marked marks s.place) (standing p n) (live n lt)
+    let w = found_live
+    (λ s. live_marks marks t s.place s.item (item_deadline s.item (deadline_in (segment_at p n)))) (standing p n)
+    (live n lt)
     (λ (s : Standing). (s.place.segment ≡ n) × (item_in p s.place ≡ Some s.item)) (standing_all p n) in
-    let there = tied.marked w.0.place w.0.item w.2.1 w.1 in
+    let shared = deadline_in (segment_at p n) in
+    let both = and_parts (is_marked marks w.0.place) (not (has_arrived (item_deadline w.0.item shared) t)) w.1 in
+    let wait : has_arrived (place_deadline p w.0.place) t ≡ false =
+    ap (λ d. has_arrived d t) (sym (deadline_standing p n w.0 w.2.0 w.2.1))
+    ∙ not-true (has_arrived (item_deadline w.0.item shared) t) both.1 in
+    let there = tied.marked w.0.place w.0.item w.2.1 both.0 in
     record {
       key = w.0.item.key;
       place = w.0.place;
@@ -245,18 +258,19 @@ left_entries p index after found t ss all stayed =
     ∙ shown_but p index after (current after found) t ss q (finite.get (current p index) q) all stayed refl
     ∙ ap (cond (contains_bytes (map key_in ss) q) None) (sym (get-live_in p (current p index) t q)))
 
--- what is forgotten where current items of a crowded map leave, no more than four segments' worth
+-- what is forgotten where current items of a crowded map leave whose deadline hasn't come, no more
+-- than four segments' worth
 pub evicted_kept : (p : PoolState) (index : Table) (after : PoolState) (found : Table) (t : ℕ) (ss : List Standing)
-    → IsCrowded p index t → All (IsCurrent p index) ss
+    → IsCrowded p index t → All (Waits p t) ss → All (IsCurrent p index) ss
     → HaveStayed p (current p index) after (current after found) ss → sum_by size_in ss ≤ 4 * p.sizes.segment_size
     → AreKept p.sizes (shown_entries p index t) (shown_entries after found t)
-evicted_kept p index after found t ss crowded all stayed small =
+evicted_kept p index after found t ss crowded wait all stayed small =
     record {
       forgotten = map key_in ss;
       evicted = inr record {
-        present = all_shown p index t ss crowded.waiting all;
+        present = all_shown p index t ss wait all;
         full = crowded.many;
-        bounded = (let e = shown_sizes p index t ss crowded.waiting all in omega (arith, e, small));
+        bounded = (let e = shown_sizes p index t ss wait all in omega (arith, e, small));
       };
       entries = left_entries p index after found t ss all stayed;
     }
@@ -424,23 +438,44 @@ cleared_stayed p after n index found marks others tied left pool is some h =
           ));
     }
 
--- where all current items are live, and no fewer than the segments, clearing a segment whose keys
--- have left makes room, and forgets no more than may be forgotten for it
+-- marked items whose places are current ones that wait do so
+pub all_wait : (p : PoolState) (index : Table) (t : ℕ) (n : ℕ) (ss : List Standing)
+    → All (λ (s : Standing). s.place.segment ≡ n) ss → All (IsCurrent p index) ss
+    → ((q : List ℕ) (r : Place) → finite.get (current p index) q ≡ Some r → r.segment ≡ n
+    → has_arrived (place_deadline p r) t ≡ false) → All (Waits p t) ss
+all_wait p index t n [] there all wait = All-nil (Waits p t)
+all_wait p index t n (s ∷ ss) there all wait =
+    let here = All-head (IsCurrent p index) s ss all in
+    All-cons (Waits p t) s ss
+    (wait s.item.key s.place here.1 (All-head (λ (x : Standing). x.place.segment ≡ n) s ss there))
+    (all_wait p index t n ss (All-tail (λ (x : Standing). x.place.segment ≡ n) s ss there)
+    (All-tail (IsCurrent p index) s ss all) wait)
+
+-- where as many entries are shown as there are segments, clearing a segment makes room whose keys
+-- have left, and of whose items the deadlines haven't come, and forgets no more than may be
+-- forgotten for it
 pub cleared_made : (p after : PoolState) (n : ℕ) (index found : Table) (marks others : Marks) (t : ℕ)
     → IsTied p index marks
     → IsTied p found others → IsPool after → after ≡ without_segment p n → IsSome (segment_at p n)
-    → HasLeft n (current p index) (current p found) → IsCrowded p index t → IsRoomMade p index t after found
-cleared_made p after n index found marks others t tied left pool is some h crowded =
+    → HasLeft n (current p index) (current p found)
+    → ((q : List ℕ) (r : Place) → finite.get (current p index) q ≡ Some r → r.segment ≡ n
+    → has_arrived (place_deadline p r) t ≡ false) → IsCrowded p index t → IsRoomMade p index t after found
+cleared_made p after n index found marks others t tied left pool is some h wait crowded =
     let same = (tied_cleared p after n found others left pool is some (λ q r e s. h.elsewhere q r e s)).1 in
     let ss = filter (λ (s : Standing). is_marked marks s.place) (standing p n) in
     record {
       sizes = ap (λ (a : PoolState). a.sizes) is;
+      rule = ap (λ (a : PoolState). a.eviction) is;
       exact = ap (λ (a : PoolState). a.exact) is;
       past = subst (λ (a : PoolState). IsPast a t) (sym is) (past_cleared p t n crowded.past some);
       free = subst HasFree (sym is) (cleared_free p n tied.known.pool some);
       absent = λ q none. ap (λ (m : Places). finite.get m q) same
           ∙ still_none (current p found) q (λ r e. none-some r (sym none ∙ h.before q r e));
       kept = evicted_kept p index after found t ss crowded
+          (all_wait p index t n ss
+          (All-filter (λ (s : Standing). is_marked marks s.place) (λ (s : Standing). s.place.segment ≡ n) (standing p n)
+          (λ k d lt. (standing_all p n k d lt).0))
+          (current_among p index marks (standing p n) tied (λ k d lt. (standing_all p n k d lt).1)) wait)
           (current_among p index marks (standing p n) tied (λ k d lt. (standing_all p n k d lt).1))
           (cleared_stayed p after n index found marks others tied left pool is some h)
           (let a = marked_sizes marks (standing p n) in let b = segment_sizes p n tied.known.pool in

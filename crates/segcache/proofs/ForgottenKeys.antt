@@ -1,9 +1,9 @@
 -- What making room forgets, whatever the pool's plan is, and by tests of items that say the same.
 use Rattle.std.proofs.Common.{◌≡◌, ℕ, ◌<◌, ◌≤◌, Bool, true, false, List, [], ◌∷◌, length, map, Option, Some, None, refl, sym, ap, subst}
 use Rattle.std.proofs.Common.{◌∙◌, inl, inr, arith}
-use Rattle.std.specs.Prelude.{◌⊎◌, cond, IsSome, filter, not, ◌&&◌, is_some, count_by, bytes_eq, if◌then◌else◌}
+use Rattle.std.specs.Prelude.{◌⊎◌, ⊤, All, cond, IsSome, filter, not, ◌&&◌, is_some, count_by, bytes_eq, if◌then◌else◌}
 use Rattle.std.specs.FinMap as finite
-use Rattle.std.proofs.lemmas.Bool.{cases_Bool, false≢true, leb-true}
+use Rattle.std.proofs.lemmas.Bool.{cases_Bool, false≢true, leb-true, and_parts, or_left, or_right}
 use Rattle.std.proofs.lemmas.List.{ext_get_or, length-take}
 use Rattle.std.proofs.lemmas.List.Sums.{sum_by-cons}
 use Rattle.std.proofs.lemmas.Slice.Eq.{bytes_eq-Decides}
@@ -23,21 +23,28 @@ use Rattle.segments.specs.Rules.{most_merged, IsVictimBy}
 use Rattle.segments.specs.Chains.{front}
 use Rattle.segments.proofs.FrontLemmas.{most_two}
 use Rattle.segments.specs.Places.{AgreeIn}
-use Rattle.segments.proofs.AgreeingTests.{same_live_items, same_live_standing, same_dead, same_given}
+use Rattle.segments.proofs.AgreeingTests.{AgreeAt, same_live_items, same_live_standing, same_live_at, same_has_live}
+use Rattle.segments.proofs.AgreeingTests.{same_dead, same_given, same_dead_by, same_given_by}
 use Rattle.segments.specs.Marks.{Marks, is_marked, lives_by}
 use Rattle.index.specs.Table.{Table, Places}
 use Rattle.segcache.specs.Shown.{current, shown_entries, live_entries, entry_at}
 use Rattle.segcache.specs.Invariants.{IsTied}
 use Rattle.segcache.specs.State.{MapState, IsSegmentedMap}
 use Rattle.segcache.specs.Removals.{HaveExpiredLeft}
-use Rattle.segcache.specs.LiveItems.{live_marks, live_others}
+use Rattle.segcache.specs.LiveItems.{live_marks, live_others, is_dead}
+use Rattle.segments.specs.Items.{item_deadline}
+use Rattle.segments.specs.Pools.{Standing, standing, deadline_in}
+use Rattle.std.specs.List.{list_any}
+use Rattle.std.proofs.lemmas.List.Elements.{All-head, All-tail}
 use Rattle.segcache.specs.Allocation.{MakesRoom}
 use Rattle.segcache.specs.Allocation.MakesRoom.{has_room, gives_back, evicts}
 use Rattle.segcache.specs.ForgottenKeys.{IsEvicted, HasMadeRoom, PlacesItem, keys_evicted, keys_forgotten}
 use Rattle.segcache.proofs.TiedParts.{removed_at, removed_other}
 use Rattle.segcache.proofs.GivenBack.{all_alive}
 use Rattle.segcache.proofs.MergePlans.{with_plan, shown_replanned}
-use Rattle.segcache.proofs.RoomMade.{IsSwept}
+use Rattle.segcache.specs.Room.{IsCrowded}
+use Rattle.segments.specs.Changes.{IsPoolFull}
+use Rattle.segcache.proofs.RoomMade.{IsSwept, swept_crowded, alive_given}
 use Rattle.segcache.proofs.ShownItems.{shown_remove}
 
 -- Something was evicted, with these keys.
@@ -73,8 +80,8 @@ keys_replanned lives p o after keys h = by h.evicted h.keys_are
         → EvictsKeys lives p after keys
     by (inl m) are =
         let long = leb-true 2 (length (front p m.choice)) m.next.qualifying in
-        let four = length-take (most_merged p.eviction) (front p m.choice) in
-        let two = most_two p.eviction in
+        let four = length-take (most_merged p.eviction m.choice.bucket) (front p m.choice) in
+        let two = most_two p.eviction m.choice.bucket in
         record {
           evicted = inl (record {
             choice = m.choice;
@@ -214,24 +221,80 @@ not_false : (b : Bool) → b ≡ false → not b ≡ true
 not_false true h = sym h
 not_false false h = refl
 
--- once the expired items have left, the marked ones are those that are live at the moment
-pub expired_agree : (p : PoolState) (index found : Table) (marks others : Marks) (t : ℕ) → IsTied p index marks
-    → IsTied p found others
-    → HaveExpiredLeft p t (current p index) (current p found) → AgreeIn p (lives_by others) (live_marks marks t)
-expired_agree p index found marks others t tied left h =
+-- two conjunctions with one test are the same where each of the others holds with it only if the
+-- other does
+same_both : (a b c : Bool) → (a ≡ true → c ≡ true → b ≡ true) → (b ≡ true → c ≡ true → a ≡ true) → a && c ≡ b && c
+same_both true true c h k = refl
+same_both false false c h k = refl
+same_both true false true h k = sym (h refl refl)
+same_both true false false h k = refl
+same_both false true true h k = k refl refl
+same_both false true false h k = refl
+
+-- where only expired items have left, the same ones are live at the moment
+pub expired_agree : (p : PoolState) (index found : Table) (marks others : Marks) (t : ℕ) (among : ℕ → Bool)
+    → IsTied p index marks → IsTied p found others
+    → HaveExpiredLeft p t among (current p index) (current p found)
+    → AgreeIn p (live_marks others t) (live_marks marks t)
+expired_agree p index found marks others t among tied left h =
     record {
-      each = λ place i e. elim (cases_Bool (is_marked others place)) [
+      each = λ place i e.
+          same_both (is_marked others place) (is_marked marks place) (not (has_arrived (place_deadline p place) t))
+          (λ now waits. tied.held i.key place (h.before i.key place (left.marked place i e now)))
+          (λ was waits. left.held i.key place (h.others i.key place (tied.marked place i e was) (λ of_them. not_true _ waits)));
+    }
+
+-- and in a segment of which they have left, those are the marked ones
+pub expired_agree_at : (p : PoolState) (n : ℕ) (index found : Table) (marks others : Marks) (t : ℕ) (among : ℕ → Bool)
+    → IsTied p index marks → IsTied p found others
+    → HaveExpiredLeft p t among (current p index) (current p found) → among n ≡ true
+    → AgreeAt p n (live_marks marks t) (lives_by others)
+expired_agree_at p n index found marks others t among tied left h is_so =
+    record {
+      each = λ place i same e. elim (cases_Bool (is_marked others place)) [
         | inl y ↦
             let now = left.marked place i e y in
-            y ∙ sym (both_true (is_marked marks place) (not (has_arrived (place_deadline p place) t))
+            both_true (is_marked marks place) (not (has_arrived (place_deadline p place) t))
             (tied.held i.key place (h.before i.key place now))
-            (not_false _ (h.waiting i.key place now)))
-        | inr n ↦
-            n ∙ sym (both_false (is_marked marks place) (not (has_arrived (place_deadline p place) t))
-            (λ was waits. false≢true (sym n
-            ∙ left.held i.key place (h.others i.key place (tied.marked place i e was) (not_true _ waits)))))
+            (not_false _ (h.waiting i.key place now (ap among same ∙ is_so))) ∙ sym y
+        | inr f ↦
+            both_false (is_marked marks place) (not (has_arrived (place_deadline p place) t))
+            (λ was waits. false≢true (sym f
+            ∙ left.held i.key place (h.others i.key place (tied.marked place i e was) (λ of_them. not_true _ waits)))) ∙ sym f
       ];
     }
+
+-- where one test holds of each item of which another does, it finds one where the other does
+any_more : (f g : Standing → Bool) (P : Standing → Type 0) (xs : List Standing) → All P xs
+    → ((s : Standing) → P s → f s ≡ true → g s ≡ true) → list_any f xs ≡ true → list_any g xs ≡ true
+any_more f g P [] all h e = e
+any_more f g P (x ∷ xs) all h e =
+    elim (cases_Bool (f x)) [
+      | inl y ↦ or_left (g x) (list_any g xs) (h x (All-head P x xs all) y)
+      | inr n ↦
+          let later : list_any f xs ≡ true = rw n at e in
+          or_right (g x) (list_any g xs) (any_more f g P xs (All-tail P x xs all) h later)
+    ]
+
+-- once the items of dead segments have left, exactly the other segments have marked items
+pub dead_left : (p : PoolState) (index found : Table) (marks others : Marks) (t n : ℕ) → IsTied p index marks
+    → IsTied p found others → HaveExpiredLeft p t (is_dead marks p t) (current p index) (current p found)
+    → has_live (lives_by others) p n ≡ has_live (live_marks marks t) p n
+dead_left p index found marks others t n tied left h =
+    let agree = expired_agree p index found marks others t (is_dead marks p t) tied left h in
+    let shared = deadline_in (segment_at p n) in
+    elim (cases_Bool (has_live (live_marks marks t) p n)) [
+      | inl y ↦
+          let now : has_live (live_marks others t) p n ≡ true =
+          same_has_live p (live_marks others t) (live_marks marks t) n agree ∙ y in
+          any_more (λ s. live_marks others t s.place s.item (item_deadline s.item shared)) (λ s. is_marked others s.place)
+          (λ s. ⊤) (standing p n) (λ k d lt. tt)
+          (λ s here lives. (and_parts (is_marked others s.place) (not (has_arrived (item_deadline s.item shared) t)) lives).0)
+          now ∙ sym y
+      | inr f ↦
+          sym (same_live_at p (live_marks marks t) (lives_by others) n
+          (expired_agree_at p n index found marks others t (is_dead marks p t) tied left h (not_false _ f)))
+    ]
 
 -- once the item of a key has left, the marked ones are those of other keys
 without_key : (p : PoolState) (index found : Table) (marks others : Marks) (key : List ℕ) (place : Place) (i : Item)
@@ -280,51 +343,69 @@ others_agree p index found marks others key t tied left is =
 
 -- ---- room that was made
 
+-- where the items of dead segments have left, and no segment was given back, as many entries are
+-- shown as there are segments
+pub crowded_given : (p : PoolState) (index found : Table) (marks others : Marks) (t : ℕ) (after : PoolState)
+    → IsTied p index marks → IsTied p found others
+    → HaveExpiredLeft p t (is_dead marks p t) (current p index) (current p found) → IsPoolFull p
+    → IsGivenBack (lives_by others) p after → dead_segments (lives_by others) p ≡ 0
+    → IsSwept p index t after found others → IsCrowded after found t
+crowded_given p index found marks others t after tied left gone full given none s =
+    let agree = expired_agree p index found marks others t (is_dead marks p t) tied left gone in
+    let alive : (n : ℕ) → has_live (lives_by others) p n ≡ has_live (live_marks others t) p n =
+    λ n. dead_left p index found marks others t n tied left gone
+    ∙ sym (same_has_live p (live_marks others t) (live_marks marks t) n agree) in
+    swept_crowded p index t after found others s
+    (alive_given (live_marks others t) p after tied.known.pool full
+    (same_given_by p after (lives_by others) (live_marks others t) alive given)
+    (sym (same_dead_by p (lives_by others) (live_marks others t) alive) ∙ none))
+
 -- what was evicted of a pool with another plan
-pub evicted_replanned : (p mid : PoolState) (o : Option Plan) (index : Table) (marks : Marks) (after : PoolState)
-    (found : Table) → IsTied p index marks
-    → IsPool mid → mid ≡ with_plan p o → IsEvicted (lives_by marks) mid index after found
-    → IsEvicted (lives_by marks) p index after found
-evicted_replanned p mid o index marks after found tied pool is e =
-    let keys = keys_evicted (lives_by marks) mid after e.evicted in
-    let k = keys_replanned (lives_by marks) p o after keys
-    (subst (λ (q : PoolState). EvictsKeys (lives_by marks) q after keys) is
+pub evicted_replanned : (lives : Liveness) (p mid : PoolState) (o : Option Plan) (index : Table) (marks : Marks) (t : ℕ)
+    (after : PoolState) (found : Table) → IsTied p index marks
+    → IsPool mid → mid ≡ with_plan p o → IsEvicted lives mid index t after found
+    → IsEvicted lives p index t after found
+evicted_replanned lives p mid o index marks t after found tied pool is e =
+    let keys = keys_evicted lives mid after e.evicted in
+    let k = keys_replanned lives p o after keys
+    (subst (λ (q : PoolState). EvictsKeys lives q after keys) is
     (record { evicted = e.evicted; keys_are = refl })) in
     record {
       evicted = k.evicted;
-      entries = λ t. e.entries t ∙ ap (λ (es : Entries). without_keys es keys)
+      entries = e.entries ∙ ap (λ (es : Entries). without_keys es keys)
           (shown_replanned p mid o index marks t tied pool is)
           ∙ ap (without_keys (shown_entries p index t)) k.keys_are;
     }
 
 -- what had no live item was given back
 pub room_given : (p : PoolState) (index : Table) (one other : Liveness) (bucket t : ℕ) (i : Item) (after : PoolState)
-    (found : Table) (marks : Marks) → AgreeIn p one other
+    (found : Table) (marks : Marks) → ((n : ℕ) → has_live one p n ≡ has_live other p n)
     → HasNoRoom p bucket t i → 0 < dead_segments one p → IsGivenBack one p after → IsSwept p index t after found marks
     → HasMadeRoom other p index bucket t i after found
-room_given p index one other bucket t i after found marks a full dead given s =
+room_given p index one other bucket t i after found marks alive full dead given s =
     record {
-      room = gives_back after full (subst (λ n. 0 < n) (same_dead p one other a) dead)
-          (same_given p after one other a given);
+      room = gives_back after full (subst (λ n. 0 < n) (same_dead_by p one other alive) dead)
+          (same_given_by p after one other alive given);
       entries = s.entries ∙ sym (without-nil (shown_entries p index t));
     }
 
 -- or, where there was none, something was evicted
-pub room_evicted : (p : PoolState) (index : Table) (one other : Liveness) (bucket t : ℕ) (i : Item) (mid : PoolState)
-    (between : Table) (marks : Marks)
-    (after : PoolState) (found : Table) → IsPool p → AgreeIn p one other
+pub room_evicted : (p : PoolState) (index : Table) (one later other : Liveness) (bucket t : ℕ) (i : Item)
+    (mid : PoolState) (between : Table) (marks : Marks)
+    (after : PoolState) (found : Table) → IsPool p → ((n : ℕ) → has_live one p n ≡ has_live other p n)
+    → AgreeIn p later other
     → HasNoRoom p bucket t i → dead_segments one p ≡ 0 → IsGivenBack one p mid → IsSwept p index t mid between marks
-    → IsEvicted one mid between after found
+    → IsEvicted later mid between t after found
     → HasMadeRoom other p index bucket t i after found
-room_evicted p index one other bucket t i mid between marks after found pool a full none given s e =
-    let keys = keys_evicted one mid after e.evicted in
+room_evicted p index one later other bucket t i mid between marks after found pool alive a full none given s e =
+    let keys = keys_evicted later mid after e.evicted in
     let is = none_given one p mid pool given none in
-    let k = keys_agree one other p after keys a
-    (keys_replanned one p None after keys
-    (subst (λ (q : PoolState). EvictsKeys one q after keys) is (record { evicted = e.evicted; keys_are = refl }))) in
+    let k = keys_agree later other p after keys a
+    (keys_replanned later p None after keys
+    (subst (λ (q : PoolState). EvictsKeys later q after keys) is (record { evicted = e.evicted; keys_are = refl }))) in
     record {
-      room = evicts after full (sym (same_dead p one other a) ∙ none) k.evicted;
-      entries = e.entries t ∙ ap (λ (es : Entries). without_keys es keys) s.entries
+      room = evicts after full (sym (same_dead_by p one other alive) ∙ none) k.evicted;
+      entries = e.entries ∙ ap (λ (es : Entries). without_keys es keys) s.entries
           ∙ ap (without_keys (shown_entries p index t)) k.keys_are;
     }
 

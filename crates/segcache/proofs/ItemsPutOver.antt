@@ -14,7 +14,7 @@ use Rattle.segments.specs.declared.place.Place.{Place}
 use Rattle.segments.specs.Items.{Item, IsStorable, fits_over}
 use Rattle.segments.specs.Pools.{PoolState, IsPool, item_in, lasting}
 use Rattle.segments.specs.Changes.{with_item_at}
-use Rattle.segments.specs.Rules.{goes_over_by}
+use Rattle.segments.specs.Rules.{goes_over_by, shares_one_chain}
 use Rattle.segments.proofs.ItemChanges.{KeepsSize, keeps_over}
 use Rattle.index.specs.Table.{Places}
 use Rattle.segcache.specs.Shown.{current, shown_entries, live_entries, entry_at, kept_entry}
@@ -28,7 +28,6 @@ use Rattle.segcache.proofs.AppendedItems.{may_wait}
 use Rattle.segcache.proofs.ChangedItems.{over_entry, other_entry, apart, shown_over, waiting, over_keeps}
 use Rattle.segcache.proofs.KeptEntries.{adds_none, keeps_changed}
 use Rattle.segcache.proofs.WritesWithRoom.{written_more, all_last}
-use Rattle.segcache.specs.Invariants.{AreDated}
 use Rattle.segcache.proofs.OwnDeadlines.{MayStand, own_dated, stands, none_of_its_own}
 use Rattle.segments.specs.Items.{item_deadline, own_or_shared}
 use Rattle.segcache.specs.Writes.{may_share_segment}
@@ -40,10 +39,11 @@ use Rattle.segcache.specs.OwnDeadlines.{own_deadline_by}
 pub goes_parts : (m : MapState) (asked : Option ℕ) (i : Item) (place : Place) → goes_over m asked i place ≡ true
     → MayStand m.pool.exact m.moment asked (shared_at m.pool place) × (fits_over i (item_in m.pool place) ≡ true)
 goes_parts m asked i place h =
-    let gives = may_share_segment m.pool.exact m.moment asked (shared_at m.pool place) in
+    let one_chain = shares_one_chain m.pool.eviction m.pool.exact in
+    let gives = may_share_segment m.pool.exact one_chain m.moment asked (shared_at m.pool place) in
     let a = and_parts (goes_over_by m.pool.eviction m.pool.exact && gives) (fits_over i (item_in m.pool place)) h in
     let b = and_parts (goes_over_by m.pool.eviction m.pool.exact) gives a.0 in
-    (stands m.pool.exact m.moment asked (shared_at m.pool place) b.1, a.1)
+    (stands m.pool.exact one_chain m.moment asked (shared_at m.pool place) b.1, a.1)
 
 -- what `put_over` requires of a map
 pub record AsksOver (m : MapState) (i : Item) (asked : Option ℕ) (place : Place) : Type 0 where
@@ -123,17 +123,18 @@ over_written old new key e w =
     }
 
 -- and what was stored is kept
-pub keeps_below : (old new : MapState) (key : List ℕ) (e : Entry) → AreDated old.pool
+pub keeps_below : (old new : MapState) (key : List ℕ) (e : Entry)
     → GoesOver old (unread old key e) e.deadline new
     → KeepsEntry (λ (m : MapState). m.pool.sizes) (λ (m : MapState). shown_entries m.pool m.index m.moment)
     (λ (m : MapState). m.moment) KeepsStored old key e new
-keeps_below old new key e dated w items keeps adds within =
+keeps_below old new key e w items keeps adds within =
     let p = old.pool in
     let t = old.moment in
-    let k = keeps_changed (λ _. record (unread old key e) { reads = w.found.reads }) old new w.place
-    (sized_below old new (unread old key e) e.deadline w) (ap (λ (m : MapState). m.pool) w.new_is) items keeps in
-    let none : e.deadline ≡ None = adds_none p (current p old.index) t key e dated keeps.all_last adds in
+    let none : e.deadline ≡ None = adds_none p (current p old.index) t key e keeps.none_dated keeps.all_last adds in
     let plain : (unread old key e).own_deadline ≡ 0 = ap (own_deadline_by p.exact) none ∙ none_of_its_own p.exact in
+    let k = keeps_changed (λ _. record (unread old key e) { reads = w.found.reads }) old new w.place
+    (sized_below old new (unread old key e) e.deadline w) (ap (λ (m : MapState). m.pool) w.new_is)
+    items (λ i was. plain) keeps in
     let there : item_deadline (unread old key e) (shared_at p w.place) ≡ None =
     ap (λ (n : ℕ). own_or_shared n (shared_at p w.place)) plain
     ∙ undated_segment (segment_at p w.place.segment) (keeps.all_last w.place.segment) in
@@ -149,6 +150,7 @@ keeps_below old new key e dated w items keeps adds within =
       record {
         filled = k.filled;
         all_last = k.all_last;
+        none_dated = k.none_dated;
         undated = all_last items one keeps.undated bucket;
         held = omega arith;
       },

@@ -127,7 +127,7 @@ merged_exact p c (n ∷ numbers) items = refl
 
 evicted_exact : (lives : Liveness) (p after : PoolState) → Evicts lives p after → after.exact ≡ p.exact
 evicted_exact lives p after (inl m) =
-    ap (λ (q : PoolState). q.exact) m.after_is ∙ merged_exact p m.choice (merged_segments p m.choice) (kept_items m.judged)
+    ap (λ (q : PoolState). q.exact) m.after_is ∙ merged_exact p m.choice (merged_segments p m.choice) (kept_items p.eviction m.judged)
 evicted_exact lives p after (inr c) = ap (λ (q : PoolState). q.exact) c.after_is
 
 roomy_exact : (lives : Liveness) (p : PoolState) (bucket t : ℕ) (i : Item) (roomy : PoolState)

@@ -23,7 +23,6 @@ use Rattle.segcache.proofs.KeptEntries.{adds_none}
 use Rattle.segcache.proofs.ShownItems.{shown_at, entry_is}
 use Rattle.segcache.proofs.TiedParts.{current_item}
 use Rattle.segcache.proofs.WritesWithRoom.{written_more, all_last}
-use Rattle.segcache.specs.Invariants.{AreDated}
 use Rattle.std.proofs.lemmas.Bool.{cases_Bool, eqb-true}
 use Rattle.proto.specs.Cache.{has_arrived}
 use Rattle.engine.specs.Deadlines.{is_storable_deadline}
@@ -81,16 +80,16 @@ keeps_may exact t asked given waits h =
     ]
 
 -- an entry that is left is kept with what was
-pub keeps_left : (old : MapState) (key : List ℕ) (e : Entry) (asked : Option ℕ) → AreDated old.pool
+pub keeps_left : (old : MapState) (key : List ℕ) (e : Entry) (asked : Option ℕ)
     → finite.get (shown_entries old.pool old.index old.moment) key ≡ Some e → MayBeDated old.moment asked e.deadline Touched
     → KeepsEntry (λ (m : MapState). m.pool.sizes) (λ (m : MapState). shown_entries m.pool m.index m.moment)
     (λ (m : MapState). m.moment) KeepsStored old key (record e { deadline = asked }) old
-keeps_left old key e asked dated there may items keeps adds within =
+keeps_left old key e asked there may items keeps adds within =
     let p = old.pool in
     let t = old.moment in
     let shown = shown_entries p old.index t in
     let new : Entry = record e { deadline = asked } in
-    let none : asked ≡ None = adds_none p (current p old.index) t key new dated keeps.all_last adds in
+    let none : asked ≡ None = adds_none p (current p old.index) t key new keeps.none_dated keeps.all_last adds in
     let given : e.deadline ≡ None = none_dated t asked e.deadline Touched none may in
     let same : e ≡ new = ap (λ (d : Option ℕ). record e { deadline = d }) (given ∙ sym none) in
     let bucket : bucket_of (time_to_live asked t) ≡ lasting =
@@ -102,6 +101,7 @@ keeps_left old key e asked dated there may items keeps adds within =
       record {
         filled = keeps.filled;
         all_last = keeps.all_last;
+        none_dated = keeps.none_dated;
         undated = all_last items one keeps.undated bucket;
         held = omega arith;
       },

@@ -2,10 +2,11 @@
 -- once.
 use Rattle.std.proofs.Common.{◌≡◌, ◌≢◌, ℕ, ◌+◌, ◌<◌, ◌≤◌, ◌*◌, ◌/◌, Bool, true, false, List, [], ◌∷◌}
 use Rattle.std.proofs.Common.{get_or, Some, refl, sym, ap, subst, ◌∙◌, inl, inr, arith}
-use Rattle.std.specs.Prelude.{All, ◌⊎◌, Option}
+use Rattle.std.specs.Prelude.{All, ◌⊎◌, ◌&&◌, ◌||◌, ◌==◌, nat_lt, Option}
 use Rattle.std.specs.List.{list_any}
 use Rattle.std.specs.FinMap as finite
-use Rattle.std.proofs.lemmas.Bool.{cases_Bool, cases_eq, false≢true}
+use Rattle.std.proofs.lemmas.Bool.{cases_Bool, cases_eq, false≢true, and_parts, and_from, or_left, or_right, eq-eqb, eqb-true}
+use Rattle.std.proofs.lemmas.Bool.{lt-ltb, ltb-true}
 use Rattle.std.proofs.lemmas.Option.{none-some}
 use Rattle.std.specs.Ordering.{nat_cmp}
 use Rattle.std.specs.Cmp.Lexicographic.{slice_cmp}
@@ -25,9 +26,8 @@ use Rattle.index.specs.Layouts.{IsLayoutOf}
 use Rattle.segments.specs.Pools.{key_at}
 use Rattle.index.specs.Table.{Table, Places, IsMap, IsSameSize}
 use Rattle.segcache.specs.Shown.{current, live_entries, shown_entries}
-use Rattle.segcache.specs.Invariants.{IsTied, AreDated}
-use Rattle.segcache.specs.Removals.{HasLeft, HaveArrivedLeft, HaveExpiredLeft}
-use Rattle.segcache.proofs.OwnDeadlines.{dated_waits}
+use Rattle.segcache.specs.Invariants.{IsTied}
+use Rattle.segcache.specs.Removals.{HasLeft, HaveArrivedLeft, HaveExpiredLeft, AllWaitIn}
 use Rattle.segcache.specs.State.{MapState, IsSegmentedMap}
 use Rattle.segcache.proofs.ShownItems.{shown_remove}
 use Rattle.segcache.proofs.TiedParts.{current_item, removed_at, removed_other}
@@ -261,75 +261,141 @@ deadline_shown p n s left shared all is =
     ap (item_deadline s.item) (is ∙ ap (λ m. deadline_in (segment_at p m)) (sym here.0))
     ∙ sym (ap (deadline_if_there (shared_at p s.place)) here.1)
 
--- ---- segments whose deadline has come
+-- the deadline of an item that stands in a segment is that of its place
+pub deadline_standing : (p : PoolState) (n : ℕ) (s : Standing) → s.place.segment ≡ n → item_in p s.place ≡ Some s.item
+    → item_deadline s.item (deadline_in (segment_at p n)) ≡ place_deadline p s.place
+deadline_standing p n s same there =
+    ap (λ m. item_deadline s.item (deadline_in (segment_at p m))) (sym same)
+    ∙ sym (ap (deadline_if_there (shared_at p s.place)) there)
 
--- Of the segments before a number the keys have left whose deadline is at or before the moment t.
-pub record IsExpiring (p : PoolState) (t : ℕ) (old : Places) (index : Table) (marks : Marks) (n : ℕ) : Type 0 where
+-- ---- segments of which items leave
+
+-- Of the segments among some before a number the keys have left whose deadline is at or before the
+-- moment t.
+pub record IsExpiring (p : PoolState) (t : ℕ) (among : ℕ → Bool) (old : Places) (index : Table) (marks : Marks)
+    (n : ℕ) : Type 0 where
   pub tied : IsTied p index marks
-  pub before : (q : List ℕ) (r : Place) → finite.get (current p index) q ≡ Some r → finite.get old q ≡ Some r
-  pub others : (q : List ℕ) (r : Place) → finite.get old q ≡ Some r → has_arrived (place_deadline p r) t ≡ false
-      → finite.get (current p index) q ≡ Some r
-  pub waiting : (q : List ℕ) (r : Place) → finite.get (current p index) q ≡ Some r → r.segment < n
-      → has_arrived (place_deadline p r) t ≡ false
+  pub left : HaveExpiredLeft p t (λ m. nat_lt m n && among m) old (current p index)
 
 -- before the first segment no key has left yet
-pub expiring_first : (p : PoolState) (t : ℕ) (index : Table) (marks : Marks) → IsTied p index marks
-    → IsExpiring p t (current p index) index marks 0
-expiring_first p t index marks tied = record {
+pub expiring_first : (p : PoolState) (t : ℕ) (among : ℕ → Bool) (index : Table) (marks : Marks) → IsTied p index marks
+    → IsExpiring p t among (current p index) index marks 0
+expiring_first p t among index marks tied = record {
   tied = tied;
-  before = λ q r h. h;
-  others = λ q r h w. h;
-  waiting = λ q r h lt. absurd (omega arith);
+  left = record {
+    before = λ q r h. h;
+    waiting = λ q r h among_it.
+        (let lt = ltb-true r.segment 0 (and_parts (nat_lt r.segment 0) (among r.segment) among_it).0 in
+        absurd (omega (arith, lt)));
+    others = λ q r h w. h;
+  };
 }
 
--- the deadline of the next segment hasn't come
-pub expiring_passed : (p : PoolState) (t : ℕ) (old : Places) (index : Table) (marks : Marks) (n : ℕ) → AreDated p
-    → IsExpiring p t old index marks n
-    → has_arrived (deadline_in (segment_at p n)) t ≡ false → IsExpiring p t old index marks (n + 1)
-expiring_passed p t old index marks n dated h waits =
+-- what two tests say of the numbers below the next one
+below_next : (among : ℕ → Bool) (m n : ℕ) → (nat_lt m (n + 1) && among m) ≡ true
+    → ((nat_lt m n && among m) ≡ true) ⊎ ((m ≡ n) × (among n ≡ true))
+below_next among m n h =
+    let a = and_parts (nat_lt m (n + 1)) (among m) h in
+    let lt = ltb-true m (n + 1) a.0 in
+    elim (cases_eq m n) [
+      | inl same ↦ inr (same, ap among (sym same) ∙ a.1)
+      | inr other ↦ inl (and_from (nat_lt m n) (among m) (lt-ltb m n (omega (arith, lt, other))) a.1)
+    ]
+
+-- what is below a number is below the next one
+sooner : (among : ℕ → Bool) (m n : ℕ) → (nat_lt m n && among m) ≡ true → (nat_lt m (n + 1) && among m) ≡ true
+sooner among m n h =
+    let a = and_parts (nat_lt m n) (among m) h in
+    let lt = ltb-true m n a.0 in
+    and_from (nat_lt m (n + 1)) (among m) (lt-ltb m (n + 1) (omega (arith, lt))) a.1
+
+-- no item of the next segment has to leave
+pub expiring_passed : (p : PoolState) (t : ℕ) (among : ℕ → Bool) (old : Places) (index : Table) (marks : Marks) (n : ℕ)
+    → IsExpiring p t among old index marks n
+    → (among n ≡ true → AllWaitIn p t n) → IsExpiring p t among old index marks (n + 1)
+expiring_passed p t among old index marks n h waits =
     record {
       tied = h.tied;
-      before = h.before;
-      others = h.others;
-      waiting = λ q r e lt.
-          elim (cases_eq r.segment n) [
-            | inl same ↦
-                let x = current_item p index q r e in
-                ap (λ o. has_arrived (deadline_if_there (shared_at p r) o) t) x.1
-                ∙ dated_waits p.exact (shared_at p r) x.0 t (dated r x.0 x.1)
-                (ap (λ m. has_arrived (deadline_in (segment_at p m)) t) same ∙ waits)
-            | inr other ↦ h.waiting q r e (omega (arith, lt, other))
-          ];
+      left = record {
+        before = h.left.before;
+        waiting = λ q r e among_it.
+            elim (below_next among r.segment n among_it) [
+              | inl earlier ↦ h.left.waiting q r e earlier
+              | inr here ↦ (let x = current_item p index q r e in waits here.1 r x.0 x.1 here.0)
+            ];
+        others = λ q r e w. h.left.others q r e (λ among_it. w (sooner among r.segment n among_it));
+      };
     }
 
 -- the keys of the next segment have left whose deadline has come
-pub expiring_more : (p : PoolState) (t : ℕ) (old : Places) (index found : Table) (marks others : Marks) (n : ℕ)
-    → IsExpiring p t old index marks n
-    → IsTied p found others
+pub expiring_more : (p : PoolState) (t : ℕ) (among : ℕ → Bool) (old : Places) (index found : Table)
+    (marks others : Marks) (n : ℕ)
+    → IsExpiring p t among old index marks n
+    → IsTied p found others → among n ≡ true
     → HaveArrivedLeft p t n (current p index) (current p found)
-    → IsExpiring p t old found others (n + 1)
-expiring_more p t old index found marks others n h tied left =
+    → IsExpiring p t among old found others (n + 1)
+expiring_more p t among old index found marks others n h tied is_so left =
     record {
       tied = tied;
-      before = λ q r e. h.before q r (left.before q r e);
-      others = λ q r e w. left.others q r (h.others q r e w) (λ same. w);
-      waiting = λ q r e lt.
-          elim (cases_eq r.segment n) [
-            | inl same ↦ left.waiting q r e same
-            | inr other ↦ h.waiting q r (left.before q r e) (omega (arith, lt, other))
-          ];
+      left = record {
+        before = λ q r e. h.left.before q r (left.before q r e);
+        waiting = λ q r e among_it.
+            elim (below_next among r.segment n among_it) [
+              | inl earlier ↦ h.left.waiting q r (left.before q r e) earlier
+              | inr here ↦ left.waiting q r e here.0
+            ];
+        others = λ q r e w.
+            left.others q r (h.left.others q r e (λ among_it. w (sooner among r.segment n among_it)))
+            (λ same. w (and_from (nat_lt r.segment (n + 1)) (among r.segment)
+            (lt-ltb r.segment (n + 1) (omega (arith, same))) (ap among same ∙ is_so)));
+      };
     }
 
--- after the last segment exactly the keys have left whose deadline has come
-pub expired_left : (p : PoolState) (t : ℕ) (old : Places) (index : Table) (marks : Marks) (n : ℕ)
-    → IsExpiring p t old index marks n → p.sizes.segments ≤ n → HaveExpiredLeft p t old (current p index)
-expired_left p t old index marks n h le =
+-- after the last segment exactly the keys of those segments have left whose deadline has come
+pub expired_left : (p : PoolState) (t : ℕ) (among : ℕ → Bool) (old : Places) (index : Table) (marks : Marks) (n : ℕ)
+    → IsExpiring p t among old index marks n → p.sizes.segments ≤ n → HaveExpiredLeft p t among old (current p index)
+expired_left p t among old index marks n h le =
     record {
-      before = h.before;
-      waiting = λ q r e.
+      before = h.left.before;
+      waiting = λ q r e among_it.
           (let x = current_item p index q r e in let lt = (mark_within p r x.0 h.tied.known.pool x.1).0 in
-          h.waiting q r e (omega (arith, lt, le)));
-      others = h.others;
+          h.left.waiting q r e
+          (and_from (nat_lt r.segment n) (among r.segment) (lt-ltb r.segment n (omega (arith, lt, le))) among_it));
+      others = λ q r e w. h.left.others q r e
+          (λ among_it. w (and_parts (nat_lt r.segment n) (among r.segment) among_it).1);
+    }
+
+-- ---- one list of segments after the other
+
+-- what left of the next of some segments left of all of them
+pub left_more : (p : PoolState) (t n : ℕ) (some all : ℕ → Bool) (old mid new : Places)
+    → HaveExpiredLeft p t some old mid → HaveArrivedLeft p t n mid new
+    → ((m : ℕ) → all m ≡ some m || (n == m)) → HaveExpiredLeft p t all old new
+left_more p t n some all old mid new first next is =
+    record {
+      before = λ q r e. first.before q r (next.before q r e);
+      waiting = λ q r e among_it.
+          elim (either (some r.segment) (n == r.segment) (sym (is r.segment) ∙ among_it)) [
+            | inl earlier ↦ first.waiting q r (next.before q r e) earlier
+            | inr here ↦ next.waiting q r e (sym (eqb-true n r.segment here))
+          ];
+      others = λ q r e w.
+          next.others q r (first.others q r e (λ among_it. w (is r.segment ∙ or_left (some r.segment) (n == r.segment) among_it)))
+          (λ same. w (is r.segment ∙ or_right (some r.segment) (n == r.segment) (eq-eqb n r.segment (sym same))));
+    }
+  where
+    either : (a b : Bool) → (a || b) ≡ true → (a ≡ true) ⊎ (b ≡ true)
+    either true b h = inl refl
+    either false b h = inr h
+
+-- none left of none
+pub left_none : (p : PoolState) (t : ℕ) (among : ℕ → Bool) (old : Places) → ((n : ℕ) → among n ≡ false)
+    → HaveExpiredLeft p t among old old
+left_none p t among old none =
+    record {
+      before = λ q r e. e;
+      waiting = λ q r e among_it. absurd (false≢true (sym (none r.segment) ∙ among_it));
+      others = λ q r e w. e;
     }
 
 -- where a key has left, what it had is no longer shown

@@ -4,7 +4,7 @@ pub mod ShownItems
 pub mod TiedParts
 -- the invariant of `SegmentMap`: no segment was opened later than the last moment
 pub mod OpeningMoments
--- the contracts of `unindex_segment`, `unindex_expired`, `remove_all` and `remove`
+-- the contracts of `unindex_segment`, `unindex_dead`, `unindex_merged`, `remove_all` and `remove`
 pub mod LeftPlaces
 -- the contracts of `write` and `may_stay`: deadlines of items' own
 pub mod OwnDeadlines
@@ -34,6 +34,10 @@ pub mod MergePlans
 pub mod ForgottenKeys
 -- the contracts of `merge` and `clear_victim`: `evicted`
 pub mod MergedKeys
+-- the contract of `unindex_dead`: which segments have a live item
+pub mod LiveSegments
+-- the contracts of `unindex_merged` and `merge`: the segments that are merged
+pub mod PlannedSegments
 -- for `write`: `kept`, where little is held
 pub mod WritesWithRoom
 -- the clauses `kept` of `write`, `remove` and `count_read`, and `keeps` of `seeded`

@@ -1,13 +1,11 @@
 -- Pools that got another plan: all else is as it was.
-use Rattle.std.proofs.Common.{◌≡◌, ℕ, ◌≤◌, Option, refl, sym, ap, subst, ◌∙◌}
+use Rattle.std.proofs.Common.{◌≡◌, ℕ, Option, refl, sym, ap, subst, ◌∙◌}
 use Rattle.std.specs.Prelude.{IsSome}
 use Rattle.std.specs.FinMap as finite
-use Rattle.proto.specs.Sizes.{Sizes}
 use Rattle.segments.specs.declared.place.Place.{Place}
-use Rattle.segments.specs.Pools.{PoolState, Plan, IsPool, item_in, place_deadline}
-use Rattle.proto.specs.Cache.{Entries, has_arrived}
+use Rattle.segments.specs.Pools.{PoolState, Plan, Liveness, IsPool, item_in}
 use Rattle.segments.specs.Merges.{IsPlan, with_merge_planned}
-use Rattle.segments.specs.Marks.{Marks, lives_by}
+use Rattle.segments.specs.Marks.{Marks}
 use Rattle.segments.proofs.MarkedPlaces.{knows_after}
 use Rattle.segments.proofs.InTimeLemmas.{order_same}
 use Rattle.segments.specs.Pools.{key_at}
@@ -19,7 +17,7 @@ use Rattle.segcache.specs.PlannedMerges.{HasPlan}
 use Rattle.segcache.proofs.ShownItems.{shown_same}
 use Rattle.segcache.proofs.TiedParts.{tied_same}
 use Rattle.segcache.proofs.MergedMarks.{planned_again}
-use Rattle.segcache.proofs.RoomMade.{IsSwept, swept_evicted}
+use Rattle.segcache.proofs.RoomMade.{IsSwept, swept_evicted, crowded_left}
 
 -- the pool with another plan
 abbrev pub with_plan : PoolState → Option Plan → PoolState
@@ -64,6 +62,7 @@ swept_replanned p after o index marks t tied pool is crowded =
     let same = tied_replanned p after o index marks tied pool is in
     record {
       sizes = ap (λ (a : PoolState). a.sizes) is;
+      rule = ap (λ (a : PoolState). a.eviction) is;
       exact = ap (λ (a : PoolState). a.exact) is;
       past = subst (λ (a : PoolState). IsPast a t) (sym is)
           (record {
@@ -74,9 +73,6 @@ swept_replanned p after o index marks t tied pool is crowded =
           });
       tied = same.0;
       absent = λ q none. ap (λ (m : Places). finite.get m q) same.1 ∙ none;
-      waiting = λ q r e.
-          ap (λ (a : PoolState). has_arrived (place_deadline a r) t) is
-          ∙ crowded.waiting q r (ap (λ (m : Places). finite.get m q) (sym same.1) ∙ e);
       entries = shown_replanned p after o index marks t tied pool is;
     }
 
@@ -86,13 +82,7 @@ pub crowded_replanned : (p after : PoolState) (o : Option Plan) (index : Table) 
     → after ≡ with_plan p o → IsCrowded p index t
     → IsCrowded after index t
 crowded_replanned p after o index marks t tied pool is crowded =
-    let s = swept_replanned p after o index marks t tied pool is crowded in
-    record {
-      past = s.past;
-      waiting = s.waiting;
-      many = subst (λ (e : Entries). after.sizes.segments ≤ finite.len e) (sym s.entries)
-          (subst (λ (z : Sizes). z.segments ≤ finite.len (shown_entries p index t)) (sym s.sizes) crowded.many);
-    }
+    crowded_left p index t after index marks (swept_replanned p after o index marks t tied pool is crowded) crowded
 
 -- so room that is made then is made
 pub made_replanned : (p mid : PoolState) (o : Option Plan) (index : Table) (marks : Marks) (t : ℕ) (after : PoolState)
@@ -103,8 +93,8 @@ pub made_replanned : (p mid : PoolState) (o : Option Plan) (index : Table) (mark
 made_replanned p mid o index marks t after found tied pool is crowded made =
     swept_evicted p index t mid index marks after found (swept_replanned p mid o index marks t tied pool is crowded) made
 
--- the plan is that of the marked items
-pub has_plan : (p after : PoolState) (plan : Plan) (marks : Marks) → IsPlan (lives_by marks) p plan
-    → after ≡ with_merge_planned p plan → HasPlan after marks
-has_plan p after plan marks h is = subst (λ (a : PoolState). HasPlan a marks) (sym is)
-    (record { plan = plan; planned = refl; is_plan = planned_again (lives_by marks) p plan h })
+-- the plan is that of the live items
+pub has_plan : (lives : Liveness) (p after : PoolState) (plan : Plan) → IsPlan lives p plan
+    → after ≡ with_merge_planned p plan → HasPlan lives after
+has_plan lives p after plan h is = subst (λ (a : PoolState). HasPlan lives a) (sym is)
+    (record { plan = plan; planned = refl; is_plan = planned_again lives p plan h })

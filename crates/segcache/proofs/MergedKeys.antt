@@ -10,10 +10,10 @@ use Rattle.proto.specs.Steps.{without_keys}
 use Rattle.segments.specs.declared.place.Place.{Place}
 use Rattle.segments.specs.declared.place.Move.{Move}
 use Rattle.segments.specs.Items.{size_of_item}
-use Rattle.segments.specs.Pools.{PoolState, IsPool, Plan, Standing, segment_at, standing}
+use Rattle.segments.specs.Pools.{PoolState, IsPool, Plan, Liveness, Standing, segment_at, standing, live_standing}
 use Rattle.segments.specs.Changes.{without_segment}
 use Rattle.segments.specs.Places.{moved_by}
-use Rattle.segments.specs.Merges.{IsVictim, Judged, NoneQualifies, moves_into, merged_segments, first_of_list, live_items, carried_items}
+use Rattle.segments.specs.Merges.{IsPlan, IsVictim, Judged, NoneQualifies, moves_into, merged_segments, first_of_list, live_items, carried_items}
 use Rattle.segments.specs.Rules.{most_merged}
 use Rattle.segments.specs.Chains.{front}
 use Rattle.segments.proofs.FrontLemmas.{most_two}
@@ -91,23 +91,24 @@ lost_keys moves (j ∷ js) all =
           rw (z, n) (ap (λ ks. j.item.key ∷ ks) rest))
     ]
 
--- a merge by which the index was relocated evicts, and forgets exactly those keys
-pub merged_evicted : (p : PoolState) (plan : Plan) (after : PoolState) (index found : Table) (marks : Marks)
-    → IsMergeRelocated p plan after index found marks
-    → IsEvicted (lives_by marks) p index after found
-merged_evicted p plan after index found marks w =
-    let h = w.is_plan in
+-- A merge by which the index was relocated evicts, and forgets exactly those keys, also by a test that
+-- says the same of the items of the merged segments.
+pub merged_evicted : (lives : Liveness) (p : PoolState) (plan : Plan) (after : PoolState) (index found : Table)
+    (marks : Marks) (t : ℕ) → IsMergeRelocated p plan after index found marks → (h : IsPlan lives p plan)
+    → live_items lives p (merged_segments p plan.choice) ≡ live_items (lives_by marks) p (merged_segments p plan.choice)
+    → IsEvicted lives p index t after found
+merged_evicted lives p plan after index found marks t w h same =
     let numbers = merged_segments p plan.choice in
     let all = live_items (lives_by marks) p numbers in
     let ss = lost plan.moves all in
-    let turn = plan_in_turn (lives_by marks) p plan w.tied.known.pool h in
+    let turn = plan_in_turn lives p plan w.tied.known.pool h in
     let kept = kept_judged plan.moves h.judged turn
     (ap (map going) h.moves_are ∙ judged_going (first_of_list numbers) 0 h.judged) in
     let keys : map key_in ss ≡ map (λ j. j.item.key) (filter (λ j. not j.is_kept) h.judged) =
-    ap (λ xs. map key_in (lost plan.moves xs)) (sym h.is_judged.all_live) ∙ lost_keys plan.moves h.judged kept in
+    ap (λ xs. map key_in (lost plan.moves xs)) (sym (h.is_judged.all_live ∙ same)) ∙ lost_keys plan.moves h.judged kept in
     let long = leb-true 2 (length (front p plan.choice)) h.next.qualifying in
-    let four = length-take (most_merged p.eviction) (front p plan.choice) in
-    let two = most_two p.eviction in
+    let four = length-take (most_merged p.eviction plan.choice.bucket) (front p plan.choice) in
+    let two = most_two p.eviction plan.choice.bucket in
     record {
       evicted = inl (record {
         choice = plan.choice;
@@ -116,9 +117,9 @@ merged_evicted p plan after index found marks w =
         is_judged = h.is_judged;
         after_is = w.after_is ∙ sym (merged_replanned p (Some plan) plan.choice numbers (carried_items p plan.moves)
             (omega (arith, long, four, two)))
-            ∙ plan_after (lives_by marks) p plan h;
+            ∙ plan_after lives p plan h;
       });
-      entries = λ t. left_entries p index after found t ss
+      entries = left_entries p index after found t ss
           (All-filter (λ (s : Standing). not (is_some (moved_by plan.moves s.place))) (IsCurrent p index) all
           (live_current p index marks numbers w.tied))
           (merged_stayed p plan after index found marks w)
@@ -126,17 +127,19 @@ merged_evicted p plan after index found marks w =
     }
 
 -- where nothing can be merged, the segment that is evicted is cleared, and exactly its keys are
--- forgotten
-pub cleared_evicted : (p after : PoolState) (n : ℕ) (index found : Table) (marks others : Marks) → IsTied p index marks
+-- forgotten, also by a test that says the same of its items
+pub cleared_evicted : (lives : Liveness) (p after : PoolState) (n : ℕ) (index found : Table) (marks others : Marks)
+    (t : ℕ) → live_standing lives p n ≡ live_standing (lives_by marks) p n → IsTied p index marks
     → IsTied p found others → IsPool after → after ≡ without_segment p n
     → IsSome (segment_at p n) → HasLeft n (current p index) (current p found) → IsVictim p n
     → NoneQualifies p
-    → IsEvicted (lives_by marks) p index after found
-cleared_evicted p after n index found marks others tied left pool is some h victim none =
+    → IsEvicted lives p index t after found
+cleared_evicted lives p after n index found marks others t same tied left pool is some h victim none =
     record {
       evicted = inr (record { none_qualifies = none; segment = n; is_victim = victim; after_is = is });
-      entries = λ t. left_entries p index after found t
+      entries = left_entries p index after found t
           (filter (λ (s : Standing). is_marked marks s.place) (standing p n))
           (current_among p index marks (standing p n) tied (λ k d lt. (standing_all p n k d lt).1))
-          (cleared_stayed p after n index found marks others tied left pool is some h);
+          (cleared_stayed p after n index found marks others tied left pool is some h)
+          ∙ ap (λ (ss : List Standing). without_keys (shown_entries p index t) (map key_in ss)) (sym same);
     }

@@ -213,15 +213,15 @@ target_current p plan after index found marks w r i e h =
     let x = target_place m.target r.segment (r.offset / 32)
     (ap (λ (y : Move). is_target_of y r.segment (r.offset / 32)) a.3 ∙ a.4) in
     let start = starts_live (lives_by marks) p plan w.is_plan a.0 a.1 a.2 in
-    let moved : (item_in after x.0 ≡ option_map with_reads_halved (item_in p m.source))
+    let moved : (item_in after x.0 ≡ option_map (with_reads_halved p.eviction) (item_in p m.source))
     × (place_deadline after x.0 ≡ place_deadline p m.source) =
     subst (λ (o : Option Place). IfSome o
-    (λ place. (item_in after place ≡ option_map with_reads_halved (item_in p m.source))
+    (λ place. (item_in after place ≡ option_map (with_reads_halved p.eviction) (item_in p m.source))
     × (place_deadline after place ≡ place_deadline p m.source))) x.1
     (w.out.moved a.0 a.1 a.2) in
-    let there : item_in after x.0 ≡ Some (with_reads_halved start.item) = moved.0
-    ∙ ap (option_map with_reads_halved) start.stands in
-    let same = same_mark after x.0 r (with_reads_halved start.item) i w.pool there e x.2 in
+    let there : item_in after x.0 ≡ Some (with_reads_halved p.eviction start.item) = moved.0
+    ∙ ap (option_map (with_reads_halved p.eviction)) start.stands in
+    let same = same_mark after x.0 r (with_reads_halved p.eviction start.item) i w.pool there e x.2 in
     let item = one_item (sym there ∙ ap (item_in after) same ∙ e) in
     let key : start.item.key ≡ i.key = ap (λ (y : Item). y.key) item in
     w.relocated.places i.key ∙ ap (option_and_then (moved_by moves))
@@ -306,7 +306,7 @@ holds_marked p index marks tied =
     }
 
 -- what relocating requires
-pub can_relocate : (p : PoolState) (index : Table) (marks : Marks) → IsTied p index marks → HasPlan p marks
+pub can_relocate : (p : PoolState) (index : Table) (marks : Marks) → IsTied p index marks → HasPlan (lives_by marks) p
     → IfSome p.plan (λ plan. IsPool (carried_out p plan))
     → CanRelocate (key_at p) (keys_after_merge p) index (planned_moves p.plan)
 can_relocate p index marks tied h behind =
@@ -320,7 +320,7 @@ can_relocate p index marks tied h behind =
 
 -- what is known after all calls
 pub merge_relocated : (p after : PoolState) (index found : Table) (marks : Marks) → IsTied p index marks
-    → (h : HasPlan p marks)
+    → (h : HasPlan (lives_by marks) p)
     → IfSome p.plan (λ plan. after ≡ carried_out p plan) → IsPool after
     → IsRelocated (key_at p) (keys_after_merge p) (moved_by (planned_moves p.plan)) index found → IsSameSize index found
     → IsMergeRelocated p h.plan after index found marks

@@ -5,7 +5,7 @@ use Rattle.std.specs.Prelude.{IsTrue, IfSome, All, ◌||◌, not, is_some, filte
 use Rattle.std.specs.List.{list_any}
 use Rattle.std.specs.FinMap as finite
 use Rattle.std.proofs.Math.Nat.{mul-le-mul_left}
-use Rattle.std.proofs.lemmas.Bool.{cases_Bool, false≢true, eq-eqb}
+use Rattle.std.proofs.lemmas.Bool.{cases_Bool, false≢true, eq-eqb, or_left, or_right}
 use Rattle.std.proofs.lemmas.Option.{none-some}
 use Rattle.std.proofs.lemmas.List.{length-take}
 use Rattle.std.proofs.lemmas.List.Sums.{sum_by-cons, sum_by-append}
@@ -35,7 +35,8 @@ use Rattle.segcache.proofs.OpeningMoments.{earlier}
 use Rattle.proto.specs.declared.eviction.Eviction.{Eviction}
 use Rattle.segcache.proofs.TiedParts.{current_item}
 use Rattle.segcache.proofs.LeftPlaces.{is_left, standing_all}
-use Rattle.segcache.proofs.EvictedKeys.{IsCurrent, HaveStayed, size_in, segment_sizes, evicted_kept, current_among}
+use Rattle.segcache.proofs.EvictedKeys.{IsCurrent, Waits, HaveStayed, size_in, segment_sizes, evicted_kept, current_among, all_wait}
+use Rattle.proto.specs.Cache.{has_arrived}
 use Rattle.segcache.proofs.MergedMarks.{IsMergeRelocated}
 use Rattle.std.proofs.lemmas.List.Elements.{All-cons, All-head, All-tail}
 use Rattle.segments.proofs.CarryLemmas.{All-item_at}
@@ -72,12 +73,12 @@ opened_by rule false true items f o t u h a b = let r = filled_opened items f u 
 opened_by rule false false items f o t u h a b = b u h
 
 -- what one move keeps in front of items that are dated as they may be is so too
-moved_dated : (exact : Bool) (d : Option ℕ) (b : Bool) (o : Option Item) (rest : List Item)
+moved_dated : (ev : Eviction) (exact : Bool) (d : Option ℕ) (b : Bool) (o : Option Item) (rest : List Item)
     → ((i : Item) → o ≡ Some i → IsDatedIn exact d i) → All (IsDatedIn exact d) rest
-    → All (IsDatedIn exact d) (cons_option (if b then option_map with_reads_halved o else None) rest)
-moved_dated exact d true None rest each all = all
-moved_dated exact d true (Some i) rest each all = All-cons (IsDatedIn exact d) (with_reads_halved i) rest (each i refl) all
-moved_dated exact d false o rest each all = all
+    → All (IsDatedIn exact d) (cons_option (if b then option_map (with_reads_halved ev) o else None) rest)
+moved_dated ev exact d true None rest each all = all
+moved_dated ev exact d true (Some i) rest each all = All-cons (IsDatedIn exact d) (with_reads_halved ev i) rest (each i refl) all
+moved_dated ev exact d false o rest each all = all
 
 -- what moves keep that start in segments with one deadline
 carried_dated : (p : PoolState) (d : Option ℕ) (moves : List Move) → AreDated p
@@ -86,7 +87,7 @@ carried_dated : (p : PoolState) (d : Option ℕ) (moves : List Move) → AreDate
 carried_dated p d [] dated all = All-nil (IsDatedIn p.exact d)
 carried_dated p d (m ∷ moves) dated all =
     let P : Move → Type 0 = λ x. deadline_in (segment_at p x.source.segment) ≡ d in
-    moved_dated p.exact d (is_some m.target) (item_in p m.source) (carried_items p moves)
+    moved_dated p.eviction p.exact d (is_some m.target) (item_in p m.source) (carried_items p moves)
     (λ i e. subst (λ (x : Option ℕ). IsDatedIn p.exact x i) (All-head P m moves all) (dated m.source i e))
     (carried_dated p d moves dated (All-tail P m moves all))
 
@@ -126,6 +127,12 @@ into_exact : (p : PoolState) (c : Choice) (numbers : List ℕ) (items : List Ite
     → (merged_into p c numbers items).exact ≡ p.exact
 into_exact p c [] items = refl
 into_exact p c (n ∷ numbers) items = refl
+
+-- and its rule
+into_rule : (p : PoolState) (c : Choice) (numbers : List ℕ) (items : List Item)
+    → (merged_into p c numbers items).eviction ≡ p.eviction
+into_rule p c [] items = refl
+into_rule p c (n ∷ numbers) items = refl
 
 -- no segment gets another moment
 past_merged : (p : PoolState) (plan : Plan) (after : PoolState) (t : ℕ) → IsPool p → IsTrue (qualifies p plan.choice)
@@ -242,6 +249,23 @@ live_current p index marks (n ∷ numbers) tied =
     (current_among p index marks (standing p n) tied (λ k d lt. (standing_all p n k d lt).1))
     (live_current p index marks numbers tied)
 
+-- they wait where all current items of their segments do
+live_wait : (p : PoolState) (index : Table) (marks : Marks) (t : ℕ) (numbers : List ℕ) → IsTied p index marks
+    → ((q : List ℕ) (r : Place) → finite.get (current p index) q ≡ Some r → contains_number numbers r.segment ≡ true
+    → has_arrived (place_deadline p r) t ≡ false)
+    → All (Waits p t) (live_items (lives_by marks) p numbers)
+live_wait p index marks t [] tied wait = All-nil (Waits p t)
+live_wait p index marks t (n ∷ numbers) tied wait =
+    let ss = live_standing (lives_by marks) p n in
+    All-append (Waits p t) ss (live_items (lives_by marks) p numbers)
+    (all_wait p index t n ss
+    (All-filter (λ (s : Standing). is_marked marks s.place) (λ (s : Standing). s.place.segment ≡ n) (standing p n)
+    (λ k d lt. (standing_all p n k d lt).0))
+    (current_among p index marks (standing p n) tied (λ k d lt. (standing_all p n k d lt).1))
+    (λ q r e same. wait q r e (or_left (n == r.segment) (contains_number numbers r.segment) (eq-eqb n r.segment (sym same)))))
+    (live_wait p index marks t numbers tied
+    (λ q r e later. wait q r e (or_right (n == r.segment) (contains_number numbers r.segment) later)))
+
 -- some of them are no more than all
 part_sizes : (test : Standing → Bool) (ss : List Standing) → sum_by size_in (filter test ss) ≤ sum_by size_in ss
 part_sizes test [] = omega arith
@@ -275,12 +299,12 @@ moved_entry p plan after index found marks w q r s e m =
     let x = current_item p index q r e in
     elim (cases_Bool (contains_number (merged_segments p plan.choice) r.segment)) [
       | inl y ↦
-          let there : (item_in after s ≡ Some (with_reads_halved x.0)) × (place_deadline after s ≡ place_deadline p r) =
+          let there : (item_in after s ≡ Some (with_reads_halved p.eviction x.0)) × (place_deadline after s ≡ place_deadline p r) =
           subst (λ (o : Option Place). IfSome o
-          (λ place. (item_in after place ≡ Some (with_reads_halved x.0))
+          (λ place. (item_in after place ≡ Some (with_reads_halved p.eviction x.0))
           × (place_deadline after place ≡ place_deadline p r))) m
           (moved_live (lives_by marks) p plan after r x.0 w.is_plan w.out x.1 (w.tied.held q r e) y) in
-          entry_is after s (with_reads_halved x.0) there.0 ∙ ap (λ (d : Option ℕ). kept_entry d x.0) there.1
+          entry_is after s (with_reads_halved p.eviction x.0) there.0 ∙ ap (λ (d : Option ℕ). kept_entry d x.0) there.1
           ∙ sym (entry_is p r x.0 x.1)
       | inr n ↦
           let o = moved_other p plan after r w.out n in
@@ -327,25 +351,31 @@ merged_stayed p plan after index found marks w =
 -- room is made
 pub merged_made : (p : PoolState) (plan : Plan) (after : PoolState) (index found : Table) (marks : Marks) (t : ℕ)
     → IsMergeRelocated p plan after index found marks
+    → ((q : List ℕ) (r : Place) → finite.get (current p index) q ≡ Some r
+    → contains_number (merged_segments p plan.choice) r.segment ≡ true → has_arrived (place_deadline p r) t ≡ false)
     → IsCrowded p index t → IsRoomMade p index t after found
-merged_made p plan after index found marks t w crowded =
+merged_made p plan after index found marks t w wait crowded =
     let all = live_items (lives_by marks) p (merged_segments p plan.choice) in
     let ss = lost plan.moves all in
     record {
       sizes = w.out.sizes;
+      rule = ap (λ (r : PoolState). r.eviction) w.after_is
+          ∙ into_rule p plan.choice (merged_segments p plan.choice) (carried_items p plan.moves);
       exact = ap (λ (r : PoolState). r.exact) w.after_is
           ∙ into_exact p plan.choice (merged_segments p plan.choice) (carried_items p plan.moves);
       past = past_merged p plan after t w.tied.known.pool w.is_plan.next.qualifying w.out.sources w.after_is crowded.past;
       free = w.out.has_free;
       absent = λ q none. w.relocated.places q ∙ ap (option_and_then (moved_by plan.moves)) none;
       kept = evicted_kept p index after found t ss crowded
+          (All-filter (λ (s : Standing). not (is_some (moved_by plan.moves s.place))) (Waits p t) all
+          (live_wait p index marks t (merged_segments p plan.choice) w.tied wait))
           (All-filter (λ (s : Standing). not (is_some (moved_by plan.moves s.place))) (IsCurrent p index) all
           (live_current p index marks (merged_segments p plan.choice) w.tied))
           (merged_stayed p plan after index found marks w)
           (let part = part_sizes (λ (s : Standing). not (is_some (moved_by plan.moves s.place))) all in
           let whole = live_sizes p marks (merged_segments p plan.choice) w.tied.known.pool in
           let four : length (merged_segments p plan.choice) ≤ 4 =
-          (let l = length-take (most_merged p.eviction) (front p plan.choice) in let m = most_four p.eviction in
+          (let l = length-take (most_merged p.eviction plan.choice.bucket) (front p plan.choice) in let m = most_four p.eviction plan.choice.bucket in
           omega (arith, l, m)) in
           let most = mul-le-mul_left p.sizes.segment_size four in
           omega (arith, part, whole, most));

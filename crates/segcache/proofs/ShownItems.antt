@@ -152,28 +152,26 @@ not_live p place t h =
     let arrived = gone_by (place_deadline p place) (item_in p place) t h in
     rw arrived refl
 
--- where exactly the keys leave whose deadline has come, all that is live is still shown
+-- where only keys leave whose deadline has come, all that is live is still shown
 left_by : (p : PoolState) (t : ℕ) (o n : Option Place) → ((r : Place) → n ≡ Some r → o ≡ Some r)
-    → ((r : Place) → n ≡ Some r → has_arrived (place_deadline p r) t ≡ false)
     → ((r : Place) → o ≡ Some r → has_arrived (place_deadline p r) t ≡ false → n ≡ Some r)
     → if_live t (option_map (entry_at p) n) ≡ if_live t (option_map (entry_at p) o)
-left_by p t None None a b c = refl
-left_by p t None (Some r) a b c = absurd (none-some r (a r refl))
-left_by p t (Some s) (Some r) a b c = ap (λ (o : Option Place). if_live t (option_map (entry_at p) o)) (sym (a r refl))
-left_by p t (Some s) None a b c =
+left_by p t None None a b = refl
+left_by p t None (Some r) a b = absurd (none-some r (a r refl))
+left_by p t (Some s) (Some r) a b = ap (λ (o : Option Place). if_live t (option_map (entry_at p) o)) (sym (a r refl))
+left_by p t (Some s) None a b =
     elim (cases_Bool (has_arrived (place_deadline p s) t)) [
       | inl y ↦ sym (not_live p s t y)
-      | inr n ↦ absurd (none-some s (c s refl n))
+      | inr n ↦ absurd (none-some s (b s refl n))
     ]
 
--- where exactly those keys leave a map whose deadline has come, it shows at that moment what it
--- showed with them
-pub shown_left : (p : PoolState) (t : ℕ) (old new : Places) → HaveExpiredLeft p t old new
+-- where keys leave a map whose deadline has come, it shows at that moment what it showed with them
+pub shown_left : (p : PoolState) (t : ℕ) (among : ℕ → Bool) (old new : Places) → HaveExpiredLeft p t among old new
     → live_entries p new t ≡ live_entries p old t
-shown_left p t old new h =
+shown_left p t among old new h =
     same_entries _ _
-    (λ q. get-live_in p new t q ∙ left_by p t (finite.get old q) (finite.get new q) (h.before q) (h.waiting q)
-    (h.others q)
+    (λ q. get-live_in p new t q
+    ∙ left_by p t (finite.get old q) (finite.get new q) (h.before q) (λ r e waits. h.others q r e (λ among_it. waits))
     ∙ sym (get-live_in p old t q))
 
 -- what isn't shown any more was forgotten

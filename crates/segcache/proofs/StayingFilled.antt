@@ -2,7 +2,6 @@
 use Rattle.std.proofs.Common.{◌≡◌, ℕ, ◌+◌, ◌≤◌, List, [], ◌∷◌, Option, Some, None, refl, sym, ap, subst, ◌∙◌, inl, inr}
 use Rattle.std.proofs.Common.{arith}
 use Rattle.std.specs.Prelude.{◌⊎◌, if◌then◌else◌}
-use Rattle.std.specs.List.{AllByRecursion}
 use Rattle.std.specs.FinMap as finite
 use Rattle.proto.specs.declared.message.Request.{Request}
 use Rattle.proto.specs.declared.message.Reply.{Reply}
@@ -38,7 +37,8 @@ use Rattle.segcache.specs.LiveItems.{live_others}
 use Rattle.segcache.specs.Writes.{WritesToSegments, WritesAnew, GoesOver, ChangesInPlace, StaysDated, IsReadAgain, unread, with_value}
 use Rattle.segcache.specs.Requests.{LeavesSegments, HandlesSegments}
 use Rattle.segcache.specs.Requests.LeavesSegments.{writes, changes, dates, reads, stays, refuses}
-use Rattle.segcache.specs.StayingFilled.{StaysFilled}
+use Rattle.segcache.specs.StayingFilled.{HasRoomFor, StaysFilled}
+use Rattle.segcache.specs.ItemBuckets.{bucket_for}
 use Rattle.segcache.proofs.TiedParts.{current_some}
 use Rattle.segcache.proofs.ChangedItems.{sized_over}
 use Rattle.segcache.proofs.ItemsPutOver.{sized_below}
@@ -77,7 +77,7 @@ items_by t done reply = if is_no_memory reply then [] else item_stored t done do
 -- forgotten, and segments stay filled
 abbrev LeavesFilled : ℕ → MapState → Outcome → Reply → MapState → Type 0
 LeavesFilled t found done reply after =
-    IsFilled found.pool → AllByRecursion (λ (i : StoredItem). HoldsLittle found.pool i.bucket t) (items_by t done reply)
+    IsFilled found.pool → HasRoomFor found.pool t done reply
     → IsLeftFilled t found done reply after (items_by t done reply)
 
 -- an item that was written anew where little is held
@@ -95,9 +95,8 @@ anew_filled found after done key e kept other stored asked w filled little =
     ap (λ (m : Entries). finite.get m key) asked ∙ get-stored (shown_entries p found.index t) key e in
     let items : items_by t done done.reply ≡ one ∷ [] = answered_item done.reply (item_stored t done done.stored) other
     ∙ ap (λ (o : Option (List ℕ)). item_stored t done o) stored ∙ ap (stored_item_of t key) there in
-    let few : HoldsLittle p one.bucket t = (subst
-    (λ (xs : List StoredItem). AllByRecursion (λ (i : StoredItem). HoldsLittle p i.bucket t) xs) items little).0 in
-    let k = kept_with (live_others key found.marks t) p found.index one.bucket t
+    let few : HoldsLittle p (bucket_for p t e.deadline) t = little key e stored other there in
+    let k = kept_with (live_others key found.marks t) p found.index (bucket_for p t e.deadline) t
     (unread found key e) after.pool after.index kept.tied.known.pool kept.past w.storable filled few w.placed in
     let now : shown_entries after.pool after.index t
     ≡ finite.insert (shown_entries p found.index t) key (record e { deadline = w.deadline }) =
@@ -277,8 +276,7 @@ stays_filled before t q reply after step moment h filled little =
     subst (λ (u : ℕ). LeavesFilled u found done reply after.map) h.is_found.moment
     (leaves_filled (way_of q before.in_place) found after.map done reply h.is_found.kept other h.leaves) in
     let left = leaves (subst IsFilled (sym pool) filled)
-    (subst (λ (p : PoolState). AllByRecursion (λ (i : StoredItem). HoldsLittle p i.bucket t) (items_by t done reply))
-    (sym pool) little) in
+    (subst (λ (p : PoolState). HasRoomFor p t done reply) (sym pool) little) in
     let held = left.held in
     let was : held_size found.pool ≡ held_size before.map.pool = ap held_size pool in (
       elim left.dated [

@@ -25,11 +25,11 @@ keys_forgotten lives p bucket t i _ (has_room room) = []
 keys_forgotten lives p bucket t i _ (gives_back after full dead given) = []
 keys_forgotten lives p bucket t i _ (evicts after full none evicted) = keys_evicted lives p after evicted
 
--- Something was evicted, and of what was shown exactly its keys are forgotten.
-pub record IsEvicted (lives : Liveness) (p : PoolState) (index : Table) (after : PoolState)
+-- Something was evicted at the moment t, and of what was shown exactly its keys are forgotten.
+pub record IsEvicted (lives : Liveness) (p : PoolState) (index : Table) (t : ℕ) (after : PoolState)
     (found : Table) : Type 0 where
   pub evicted : Evicts lives p after
-  pub entries : (t : ℕ) → shown_entries after found t
+  pub entries : shown_entries after found t
       ≡ without_keys (shown_entries p index t) (keys_evicted lives p after evicted)
 
 -- Room was made for an item at the moment t, and of what was shown exactly the keys are forgotten

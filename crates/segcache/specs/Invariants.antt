@@ -2,7 +2,6 @@
 use Rattle.std.specs.Prelude.{◌≡◌, ℕ, ◌*◌, ◌/◌, ◌≤◌, ◌⊎◌, Bool, true, List, Option, Some}
 use Rattle.std.specs.FinMap as finite
 use Rattle.proto.specs.History.{max_moment}
-use Rattle.proto.specs.Cache.{has_arrived}
 use Rattle.segments.specs.declared.place.Place.{Place}
 use Rattle.segments.specs.Items.{Item}
 use Rattle.segments.specs.Pools.{PoolState, Used, segment_at, item_in, shared_at}
@@ -13,6 +12,7 @@ use Rattle.index.specs.Layouts.{IsLayoutOf}
 use Rattle.index.specs.Table.{Table, IsIndex}
 use Rattle.segments.specs.Pools.{key_at}
 use Rattle.segcache.specs.Shown.{current}
+use Rattle.segcache.specs.OwnDeadlines.{may_expire}
 
 -- The marks are exactly at the current places, those that the index has, each of which holds an
 -- item of its key; and the index has a slot to spare for each item that fits into the pool, and its
@@ -27,10 +27,10 @@ pub record IsTied (p : PoolState) (index : Table) (marks : Marks) : Type 0 where
   pub roomy : 2 * (p.sizes.segments * (p.sizes.segment_size / 32)) ≤ index.room
   pub layout : IsLayoutOf p.sizes index.layout
 
--- An item has the deadline of its segment; or one of its own that comes no earlier, where items
--- have their own.
+-- An item has the deadline of its segment; or where items have their own, one of these, at which an
+-- item of the segment may expire.
 abbrev pub IsDatedIn : Bool → Option ℕ → Item → Type 0
-IsDatedIn exact shared i = (i.own_deadline ≡ 0) ⊎ ((exact ≡ true) × (has_arrived shared i.own_deadline ≡ true))
+IsDatedIn exact shared i = (i.own_deadline ≡ 0) ⊎ ((exact ≡ true) × (may_expire exact shared i.own_deadline ≡ true))
 
 -- so has each item of a pool
 abbrev pub AreDated : PoolState → Type 0

@@ -1,4 +1,5 @@
 pub mod OwnDeadlines
+pub mod ItemBuckets
 pub mod Shown
 pub mod Invariants
 pub mod State

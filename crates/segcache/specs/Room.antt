@@ -1,15 +1,14 @@
 -- What is forgotten where room is made, and what an item that is written leaves.
-use Rattle.std.specs.Prelude.{◌≡◌, ℕ, ◌≤◌, ◌⊎◌, Bool, true, false, List, [], Option, Some, None}
+use Rattle.std.specs.Prelude.{◌≡◌, ℕ, ◌≤◌, ◌⊎◌, Bool, true, List, [], Option, None}
 use Rattle.std.specs.FinMap as finite
 use Rattle.proto.specs.Sizes.{Sizes}
-use Rattle.proto.specs.Cache.{Entries, has_arrived}
+use Rattle.proto.specs.Cache.{Entries}
 use Rattle.proto.specs.Buckets.{MayLive}
 use Rattle.proto.specs.Steps.{without_keys, MayEvict}
-use Rattle.segments.specs.declared.place.Place.{Place}
 use Rattle.segments.specs.Items.{Item}
-use Rattle.segments.specs.Pools.{PoolState, place_deadline}
+use Rattle.segments.specs.Pools.{PoolState}
 use Rattle.segments.specs.Places.{HasFree}
-use Rattle.index.specs.Table.{Table, Places}
+use Rattle.index.specs.Table.{Table}
 use Rattle.segcache.specs.Shown.{current, shown_entries, kept_entry}
 use Rattle.segcache.specs.Invariants.{IsPast}
 use Rattle.engine.specs.Deadlines.{is_storable_deadline}
@@ -20,20 +19,15 @@ pub record AreKept (sizes : Sizes) (old new : Entries) : Type 0 where
   pub evicted : (forgotten ≡ []) ⊎ MayEvict sizes old forgotten
   pub entries : new ≡ without_keys old forgotten
 
--- no current item's deadline is at or before the moment t
-abbrev pub AllWait : PoolState → Places → ℕ → Type 0
-AllWait p m t = (key : List ℕ) (place : Place) → finite.get m key ≡ Some place
-    → has_arrived (place_deadline p place) t ≡ false
-
--- At the moment t all current items are live, and there are no fewer than segments.
+-- At the moment t no fewer entries are shown than there are segments.
 pub record IsCrowded (p : PoolState) (index : Table) (t : ℕ) : Type 0 where
   pub past : IsPast p t
-  pub waiting : AllWait p (current p index) t
   pub many : p.sizes.segments ≤ finite.len (shown_entries p index t)
 
 -- A segment is free at the moment t, no key came, and what isn't shown any more was forgotten.
 pub record IsRoomMade (p : PoolState) (index : Table) (t : ℕ) (after : PoolState) (found : Table) : Type 0 where
   pub sizes : after.sizes ≡ p.sizes
+  pub rule : after.eviction ≡ p.eviction
   pub exact : after.exact ≡ p.exact
   pub past : IsPast after t
   pub free : HasFree after

@@ -5,19 +5,20 @@ use Rattle.proto.specs.declared.message.Reply.{Reply}
 use Rattle.proto.specs.Cache.{Entry, has_arrived}
 use Rattle.proto.specs.Steps.{MayBeDated}
 use Rattle.proto.specs.Sizes.{item_limit}
-use Rattle.proto.specs.Buckets.{bucket_of, time_to_live, life_width, MayLive}
+use Rattle.proto.specs.Buckets.{life_width, MayLive}
 use Rattle.segments.specs.declared.place.Place.{Place}
 use Rattle.segments.specs.Items.{Item, IsStorable, fits_over, item_deadline}
-use Rattle.segments.specs.Pools.{key_at, item_in, place_deadline, shared_at}
+use Rattle.segments.specs.Pools.{PoolState, key_at, item_in, place_deadline, shared_at}
 use Rattle.index.specs.declared.index.Entry.{Entry as Found}
 use Rattle.index.specs.Searches.{IsEntryOf}
 use Rattle.segments.specs.Changes.{with_read, with_item_at, with_segment_hit}
-use Rattle.segments.specs.Rules.{goes_over_by}
+use Rattle.segments.specs.Rules.{goes_over_by, shares_one_chain}
 use Rattle.segcache.specs.State.{MapState, IsSegmentedMap}
 use Rattle.segcache.specs.Shown.{current, entry_at, kept_entry, shown_entries}
 use Rattle.segcache.specs.LiveItems.{live_others}
 use Rattle.segcache.specs.ForgottenKeys.{PlacesItem}
 use Rattle.segcache.specs.OwnDeadlines.{own_deadline_by}
+use Rattle.segcache.specs.ItemBuckets.{bucket_for}
 use Rattle.engine.specs.Deadlines.{is_storable_deadline}
 
 -- the place is the current one of the key
@@ -61,24 +62,30 @@ stays_as t (Some asked) (Some given) =
 stays_as t _ _ = false
 
 -- whether an item with the first deadline of its own, which hasn't come at the moment t, goes into
--- a segment with the second one: that is the same or little earlier, and may have come
-abbrev pub suits_segment : ℕ → Option ℕ → Option ℕ → Bool
-suits_segment t None None = true
-suits_segment t (Some own) (Some shared) =
+-- a segment with the second one: that is the same or little earlier, and may have come; or there is
+-- none, where all stand in one chain
+abbrev pub suits_segment : Bool → ℕ → Option ℕ → Option ℕ → Bool
+suits_segment one_chain t None None = true
+suits_segment one_chain t None (Some shared) = false
+suits_segment one_chain t (Some own) None = one_chain && nat_lt t own
+suits_segment one_chain t (Some own) (Some shared) =
     nat_lt t own && nat_le shared own && (loses_little t own shared || nat_le (own - shared) ((own - t) / 8))
-suits_segment t _ _ = false
 
 -- whether an item that asks for the one deadline may stand in a segment with the other one: a write
 -- may give that, or the item has its own, which goes in there
-abbrev pub may_share_segment : Bool → ℕ → Option ℕ → Option ℕ → Bool
-may_share_segment exact t asked shared =
-    may_give t asked shared || (exact && is_storable_deadline asked && suits_segment t asked shared)
+abbrev pub may_share_segment : Bool → Bool → ℕ → Option ℕ → Option ℕ → Bool
+may_share_segment exact one_chain t asked shared =
+    may_give t asked shared || (exact && is_storable_deadline asked && suits_segment one_chain t asked shared)
+
+-- whether it may in one of a pool
+abbrev pub may_share_in : PoolState → ℕ → Option ℕ → Option ℕ → Bool
+may_share_in p t asked shared = may_share_segment p.exact (shares_one_chain p.eviction p.exact) t asked shared
 
 -- Whether an item goes over the one of its key at a place: by the rule of the least read, or where
 -- items have their own deadlines, if it takes as many bytes and may stand in that segment.
 abbrev pub goes_over : MapState → Option ℕ → Item → Place → Bool
 goes_over m asked i place =
-    goes_over_by m.pool.eviction m.pool.exact && may_share_segment m.pool.exact m.moment asked (shared_at m.pool place)
+    goes_over_by m.pool.eviction m.pool.exact && may_share_in m.pool m.moment asked (shared_at m.pool place)
     && fits_over i (item_in m.pool place)
 
 -- The item went over the one of its key, of which the read count stays. It has its own deadline,
@@ -97,14 +104,14 @@ pub record GoesOver (old : MapState) (i : Item) (asked : Option ℕ) (new : MapS
       ≡ finite.insert (shown_entries old.pool old.index old.moment) i.key
       (kept_entry (item_deadline i (shared_at old.pool place)) i)
 
--- The entry's item, which a segment can hold and which doesn't go over another, was placed in the
--- bucket of its time to live, at the map's moment, where the key's old item is no longer live; the
--- entry stands there with a deadline that it may get.
+-- The entry's item, which a segment can hold and which doesn't go over another, was placed in its
+-- bucket, at the map's moment, where the key's old item is no longer live; the entry stands there
+-- with a deadline that it may get.
 pub record WritesAnew (old : MapState) (key : List ℕ) (entry : Entry) (new : MapState) : Type 0 where
   pub anew : (place : Place) → StandsAt old key place → goes_over old entry.deadline (unread old key entry) place ≡ false
   pub storable : IsStorable (item_limit old.pool.sizes) (unread old key entry)
   pub placed : PlacesItem (live_others key old.marks old.moment) old.pool old.index
-      (bucket_of (time_to_live entry.deadline old.moment)) old.moment
+      (bucket_for old.pool old.moment entry.deadline) old.moment
       (unread old key entry) new.pool new.index
   pub deadline : Option ℕ
   pub may_live : MayLive old.moment entry.deadline deadline

@@ -1,24 +1,25 @@
 //! The map of live entries that stand in segments.
 
-ghost use Rattle.std.specs.Prelude.{◌≡◌, ◌≤◌, false, IfOk, IsSome, Some};
+ghost use Rattle.std.specs.Prelude.{◌≡◌, ◌<◌, ◌≤◌, false, IfOk, IsSome, Some};
 ghost use Rattle.std.specs.FinMap as map;
 ghost use Rattle.proto.specs.Buckets.{time_to_live};
 ghost use Rattle.segments.specs.Items.{Item};
 ghost use Rattle.segments.specs.Shown.{item_of};
-ghost use Rattle.segments.specs.Pools.{IsPool, item_in, place_deadline};
+ghost use Rattle.segments.specs.Pools.{IsPool, bucket_count, item_in, place_deadline};
 ghost use Rattle.segments.specs.Changes.{new_pool, with_eviction};
 ghost use Rattle.engine.specs.Shown.{entry_of};
 ghost use Rattle.segcache.specs.Shown.{entry_at, shown_entries};
 ghost use Rattle.segcache.specs.Writes.{loses_little, may_give, suits_segment, may_share_segment, stays_as};
 ghost use Rattle.segcache.specs.Writes.{is_same, touch_leaves_by, unread_by};
 ghost use Rattle.segcache.specs.OwnDeadlines.{storable_or_zero, own_deadline_by};
+ghost use Rattle.segcache.specs.ItemBuckets.{bucket_for};
 ghost use Rattle.engine.specs.Deadlines.{is_storable_deadline};
 
 use crate::counts::StoreCounts;
 use engine::{EntryRef, LiveMap, StoreMap, has_arrived};
 use index::{Entry, Index, layout_for, slots_for};
 use proto::{Eviction, Gauge, Gauges, Geometry, NoMemory};
-use segments::{ItemRef, LONGEST_LIFE, LiveMarks, Place, Pool, bucket_of, life_width};
+use segments::{ItemRef, LASTING, LONGEST_LIFE, LiveMarks, Place, Pool, bucket_of, life_width};
 use std::alloc::Global;
 use std::hash::FoldHasher;
 use std::marker::Model;
@@ -38,6 +39,8 @@ pub struct SegmentMap {
     pub(crate) counts: StoreCounts,
     /// How often an item was looked up whose deadline had come.
     expired_gets: AtomicU64,
+    /// For each segment the index's slot of an item that was live there when that was asked last.
+    pub(crate) witnesses: Vec<usize>,
 }
 
 impl Model for SegmentMap {
@@ -123,18 +126,20 @@ fn is_same(one: Option<u64>, other: Option<u64>) -> bool
 }
 
 /// Whether an item with the first deadline of its own, which hasn't come, goes into a segment with
-/// the second one: that is the same or little earlier, and may have come.
-fn suits_segment(now: u64, own: Option<u64>, shared: Option<u64>) -> bool
-    ensures { result ≡ suits_segment now own shared }
+/// the second one: that is the same or little earlier, and may have come; or there is none, where all
+/// stand in one chain.
+fn suits_segment(one_chain: bool, now: u64, own: Option<u64>, shared: Option<u64>) -> bool
+    ensures { result ≡ suits_segment one_chain now own shared }
 {
     match (own, shared) {
         (None, None) => true,
+        (None, Some(_)) => false,
+        (Some(own), None) => one_chain && now < own,
         (Some(own), Some(shared)) => {
             now < own
                 && shared <= own
                 && (loses_little(now, own, shared) || own - shared <= (own - now) / 8)
         }
-        _ => false,
     }
 }
 
@@ -142,14 +147,17 @@ fn suits_segment(now: u64, own: Option<u64>, shared: Option<u64>) -> bool
 /// write may give that, or the item has its own, which goes in there.
 pub(crate) fn may_share_segment(
     exact: bool,
+    one_chain: bool,
     now: u64,
     asked: Option<u64>,
     shared: Option<u64>,
 ) -> bool
-    ensures { result ≡ may_share_segment exact now asked shared }
+    ensures { result ≡ may_share_segment exact one_chain now asked shared }
 {
     may_give(now, asked, shared)
-        || (exact && is_storable_deadline(asked) && suits_segment(now, asked, shared))
+        || (exact
+            && is_storable_deadline(asked)
+            && suits_segment(one_chain, now, asked, shared))
 }
 
 /// Whether an entry with this deadline may stay if another one is asked for at the moment: it may
@@ -213,6 +221,21 @@ fn item_over<'a>(pool: &Pool, place: Place, key: &'a [u8], entry: EntryRef<'a>) 
         cas: entry.cas,
         reads: found.reads,
         own_deadline: found.own_deadline,
+    }
+}
+
+impl SegmentMap {
+    /// The bucket in which an item goes that asks for this deadline: where all stand in one chain,
+    /// and it can have that as its own, the one of items without a deadline, and else that of its
+    /// time to live.
+    fn bucket_for(&self, deadline: Option<u64>) -> usize
+        ensures value { result ≡ bucket_for self.now.pool self.now.moment deadline }
+        ensures in_range { result < bucket_count }
+    {
+        if self.pool.shares_one_chain() && is_storable_deadline(deadline) {
+            return LASTING;
+        }
+        bucket_of(time_to_live(deadline, self.moment))
     }
 }
 
@@ -347,7 +370,7 @@ impl LiveMap for SegmentMap {
             self.put_over(place, item);
             return Ok(());
         }
-        let bucket = bucket_of(time_to_live(entry.deadline, self.moment));
+        let bucket = self.bucket_for(entry.deadline);
         self.write_item(bucket, item, spot);
         Ok(())
     }
@@ -407,6 +430,7 @@ impl StoreMap for SegmentMap {
             read_ahead: AtomicU64::new(0),
             counts: StoreCounts::default(),
             expired_gets: AtomicU64::new(0),
+            witnesses: vec![in alloc; 0; geometry.segments() as usize]?,
         })
     }
 

@@ -5,7 +5,6 @@ ghost use Rattle.std.specs.Prelude.{◌≡◌, ◌⊎◌, ◌<◌, None, false, 
 ghost use Rattle.std.specs.FinMap as map;
 ghost use Rattle.proto.specs.Sizes.{item_limit};
 ghost use Rattle.proto.specs.Cache.{has_arrived};
-ghost use Rattle.proto.specs.Buckets.{bucket_of, time_to_live};
 ghost use Rattle.segments.specs.Items.{IsStorable};
 ghost use Rattle.segments.specs.Shown.{item_of};
 ghost use Rattle.segments.specs.Pools.{bucket_count, item_in};
@@ -18,6 +17,7 @@ ghost use Rattle.segcache.specs.Removals.{marked_instead};
 ghost use Rattle.segcache.specs.LiveItems.{live_marks, live_others};
 ghost use Rattle.segcache.specs.ForgottenKeys.{PlacesItem};
 ghost use Rattle.segcache.specs.OwnDeadlines.{own_deadline_by};
+ghost use Rattle.segcache.specs.ItemBuckets.{bucket_for};
 ghost use Rattle.segcache.specs.Writes.{GoesOver, StandsAt, FindsKey, goes_over};
 ghost use Rattle.segments.specs.declared.place.Place.{Place as Spot};
 
@@ -57,7 +57,9 @@ impl SegmentMap {
         }
         let place = self.index.place_found(&self.pool, item.key, found)?;
         let shared = self.pool.shared_deadline(place);
-        if may_share_segment(self.pool.is_exact(), self.moment, item.deadline, shared)
+        let exact = self.pool.is_exact();
+        let one_chain = self.pool.shares_one_chain();
+        if may_share_segment(exact, one_chain, self.moment, item.deadline, shared)
             && self.pool.fits_over(place, item)
         {
             Some(place)
@@ -88,7 +90,7 @@ impl SegmentMap {
         requires storable { IsStorable (item_limit self.old.pool.sizes) (item_of item) }
         requires own { item.own_deadline ≡ own_deadline_by self.old.pool.exact item.deadline }
         requires waits { has_arrived item.deadline self.old.moment ≡ false }
-        requires of_bucket { bucket ≡ bucket_of (time_to_live item.deadline self.old.moment) }
+        requires of_bucket { bucket ≡ bucket_for self.old.pool self.old.moment item.deadline }
         ensures appended { MatchResult result
             (λ place. (IsAddedToTail self.old.pool bucket self.old.moment (item_of item.entry) self.new.pool place
             ⊎ IsAddedToFree self.old.pool bucket self.old.moment (item_of item.entry) self.new.pool place)
@@ -115,7 +117,7 @@ impl SegmentMap {
         requires no_room { HasNoRoom self.old.pool bucket self.old.moment (item_of item) }
         requires own { item.own_deadline ≡ own_deadline_by self.old.pool.exact item.deadline }
         requires waits { has_arrived item.deadline self.old.moment ≡ false }
-        requires of_bucket { bucket ≡ bucket_of (time_to_live item.deadline self.old.moment) }
+        requires of_bucket { bucket ≡ bucket_for self.old.pool self.old.moment item.deadline }
         ensures put { IsPut self.old.pool self.old.index self.old.moment
             (item_of item.entry) item.entry.deadline self.new.pool self.new.index }
         ensures placed { PlacesItem (live_marks self.old.marks self.old.moment)
@@ -137,7 +139,7 @@ impl SegmentMap {
         requires storable { IsStorable (item_limit self.old.pool.sizes) (item_of item) }
         requires own { item.own_deadline ≡ own_deadline_by self.old.pool.exact item.deadline }
         requires waits { has_arrived item.deadline self.old.moment ≡ false }
-        requires of_bucket { bucket ≡ bucket_of (time_to_live item.deadline self.old.moment) }
+        requires of_bucket { bucket ≡ bucket_for self.old.pool self.old.moment item.deadline }
         ensures put { IsPutOver self.old.pool self.old.index self.old.moment
             (item_of item.entry) item.entry.deadline self.new.pool self.new.index }
         ensures placed { PlacesItem (live_others item.entry.key.now self.old.marks self.old.moment)

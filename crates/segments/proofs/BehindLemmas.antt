@@ -256,8 +256,8 @@ first_by : (p : PoolState) (c : Choice) (f : ℕ) (r others : List ℕ) (first :
 first_by p c f r others first e some m =
     let us = p.segments in
     let F = front_of us c.bucket (f ∷ r) in
-    let most = most_merged p.eviction in
-    let two = most_two p.eviction in
+    let most = most_merged p.eviction c.bucket in
+    let two = most_two p.eviction c.bucket in
     let is : merged_segments p c ≡ take most F = ap (λ xs. take most (front_of us c.bucket xs)) e in
     let cut = cut_by us f r (eqb c.bucket lasting) in
     let l = ap length is in
@@ -278,7 +278,7 @@ behind_by p c f r others first e once some m =
     let rest = drop c.from p.order in
     let next = behind_front us b chain in
     let start : first ≡ f = first_by p c f r others first e some m in
-    let few : length (merged_segments p c) ≤ length F = (let l = length-take (most_merged p.eviction) F in omega (arith, l)) in
+    let few : length (merged_segments p c) ≤ length F = (let l = length-take (most_merged p.eviction c.bucket) F in omega (arith, l)) in
     let whole : chain ≡ F ++ next ∷ drop (suc (length F)) chain =
     e ∙ chain_cut us b f r
     ∙ ap (λ xs. front_of us b xs ++ behind_front us b xs ∷ drop (suc (length (front_of us b xs))) xs) (sym e) in
@@ -316,7 +316,7 @@ behind_by p c f r others first e once some m =
     ap (times_behind next first) (sym split) ∙ behind_append next first (take c.from p.order) rest in_front
     ∙ sym (behind_filter q next first rest passes_first passes) ∙ ap (times_behind next first) e ∙ walk in
     record {
-      kept = (let t = times-take next (most_merged p.eviction) F in omega (arith, t, apart));
+      kept = (let t = times-take next (most_merged p.eviction c.bucket) F in omega (arith, t, apart));
       of_first = passes_first;
       of_bucket = passes;
       behind = omega (arith, behind, later, all, count);
@@ -343,7 +343,7 @@ behind_is p c first others once m = by (chain_of p c) refl
   where
     by : (xs : List ℕ) → chain_of p c ≡ xs → IsBehind p c first
     by [] e =
-        let most = most_merged p.eviction in
+        let most = most_merged p.eviction c.bucket in
         let none : merged_segments p c ≡ take most [] = ap (λ xs. take most (front_of p.segments c.bucket xs)) e in
         absurd (let l = ap length (sym none ∙ m) in let t = length-take {A = ℕ} most [] in
         let k = add-one (length others) in omega (arith, l, t, k))

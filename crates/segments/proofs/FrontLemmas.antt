@@ -21,15 +21,25 @@ rest_from n xs = let l = length-drop n xs in take_all (length xs - n) (drop n xs
 
 -- ---- the first segments of a front
 
--- a rule merges two segments at least, if it merges any
-pub most_two : (e : Eviction) → 2 ≤ most_merged e
-most_two Oldest = omega arith
-most_two LeastRead = omega arith
+-- two or three are two at least
+two_or_three : (b : Bool) → 2 ≤ (if b then 2 else 3)
+two_or_three true = omega arith
+two_or_three false = omega arith
 
 -- and four at most
-pub most_four : (e : Eviction) → most_merged e ≤ 4
-most_four Oldest = omega arith
-most_four LeastRead = omega arith
+few_or_three : (b : Bool) → (if b then 2 else 3) ≤ 4
+few_or_three true = omega arith
+few_or_three false = omega arith
+
+-- a rule merges two segments at least, if it merges any
+pub most_two : (e : Eviction) (bucket : ℕ) → 2 ≤ most_merged e bucket
+most_two Oldest bucket = omega arith
+most_two LeastRead bucket = two_or_three (eqb bucket lasting)
+
+-- and four at most
+pub most_four : (e : Eviction) (bucket : ℕ) → most_merged e bucket ≤ 4
+most_four Oldest bucket = omega arith
+most_four LeastRead bucket = few_or_three (eqb bucket lasting)
 
 -- a first number that passes or ends the run leaves a cut where it was
 while_step : (p : ℕ → Bool) (b : Bool) (x : ℕ) (xs ys : List ℕ) (n : ℕ) → xs ≡ take n ys
@@ -202,5 +212,5 @@ All-front P us b (f ∷ r) all = front_all_by P us f r (eqb b lasting) all
 pub All-merged : (P : ℕ → Type 0) (e : Eviction) (us : List (Option Used)) (order : List ℕ) (b : ℕ) → All P order
     → All P (merged_in e us order b)
 All-merged P e us order b all =
-    All-take P (most_merged e) (front_of us b (chain_in us order b))
+    All-take P (most_merged e b) (front_of us b (chain_in us order b))
     (All-front P us b (chain_in us order b) (All-filter (in_bucket us b) P order all))

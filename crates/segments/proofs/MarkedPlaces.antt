@@ -385,12 +385,12 @@ sources_within t p moves known all k d lt = item_within t p (get_or moves k d).s
 -- and so has a target at which an item stands
 target_within : (s : Sizes) (p after : PoolState) (source : Place) (o : Option Place) → IsPool after → s ≡ after.sizes
     → IsSome (item_in p source)
-    → IfSome o (λ place. (item_in after place ≡ option_map with_reads_halved (item_in p source))
+    → IfSome o (λ place. (item_in after place ≡ option_map (with_reads_halved p.eviction) (item_in p source))
     × (place_deadline after place ≡ place_deadline p source)) → IfSome o (IsWithin s)
 target_within s p after source None k e h x = tt
 target_within s p after source (Some place) k e h x =
     let i = value_there (item_in p source) h in
-    within_sizes s after place k e (subst IsSome (sym (x.0 ∙ ap (option_map with_reads_halved) i.1)) refl)
+    within_sizes s after place k e (subst IsSome (sym (x.0 ∙ ap (option_map (with_reads_halved p.eviction)) i.1)) refl)
 
 -- and all targets of a merge that was carried out
 pub targets_within : (t : Marks) (p : PoolState) (plan : Plan) (after : PoolState) → KnowsPool t p → IsPool after
@@ -534,7 +534,7 @@ some_target t (m ∷ moves) h =
 -- the mark of a target is that of the item that was moved there
 target_stands : (p after : PoolState) (source : Place) (o : Option Place) (n k : ℕ)
     → option_map_or (λ place. is_mark_of place n k) o false ≡ true → IsSome (item_in p source)
-    → IfSome o (λ place. (item_in after place ≡ option_map with_reads_halved (item_in p source))
+    → IfSome o (λ place. (item_in after place ≡ option_map (with_reads_halved p.eviction) (item_in p source))
     × (place_deadline after place ≡ place_deadline p source))
     → HasMark after n k
 target_stands p after source None n k h some x = absurd (false≢true h)
@@ -545,7 +545,7 @@ target_stands p after source (Some place) n k h some x =
       place = place;
       segment = parts.0;
       offset = parts.1;
-      stands = subst IsSome (sym (x.0 ∙ ap (option_map with_reads_halved) i.1)) refl;
+      stands = subst IsSome (sym (x.0 ∙ ap (option_map (with_reads_halved p.eviction)) i.1)) refl;
     }
 
 -- the mark of an item is the mark of each place that is the same

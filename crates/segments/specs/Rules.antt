@@ -1,6 +1,6 @@
 -- The rules of eviction: what each of them says. What only one of them speaks of stands in its own
 -- file.
-use Rattle.std.specs.Prelude.{◌≡◌, ℕ, ◌≤◌, Bool, true, false, ◌==◌, List, [], take, Option, Some}
+use Rattle.std.specs.Prelude.{◌≡◌, ℕ, ◌≤◌, Bool, true, false, ◌==◌, List, [], take, if◌then◌else◌, Option, Some}
 use Rattle.proto.specs.declared.eviction.Eviction.{Eviction}
 use Rattle.proto.specs.declared.eviction.Eviction.TheVariants.{Oldest, LeastRead}
 use Rattle.segments.specs.declared.merge.Choice.{Choice}
@@ -22,6 +22,12 @@ abbrev pub goes_over_by : Eviction → Bool → Bool
 goes_over_by Oldest exact = exact
 goes_over_by LeastRead exact = true
 
+-- whether items with deadlines of their own stand in the chain of those without one, whatever their
+-- times to live: by the rule of the least read, where items have such deadlines
+abbrev pub shares_one_chain : Eviction → Bool → Bool
+shares_one_chain Oldest exact = false
+shares_one_chain LeastRead exact = exact
+
 -- what a rule merges next: of the first chain from the cursor on that can be merged its front; or
 -- of the places looked at the first whose segment has a mate
 abbrev pub IsNextBy : Eviction → List (Option Used) → List ℕ → ℕ → ℕ → Choice → Type 0
@@ -33,10 +39,10 @@ abbrev pub NoneBy : Eviction → List (Option Used) → List ℕ → ℕ → Typ
 NoneBy Oldest us order looked = NoneIn us order
 NoneBy LeastRead us order looked = NoneBetween us order 0 looked
 
--- the most segments that a rule merges into one
-abbrev pub most_merged : Eviction → ℕ
-most_merged Oldest = 4
-most_merged LeastRead = 3
+-- the most segments of a bucket that a rule merges into one
+abbrev pub most_merged : Eviction → ℕ → ℕ
+most_merged Oldest bucket = 4
+most_merged LeastRead bucket = if bucket == lasting then 2 else 3
 
 -- where a rule lets the segment stand that a merge fills: in its place, or directly before the one
 -- behind the front

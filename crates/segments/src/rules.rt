@@ -3,9 +3,10 @@
 
 ghost use Rattle.std.specs.Prelude.{◌≡◌, ◌<◌, ◌≤◌, All, MatchOption, length, vec_len, vec_capacity};
 ghost use Rattle.segments.specs.Inside.{shown_segments, IsOpeningInRange};
+ghost use Rattle.segments.specs.Items.{halved_by};
 ghost use Rattle.segments.specs.Pools.{bucket_count};
 ghost use Rattle.segments.specs.Rules.{opening_moment, goes_over_by, most_merged, NoneBy, IsNextBy, order_by};
-ghost use Rattle.segments.specs.Rules.{IsVictimOf, NoVictimOf};
+ghost use Rattle.segments.specs.Rules.{IsVictimOf, NoVictimOf, shares_one_chain};
 
 mod least_read;
 mod oldest;
@@ -40,14 +41,37 @@ pub fn goes_over(eviction: Eviction, exact: bool) -> bool
     }
 }
 
-/// The most segments that the rule merges into one.
-pub fn most_merged(eviction: Eviction) -> usize
-    ensures most { result ≡ most_merged eviction }
+/// Whether items with deadlines of their own stand in the chain of those without one, by whether
+/// items have such deadlines.
+pub fn shares_one_chain(eviction: Eviction, exact: bool) -> bool
+    ensures { result ≡ shares_one_chain eviction exact }
+{
+    match eviction {
+        Eviction::Oldest => false,
+        Eviction::LeastRead => exact,
+    }
+}
+
+/// The most segments of a bucket that the rule merges into one.
+pub fn most_merged(eviction: Eviction, bucket: usize) -> usize
+    ensures most { result ≡ most_merged eviction bucket }
     ensures few { result ≤ 4 }
 {
     match eviction {
         Eviction::Oldest => oldest::MOST_MERGED,
-        Eviction::LeastRead => least_read::MOST_MERGED,
+        Eviction::LeastRead => least_read::most_merged(bucket),
+    }
+}
+
+/// Half of a read count, which an item has after a merge: rounded up by the rule of the least read,
+/// so that an item that was read once ranks above those that never were.
+pub fn halved(eviction: Eviction, reads: u8) -> u8
+    ensures half { result ≡ halved_by eviction reads }
+    ensures no_more { result ≤ reads }
+{
+    match eviction {
+        Eviction::Oldest => reads / 2,
+        Eviction::LeastRead => reads - reads / 2,
     }
 }
 

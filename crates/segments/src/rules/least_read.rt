@@ -8,13 +8,12 @@ ghost use Rattle.segments.specs.Inside.{shown_segments, IsOpeningInRange};
 ghost use Rattle.segments.specs.Pools.{bucket_count};
 ghost use Rattle.segments.specs.LeastReadRule.{rounded_moment, NoneBetween, IsFirstBetween, moved_before};
 ghost use Rattle.segments.specs.LeastReadRule.{with_front, has_mate};
+ghost use Rattle.segments.specs.Rules.{most_merged};
+ghost use Rattle.proto.specs.declared.eviction.Eviction.TheVariants.{LeastRead};
 
 use crate::bucket::{LASTING, lower_end, width};
 use crate::merge::Choice;
 use crate::segment::Segment;
-
-/// The most segments that become one.
-pub const MOST_MERGED: usize = 3;
 
 /// What a chain has from a place of the order on.
 #[derive(Clone, Copy)]
@@ -38,6 +37,14 @@ pub fn rounded_moment(bucket: usize, moment: u64) -> u64
         return moment;
     }
     moment - moment % (width(bucket) / 2)
+}
+
+/// The most segments of a bucket that become one. Of items without a shared deadline two do, since
+/// then fewer of those that are in use are evicted.
+pub fn most_merged(bucket: usize) -> usize
+    ensures { result ≡ most_merged LeastRead bucket }
+{
+    if bucket == LASTING { 2 } else { 3 }
 }
 
 /// Whether a segment of the bucket that was opened at the moment can become one with the first of

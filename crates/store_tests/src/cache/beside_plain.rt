@@ -215,3 +215,19 @@ fn ttls_are_kept_to_the_second(rt: HostRuntime) -> Result<(), Fail> {
     )?;
     compare_with_plain(&rt, rt.alloc(), &mut segmented, geometry, 30)
 }
+
+/// So they are where items stand in one chain whatever their TTLs: merges keep all of them that
+/// live, and none that has expired.
+#[test]
+fn nothing_is_forgotten_in_one_chain(rt: HostRuntime) -> Result<(), Fail> {
+    let geometry = Geometry::new(16_384, 8)?;
+    let mut segmented = Store::evicting(
+        rt.alloc(),
+        geometry,
+        false,
+        Dialect::Strict,
+        Eviction::LeastRead,
+        true,
+    )?;
+    compare_with_plain(&rt, rt.alloc(), &mut segmented, geometry, 30)
+}

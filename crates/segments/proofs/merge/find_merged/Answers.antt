@@ -14,7 +14,7 @@ returns-then-choice-ne-LASTING-clause-items c =
     let from = c.args.choice.from in
     let order = take (length c.args.order.now - from) (drop from c.args.order.now) in
     let chain = chain_in us order c.args.choice.bucket in
-    let most = most_merged c.args.eviction in
+    let most = most_merged c.args.eviction c.args.choice.bucket in
     let popped : c.pop.new.self.items ≡ first_most most chain = c.pop.ensures.rest
     ∙ ap (λ n. take (n - 1) c.find_first.new.front.items) c.find_first.new.front.ok.0
     ∙ ap (λ xs. take (length xs - 1) xs) c.find_first.ensures.items

@@ -1,5 +1,5 @@
 use Rattle.std.proofs.Common.{None, Some, sym, subst}
-use Rattle.segments.specs.Marks.{lives_by}
+use Rattle.segcache.specs.LiveItems.{live_marks}
 use Rattle.segcache.specs.ForgottenKeys.{IsEvicted}
 use Rattle.segcache.specs.Room.{IsCrowded, IsRoomMade}
 use Rattle.segcache.specs.State.{MapState}
@@ -13,9 +13,9 @@ invariant_of-self c =
     let h = c.if-plan_merge.ensures.plan in
     let crowded : IsCrowded a.pool a.index a.moment = (let h = c.requires.crowded in rw (← c.self.view_is) at h) in
     record {
-      tied = (tied_replanned a.pool c.plan_merge.new.self (Some h.0) a.index a.marks c.self.invariant.tied
+      tied = (tied_replanned a.pool c.plan_merge.new.pool (Some h.0) a.index a.marks c.self.invariant.tied
           c.plan_merge.ensures.pool h.2).0;
-      past = (crowded_replanned a.pool c.plan_merge.new.self (Some h.0) a.index a.marks a.moment c.self.invariant.tied
+      past = (crowded_replanned a.pool c.plan_merge.new.pool (Some h.0) a.index a.marks a.moment c.self.invariant.tied
           c.plan_merge.ensures.pool h.2 crowded).past;
     }
 
@@ -24,30 +24,31 @@ merge-requires-clause-crowded c =
     let a = c.self.inside in
     let h = c.if-plan_merge.ensures.plan in
     let crowded : IsCrowded a.pool a.index a.moment = (let h = c.requires.crowded in rw (← c.self.view_is) at h) in
-    crowded_replanned a.pool c.plan_merge.new.self (Some h.0) a.index a.marks a.moment c.self.invariant.tied
+    crowded_replanned a.pool c.plan_merge.new.pool (Some h.0) a.index a.marks a.moment c.self.invariant.tied
     c.plan_merge.ensures.pool h.2 crowded
 
 pub merge-requires-clause-planned : goal.merge-requires-clause-planned
 merge-requires-clause-planned c =
     let h = c.if-plan_merge.ensures.plan in
-    has_plan c.self.inside.pool c.plan_merge.new.self h.0 c.self.inside.marks h.1 h.2
+    let a = c.self.inside in
+    has_plan (live_marks a.marks a.moment) a.pool c.plan_merge.new.pool h.0 h.1 h.2
 
 pub returns-then-plan_merge-clause-made : goal.returns-then-plan_merge-clause-made
 returns-then-plan_merge-clause-made c =
     let a = c.self.inside in
     let h = c.if-plan_merge.ensures.plan in
     let crowded : IsCrowded a.pool a.index a.moment = (let h = c.requires.crowded in rw (← c.self.view_is) at h) in
-    rw (← c.self.view_is) (subst (λ (m : MapState). IsRoomMade a.pool a.index a.moment m.pool m.index) (sym c.self-then-plan_merge.view_is)
-    (made_replanned a.pool c.plan_merge.new.self (Some h.0) a.index a.marks a.moment c.merge.new.self.pool
-    c.merge.new.self.index c.self.invariant.tied c.plan_merge.ensures.pool h.2 crowded c.merge.ensures.made))
+    rw (← c.self.view_is)
+    (made_replanned a.pool c.plan_merge.new.pool (Some h.0) a.index a.marks a.moment c.merge.new.self.pool
+    c.merge.new.self.index c.self.invariant.tied c.plan_merge.ensures.pool h.2 crowded c.merge.ensures.made)
 
 pub returns-then-plan_merge-clause-evicted : goal.returns-then-plan_merge-clause-evicted
 returns-then-plan_merge-clause-evicted c =
     let a = c.self.inside in
     let h = c.if-plan_merge.ensures.plan in
-    rw (← c.self.view_is) (subst (λ (m : MapState). IsEvicted (lives_by a.marks) a.pool a.index m.pool m.index) (sym c.self-then-plan_merge.view_is)
-    (evicted_replanned a.pool c.plan_merge.new.self (Some h.0) a.index a.marks c.merge.new.self.pool
-    c.merge.new.self.index c.self.invariant.tied c.plan_merge.ensures.pool h.2 c.merge.ensures.evicted))
+    rw (← c.self.view_is)
+    (evicted_replanned (live_marks a.marks a.moment) a.pool c.plan_merge.new.pool (Some h.0) a.index a.marks a.moment c.merge.new.self.pool
+    c.merge.new.self.index c.self.invariant.tied c.plan_merge.ensures.pool h.2 c.merge.ensures.evicted)
 
 pub invariant_of-self-else-plan_merge : goal.invariant_of-self-else-plan_merge
 invariant_of-self-else-plan_merge c =
@@ -55,9 +56,9 @@ invariant_of-self-else-plan_merge c =
     let h = c.if-plan_merge.ensures.plan in
     let crowded : IsCrowded a.pool a.index a.moment = (let h = c.requires.crowded in rw (← c.self.view_is) at h) in
     record {
-      tied = (tied_replanned a.pool c.plan_merge.new.self None a.index a.marks c.self.invariant.tied
+      tied = (tied_replanned a.pool c.plan_merge.new.pool None a.index a.marks c.self.invariant.tied
           c.plan_merge.ensures.pool h.1).0;
-      past = (crowded_replanned a.pool c.plan_merge.new.self None a.index a.marks a.moment c.self.invariant.tied
+      past = (crowded_replanned a.pool c.plan_merge.new.pool None a.index a.marks a.moment c.self.invariant.tied
           c.plan_merge.ensures.pool h.1 crowded).past;
     }
 
@@ -66,7 +67,7 @@ clear_victim-requires-clause-crowded c =
     let a = c.self.inside in
     let h = c.if-plan_merge.ensures.plan in
     let crowded : IsCrowded a.pool a.index a.moment = (let h = c.requires.crowded in rw (← c.self.view_is) at h) in
-    crowded_replanned a.pool c.plan_merge.new.self None a.index a.marks a.moment c.self.invariant.tied
+    crowded_replanned a.pool c.plan_merge.new.pool None a.index a.marks a.moment c.self.invariant.tied
     c.plan_merge.ensures.pool h.1 crowded
 
 pub returns-else-plan_merge-clause-made : goal.returns-else-plan_merge-clause-made
@@ -74,15 +75,15 @@ returns-else-plan_merge-clause-made c =
     let a = c.self.inside in
     let h = c.if-plan_merge.ensures.plan in
     let crowded : IsCrowded a.pool a.index a.moment = (let h = c.requires.crowded in rw (← c.self.view_is) at h) in
-    rw (← c.self.view_is) (subst (λ (m : MapState). IsRoomMade a.pool a.index a.moment m.pool m.index) (sym c.self-else-plan_merge.view_is)
-    (made_replanned a.pool c.plan_merge.new.self None a.index a.marks a.moment c.clear_victim.new.self.pool
-    c.clear_victim.new.self.index c.self.invariant.tied c.plan_merge.ensures.pool h.1 crowded c.clear_victim.ensures.made))
+    rw (← c.self.view_is)
+    (made_replanned a.pool c.plan_merge.new.pool None a.index a.marks a.moment c.clear_victim.new.self.pool
+    c.clear_victim.new.self.index c.self.invariant.tied c.plan_merge.ensures.pool h.1 crowded c.clear_victim.ensures.made)
 
 pub returns-else-plan_merge-clause-evicted : goal.returns-else-plan_merge-clause-evicted
 returns-else-plan_merge-clause-evicted c =
     let a = c.self.inside in
     let h = c.if-plan_merge.ensures.plan in
-    rw (← c.self.view_is) (subst (λ (m : MapState). IsEvicted (lives_by a.marks) a.pool a.index m.pool m.index) (sym c.self-else-plan_merge.view_is)
-    (evicted_replanned a.pool c.plan_merge.new.self None a.index a.marks c.clear_victim.new.self.pool
+    rw (← c.self.view_is)
+    (evicted_replanned (live_marks a.marks a.moment) a.pool c.plan_merge.new.pool None a.index a.marks a.moment c.clear_victim.new.self.pool
     c.clear_victim.new.self.index c.self.invariant.tied c.plan_merge.ensures.pool h.1 (c.clear_victim.ensures.evicted
-    (none_replanned a.pool c.plan_merge.new.self None h.1 h.0))))
+    (none_replanned a.pool c.plan_merge.new.pool None h.1 h.0)))

@@ -3,7 +3,6 @@ use Rattle.std.specs.FinMap as finite
 use Rattle.std.proofs.lemmas.Slice.Eq.{bytes_eq-Decides}
 use Rattle.proto.specs.Sizes.{item_limit}
 use Rattle.proto.specs.Cache.{has_arrived}
-use Rattle.proto.specs.Buckets.{bucket_of, time_to_live}
 use Rattle.segments.specs.Items.{IsStorable}
 use Rattle.segments.specs.Shown.{item_of}
 use Rattle.segments.specs.Pools.{PoolState}
@@ -18,6 +17,7 @@ use Rattle.segcache.proofs.ForgottenKeys.{placed_left, room_was, room_there}
 use Rattle.segcache.proofs.AppendedItems.{put_over, put_left, put_placed, was_refused, was_done}
 use Rattle.segcache.proofs.segment_map.SegmentMap.write_item.Goals as goal
 use Rattle.segcache.specs.OwnDeadlines.{own_deadline_by}
+use Rattle.segcache.specs.ItemBuckets.{bucket_for}
 
 pub remove_key-requires : goal.remove_key-requires
 remove_key-requires c =
@@ -67,8 +67,13 @@ append_to_freed-requires-clause-waits c =
 
 pub append_to_freed-requires-clause-of_bucket : goal.append_to_freed-requires-clause-of_bucket
 append_to_freed-requires-clause-of_bucket c =
-    subst (λ (t : ℕ). c.args.bucket ≡ bucket_of (time_to_live c.args.item.deadline t))
-    (sym (c.remove_key.ensures.moment ∙ c.append.ensures.moment)) c.requires.of_bucket
+    let first = was_refused c.append.result _ _ c.append.ensures.appended
+    (sym c.is_err.ensures.value ∙ c.if-is_err.true) in
+    let pool : c.remove_key.new.self.pool ≡ c.args.self.now.pool =
+    c.remove_key.ensures.same.pool ∙ ap (λ (x : MapState). x.pool) first.1 in
+    subst (λ (q : PoolState). c.args.bucket ≡ bucket_for q c.remove_key.new.self.moment c.args.item.deadline) (sym pool)
+    (subst (λ (t : ℕ). c.args.bucket ≡ bucket_for c.args.self.now.pool t c.args.item.deadline)
+    (sym (c.remove_key.ensures.moment ∙ c.append.ensures.moment)) c.requires.of_bucket)
 
 pub returns-then-is_err-clause-put : goal.returns-then-is_err-clause-put
 returns-then-is_err-clause-put c =

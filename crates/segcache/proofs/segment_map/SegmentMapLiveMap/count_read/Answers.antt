@@ -68,8 +68,9 @@ returns-clause-kept c =
     let some = current_some a.pool a.index c.args._key.now c.args.place there in
     let new : MapState = record { pool = c.count_read.new.self; index = a.index; marks = a.marks; moment = a.moment } in
     rw (← c.self.view_is)
-    (keeps_changed read_again (record { pool = a.pool; index = a.index; marks = a.marks; moment = a.moment }) new c.args.place
-    (keeps_read _ some) c.count_read.ensures.counted)
+    (λ items keeps.
+    keeps_changed read_again (record { pool = a.pool; index = a.index; marks = a.marks; moment = a.moment }) new c.args.place
+    (keeps_read _ some) c.count_read.ensures.counted items (λ i none. none) keeps)
 
 pub returns-clause-stands : goal.returns-clause-stands
 returns-clause-stands c =

@@ -36,4 +36,4 @@ returns-clause-may_stay c holds e there =
 pub returns-clause-kept : goal.returns-clause-kept
 returns-clause-kept c holds e there =
     let kept : IsSegmentedMap c.args.self.now = rw (← c.self.view_is) c.self.invariant in
-    keeps_left c.args.self.now c.args._key.now e c.args.deadline kept.past.dated there (returns-clause-may_stay c holds e there)
+    keeps_left c.args.self.now c.args._key.now e c.args.deadline there (returns-clause-may_stay c holds e there)

@@ -1,6 +1,5 @@
 use Rattle.std.proofs.Common.{◌≡◌, ℕ, ◌<◌, ◌^◌, Bool, List, false, refl, sym, ap, subst, ◌∙◌, inl, inr, rules}
 use Rattle.std.specs.Prelude.{IsTrue, MatchOption}
-use Rattle.proto.specs.Buckets.{bucket_of, time_to_live}
 use Rattle.engine.specs.Written.{IsWritten}
 use Rattle.engine.specs.Shown.{entry_of}
 use Rattle.segments.specs.Items.{Item}
@@ -18,6 +17,7 @@ use Rattle.segcache.proofs.ItemsPutOver.{over_written, keeps_below}
 use Rattle.segcache.proofs.WriteParts.{written_by, may_store}
 use Rattle.segcache.proofs.segment_map.SegmentMapLiveMap.write.Goals as goal
 use Rattle.segcache.specs.OwnDeadlines.{own_deadline_by}
+use Rattle.segcache.specs.ItemBuckets.{bucket_for}
 use Rattle.segcache.proofs.OwnDeadlines.{own_small}
 
 -- an entry's item with this deadline of its own
@@ -82,7 +82,7 @@ returns-in-Some c =
     subst (λ (i : Item). GoesOver s i e.deadline c.put_over.new.self) same c.put_over.ensures.over in record {
       written = over_written c.args.self.now c.put_over.new.self c.args.key.now e over;
       exactly = inl over;
-      kept = keeps_below c.args.self.now c.put_over.new.self c.args.key.now e kept.past.dated over;
+      kept = keeps_below c.args.self.now c.put_over.new.self c.args.key.now e over;
       refused = search rules;
       err = search rules;
       err_alike = search rules;
@@ -103,12 +103,11 @@ returns c =
     ∙ ap (λ (b : Bool). own_deadline_by b e.deadline) (c.is_exact.ensures ∙ ap (λ (m : MapState). m.pool.exact) c.self.view_is) in
     let same = ap (λ (n : ℕ). item_with_own n key e) own in
     let kept : IsSegmentedMap s = rw (← c.self.view_is) c.self.invariant in
-    let at : c.bucket_of-bucket.result ≡ bucket_of (time_to_live c.args.entry.deadline a.moment) = search rules in
-    let of_bucket : c.bucket_of-bucket.result ≡ bucket_of (time_to_live c.args.entry.deadline s.moment) =
-    rw (← c.self.view_is) at in
+    let of_bucket : c.bucket_for-bucket.result ≡ bucket_for s.pool s.moment c.args.entry.deadline =
+    c.bucket_for-bucket.ensures.value in
     let placed = subst
     (λ b. PlacesItem (live_others key s.marks s.moment) s.pool s.index b s.moment i new.pool new.index) of_bucket
-    (subst (λ (j : Item). PlacesItem (live_others key s.marks s.moment) s.pool s.index c.bucket_of-bucket.result s.moment j
+    (subst (λ (j : Item). PlacesItem (live_others key s.marks s.moment) s.pool s.index c.bucket_for-bucket.result s.moment j
     new.pool new.index) same c.write_item.ensures.placed) in
     let storable = may_store s.pool s.index s.marks s.moment i kept.tied c.requires.fits (search rules) (search rules)
     refl (own_small s.pool.exact e.deadline) in

@@ -155,9 +155,7 @@ pub(crate) fn may_share_segment(
     ensures { result ≡ may_share_segment exact one_chain now asked shared }
 {
     may_give(now, asked, shared)
-        || (exact
-            && is_storable_deadline(asked)
-            && suits_segment(one_chain, now, asked, shared))
+        || (exact && is_storable_deadline(asked) && suits_segment(one_chain, now, asked, shared))
 }
 
 /// Whether an entry with this deadline may stay if another one is asked for at the moment: it may

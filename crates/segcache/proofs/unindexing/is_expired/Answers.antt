@@ -1,5 +1,4 @@
 use Rattle.std.proofs.Common.{◌≡◌, true, false, sym, ap, ◌∙◌, rules}
-use Rattle.segments.specs.Pools.{deadline_in, segment_at}
 use Rattle.segcache.specs.OwnDeadlines.{may_expire}
 use Rattle.segcache.proofs.LiveSegments.{none_expires, all_expired}
 use Rattle.segcache.proofs.unindexing.is_expired.Goals as goal

@@ -1,8 +1,6 @@
-use Rattle.std.proofs.Common.{None, Some, sym, subst}
+use Rattle.std.proofs.Common.{None, Some}
 use Rattle.segcache.specs.LiveItems.{live_marks}
-use Rattle.segcache.specs.ForgottenKeys.{IsEvicted}
-use Rattle.segcache.specs.Room.{IsCrowded, IsRoomMade}
-use Rattle.segcache.specs.State.{MapState}
+use Rattle.segcache.specs.Room.{IsCrowded}
 use Rattle.segcache.proofs.MergePlans.{tied_replanned, crowded_replanned, made_replanned, has_plan}
 use Rattle.segcache.proofs.ForgottenKeys.{evicted_replanned, none_replanned}
 use Rattle.segcache.proofs.segment_map.SegmentMap.forget_some.Goals as goal

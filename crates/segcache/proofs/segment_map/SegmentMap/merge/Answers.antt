@@ -4,7 +4,7 @@ use Rattle.segments.specs.Merges.{contains_number, planned_moves, planned_segmen
 use Rattle.segments.specs.Marks.{carried_marks, lives_by}
 use Rattle.segments.proofs.MarkedPlaces.{merge_ready}
 use Rattle.segcache.specs.ForgottenKeys.{IsEvicted}
-use Rattle.segcache.specs.Invariants.{IsTied, IsPast}
+use Rattle.segcache.specs.Invariants.{IsTied}
 use Rattle.segcache.specs.LiveItems.{live_marks}
 use Rattle.segcache.specs.PlannedMerges.{HasPlan}
 use Rattle.segcache.specs.Removals.{HaveExpiredLeft}

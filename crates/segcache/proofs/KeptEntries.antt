@@ -205,7 +205,8 @@ writes_anew old new key e anew storable placed deadline may exact kept entries =
 
 -- ---- what else happens to a map
 
--- a change of an item that keeps its size keeps what was kept, if it gives none a deadline of its own
+-- a change of an item that keeps its size keeps what was kept, if it gives no item a deadline of
+-- its own
 pub keeps_changed : (change : Item → Item) (old new : MapState) (place : Place) → KeepsSize change (item_in old.pool place)
     → new.pool ≡ with_change change old.pool place
     → (items : List StoredItem) → ((i : Item) → i.own_deadline ≡ 0 → (change i).own_deadline ≡ 0)

@@ -91,8 +91,8 @@ lost_keys moves (j ∷ js) all =
           rw (z, n) (ap (λ ks. j.item.key ∷ ks) rest))
     ]
 
--- A merge by which the index was relocated evicts, and forgets exactly those keys, also by a test that
--- says the same of the items of the merged segments.
+-- A merge by which the index was relocated evicts, and forgets exactly those keys, also by a test
+-- that says the same of the items of the merged segments.
 pub merged_evicted : (lives : Liveness) (p : PoolState) (plan : Plan) (after : PoolState) (index found : Table)
     (marks : Marks) (t : ℕ) → IsMergeRelocated p plan after index found marks → (h : IsPlan lives p plan)
     → live_items lives p (merged_segments p plan.choice) ≡ live_items (lives_by marks) p (merged_segments p plan.choice)

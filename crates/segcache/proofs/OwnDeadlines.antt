@@ -68,8 +68,8 @@ may_before t (Some a) (Some s) may d e =
     let same : a ≡ d = cc in
     subst (λ (n : ℕ). nat_le s n ≡ true) same (le-leb s a may.1)
 
--- an item that has the deadline asked for, where the segment has none or one that comes no later, is
--- dated as it may be there
+-- an item that has the deadline asked for, where the segment has none or one that comes no later,
+-- is dated as it may be there
 pub own_dated : (exact : Bool) (asked shared : Option ℕ) (i : Item) → i.own_deadline ≡ own_deadline_by exact asked
     → ((d : ℕ) → asked ≡ Some d → may_expire true shared d ≡ true) → IsDatedIn exact shared i
 own_dated false asked shared i own h = inl own
@@ -215,8 +215,8 @@ stands_appended exact t asked shared waits before may = by exact asked waits bef
           | inr n ↦ (let none : own_deadline_by true (Some d) ≡ 0 = rw n refl in given true (Some d) waits (may none))
         ]
 
--- where items have their own deadlines, one may stand in a segment without a deadline, if it can have
--- the one asked for
+-- where items have their own deadlines, one may stand in a segment without a deadline, if it can
+-- have the one asked for
 pub stands_alone : (exact : Bool) (t : ℕ) (asked : Option ℕ) → exact ≡ true → is_storable_deadline asked ≡ true
     → has_arrived asked t ≡ false → MayStand exact t asked None
 stands_alone exact t None e near waits =

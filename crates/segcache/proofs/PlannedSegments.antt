@@ -152,8 +152,8 @@ merge_evicted old left after found a w =
 
 -- ---- the segment that is evicted once the expired items have left it
 
--- What is known of a map, of what is left of it once expired items have left a segment, and once all
--- have.
+-- What is known of a map, of what is left of it once expired items have left a segment, and once
+-- all have.
 pub record AsksClear (old left cleared : MapState) (n : ℕ) : Type 0 where
   pub was : IsTied old.pool old.index old.marks
   pub mid : IsTied old.pool left.index left.marks

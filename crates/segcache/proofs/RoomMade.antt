@@ -28,8 +28,8 @@ use Rattle.segcache.proofs.GivenBack.{all_alive}
 use Rattle.segcache.proofs.EvictedKeys.{many_shown, still_none}
 use Rattle.segments.specs.Items.{item_deadline}
 
--- What was found where expired keys left and segments were given back: the same is shown, and no key
--- came.
+-- What was found where expired keys left and segments were given back: the same is shown, and no
+-- key came.
 pub record IsSwept (p : PoolState) (index : Table) (t : ℕ) (after : PoolState) (found : Table)
     (marks : Marks) : Type 0 where
   pub sizes : after.sizes ≡ p.sizes

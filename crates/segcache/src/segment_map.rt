@@ -126,8 +126,8 @@ fn is_same(one: Option<u64>, other: Option<u64>) -> bool
 }
 
 /// Whether an item with the first deadline of its own, which hasn't come, goes into a segment with
-/// the second one: that is the same or little earlier, and may have come; or there is none, where all
-/// stand in one chain.
+/// the second one: that is the same or little earlier, and may have come; or there is none, where
+/// all stand in one chain.
 fn suits_segment(one_chain: bool, now: u64, own: Option<u64>, shared: Option<u64>) -> bool
     ensures { result ≡ suits_segment one_chain now own shared }
 {

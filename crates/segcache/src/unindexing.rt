@@ -87,8 +87,8 @@ fn is_witnessed(
     }
 }
 
-/// The index's slot of the first current item of a segment whose deadline hasn't come at the moment;
-/// None if the segment has none.
+/// The index's slot of the first current item of a segment whose deadline hasn't come at the
+/// moment; None if the segment has none.
 fn find_waiting(
     pool: &Pool,
     index: &Index,

@@ -34,7 +34,7 @@ impl<'a> Pauses<'a> {
             is_timed: spin.is_some(),
             waits,
             retries: Retries::default(),
-            ticks: Ticks::default(),
+            ticks: Ticks::new(),
         }
     }
 

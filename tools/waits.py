@@ -170,7 +170,7 @@ HOSTILE = [
 # (a line has 2,048 bytes strictly, so an answer 134 MB)
 STRICT = [Load(1, 131_000, "read", 1021, most=(0.180, 0.250))]
 # As many connections read values of 1 MB, one at a time, as write them.
-MEGABYTES = [Load(4, 1_000_000, "read and write", streams=5, most=LARGE_READ)]
+MEGABYTES = [Load(4, 1_000_000, "read and write", streams=5, most=(0.010, 0.060))]
 OF_MEGABYTES = *OF_THE_PACKAGE, "--workers", "1"
 # By the server's words. With two workers the clients are on both of them in turn.
 LOADS = {

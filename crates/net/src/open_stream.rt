@@ -289,12 +289,7 @@ impl OpenStream {
         {
             Ok(Some(0)) => Reading::Ended,
             Ok(Some(count)) => {
-                let least = if self.was_paused {
-                    LARGE_READ
-                } else {
-                    MAX_PIECE
-                };
-                self.reads_much = count >= least;
+                self.reads_much = (count >= LARGE_READ) | ((count >= MAX_PIECE) & !self.was_paused);
                 self.has_more = false;
                 self.tell(session, drains, looks, ready)
             }

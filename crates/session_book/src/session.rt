@@ -61,11 +61,11 @@ pub struct Session {
     key_bytes: KeyBytes,
     /// What the `get` waits for that was read and isn't asked yet.
     waiting: Option<Waiting>,
-    /// The tick at which its client took nothing, if it took nothing since.
+    /// The second at which its client took nothing, if it took nothing since.
     refused_at: Option<u64>,
     /// What is reserved for the large message that it sends.
     room: Room,
-    /// The tick at which input came last, or from which on it may come.
+    /// The second at which input came last, or from which on it may come.
     received_at: u64,
 }
 
@@ -121,7 +121,7 @@ impl Session {
         ensures { TakesPiece self.old piece result self.new }
     {
         upkeep.load.received(piece.len());
-        self.received_at = upkeep.ticks;
+        self.received_at = upkeep.seconds;
         if self.held.is_some() {
             return Received::Refused;
         }
@@ -304,7 +304,7 @@ impl Session {
             None => return false,
         }
         upkeep.ready.take(Task::ReadOn);
-        self.received_at = upkeep.ticks;
+        self.received_at = upkeep.seconds;
         if self.held.is_some() {
             upkeep
                 .ready
@@ -400,7 +400,7 @@ impl Session {
             upkeep
                 .ready
                 .add(Task::RetryWrite, session, &mut self.tickets.give);
-            self.refused_at = self.refused_at.or(Some(upkeep.ticks));
+            self.refused_at = self.refused_at.or(Some(upkeep.seconds));
         } else {
             self.refused_at = None;
             if left > 0 {
@@ -482,7 +482,7 @@ impl Session {
         self.output.len() > SMALL_ANSWER
             && self
                 .refused_at
-                .is_some_and(|tick| upkeep.has_stopped_since(tick))
+                .is_some_and(|second| upkeep.has_stopped_since(second))
     }
 
     /// Whether it began a large message, of which its client sent nothing for some seconds.

@@ -14,14 +14,15 @@ use std::alloc::Global;
 #[derive(Clone, Copy)]
 pub enum Tick {
     /// A sixteenth of a second.
-    Time,
+    Sixteenth,
+    /// The last sixteenth of a second.
+    Second,
     /// Several turns of the owner in a row in which nothing came.
     Idle,
 }
 
-/// The sixteenths of a second, as they are counted, after which a client that took and sent nothing
-/// has stopped.
-const STOPPED_TICKS: u64 = 160;
+/// The seconds, as they are counted, after which a client that took and sent nothing has stopped.
+const STOPPED_SECONDS: u64 = 10;
 
 /// What a `get` waits for that was read and isn't asked yet.
 #[derive(Clone, Copy)]
@@ -59,8 +60,8 @@ pub(crate) struct Upkeep {
     pub(crate) asked: u64,
     pub(crate) fault: Option<FaultLine>,
     pub(crate) load: Load,
-    /// The sixteenths of a second that were counted.
-    pub(crate) ticks: u64,
+    /// The seconds that were counted.
+    pub(crate) seconds: u64,
     pub(crate) spares: SpareBuffers,
 }
 
@@ -72,7 +73,7 @@ impl Upkeep {
             asked: 0,
             fault: None,
             load: Load::new(),
-            ticks: 0,
+            seconds: 0,
             spares: SpareBuffers::new(alloc),
         }
     }
@@ -102,16 +103,17 @@ impl Upkeep {
         })
     }
 
-    /// Whether a client that did nothing since this tick has stopped.
-    pub(crate) fn has_stopped_since(&self, tick: u64) -> bool {
-        self.ticks.saturating_sub(tick) >= STOPPED_TICKS
+    /// Whether a client that did nothing since this second has stopped.
+    pub(crate) fn has_stopped_since(&self, second: u64) -> bool {
+        self.seconds.saturating_sub(second) >= STOPPED_SECONDS
     }
 
-    /// Room for large messages ages, once as time passes. Where nothing came it is all of clients
+    /// Room for large messages ages, and twice where nothing came: then all of it is of clients
     /// that send slowly.
     pub(crate) fn count(&mut self, tick: Tick) {
         match tick {
-            Tick::Time => self.ticks = self.ticks.saturating_add(1),
+            Tick::Sixteenth => {}
+            Tick::Second => self.seconds = self.seconds.saturating_add(1),
             Tick::Idle => self.load.grow_old(),
         }
         self.load.grow_old();

@@ -4,7 +4,7 @@ use crate::player::{Given, Player, WORKER};
 use crate::same::check_same;
 use bytes::Bytes;
 use proto::Dialect;
-use session_book::{EndCause, OpenFault, Received, Settled, Task, Unasked};
+use session_book::{EndCause, OpenFault, Received, Settled, Task, Tick, Unasked};
 use std::alloc::Global;
 use std::process::Abort;
 use std::test::Fail;
@@ -126,7 +126,7 @@ fn check_step(rt: &impl Abort, player: &mut Player, step: &Step, place: Place) -
         Give(session) => player.give(*session)?,
         Accept(session, length) => player.give_some(*session, *length)?,
         Budget(bytes) => player.book.set_output_budget(*bytes),
-        Second => player.pass_second(),
+        Second => player.book.count_tick(Tick::Second),
         Close(session) => player.book.close(*session),
         See(sight) => check_sight(rt, player, sight, place),
     }

@@ -145,10 +145,10 @@ fn a_large_block_is_dropped_as_it_comes(rt: HostRuntime) -> Result<(), Fail> {
     Ok(())
 }
 
-/// The line of a request of 1,000,021 bytes: two of them come at once, and 67 have room.
+/// The line of a request of 1,000,021 bytes: one of them comes at once, and 67 have room.
 const LARGE: &[u8] = b"set a 0 0 1000000\r\n";
 
-const AT_ONCE: u64 = 2;
+const AT_ONCE: u64 = 1;
 
 const HAVE_ROOM: u64 = 67;
 
@@ -201,30 +201,31 @@ fn end_large(player: &mut Player, session: u64) -> Result<Option<u64>, Fail> {
 
 /// How many are paused, and then resumed: at once, after a tick, once one request has come, and
 /// after each of further ticks.
-fn resumed_in_turn(player: &mut Player) -> Result<[u64; 8], Fail> {
+fn resumed_in_turn(player: &mut Player) -> Result<[u64; 9], Fail> {
     let paused = begin_large(player, 20)?;
     let at_once = resumed(player);
-    let after_tick = resumed_after(player, Tick::Time);
+    let after_tick = resumed_after(player, Tick::Sixteenth);
     let _ = end_large(player, 1)?;
     Ok([
         paused,
         at_once,
         after_tick,
         resumed(player),
-        resumed_after(player, Tick::Time),
-        resumed_after(player, Tick::Time),
-        resumed_after(player, Tick::Time),
+        resumed_after(player, Tick::Sixteenth),
+        resumed_after(player, Tick::Sixteenth),
+        resumed_after(player, Tick::Sixteenth),
+        resumed_after(player, Tick::Sixteenth),
         resumed_after(player, Tick::Idle),
     ])
 }
 
 #[test]
-fn few_large_requests_come_at_once_and_more_beside_slow_ones(rt: HostRuntime) -> Result<(), Fail> {
+fn one_large_request_comes_at_once_and_more_beside_slow_ones(rt: HostRuntime) -> Result<(), Fail> {
     let mut player = Player::new(rt.alloc(), Dialect::Lenient(1_048_512), None);
     let resumed = resumed_in_turn(&mut player);
     drop(player);
-    // What has room for two ticks is slow: one, two and three of them, and at the last tick all.
-    let wanted = [18, 0, 0, 1, 1, 1, 2, 6];
+    // What has had room for two ticks is slow: one, and then two of them, and at the last tick all.
+    let wanted = [19, 0, 0, 1, 0, 1, 0, 2, 4];
     check_same(&rt, resumed?, wanted, "resumed");
     Ok(())
 }
@@ -250,7 +251,7 @@ fn large_requests_wait_for_room(rt: HostRuntime) -> Result<(), Fail> {
 
 fn pass_seconds(player: &mut Player, count: u64) {
     for _ in 0..count {
-        player.pass_second();
+        player.book.count_tick(Tick::Second);
     }
 }
 
@@ -281,7 +282,7 @@ fn who_sends_nothing_for_ten_seconds_while_others_wait_has_stopped(
     Ok(())
 }
 
-/// Two sessions have stopped, and one waits, for which there would be room.
+/// A session has stopped, and one waits, for which there would be room.
 fn stopped_beside_room(player: &mut Player) -> Result<Option<u64>, Fail> {
     begin_large(player, AT_ONCE + 1)?;
     pass_seconds(player, 20);

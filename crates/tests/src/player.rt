@@ -3,14 +3,12 @@
 use crate::made::values;
 use bytes::Bytes;
 use proto::{Answered, ByteString, ClockAnswers, Dialect, NoMemory, Posted, Reply, Request};
-use session_book::{Book, Received, Settled, Tick, Unasked};
+use session_book::{Book, Received, Settled, Unasked};
 use std::alloc::Global;
 use std::test::Fail;
 
 /// The worker of each book.
 pub const WORKER: usize = 3;
-
-const TICKS_A_SECOND: usize = 16;
 
 /// What stands behind the lines of a `stats`.
 const STATS_END: &[u8] = b"END\r\n";
@@ -109,13 +107,6 @@ impl Player {
                 reply,
             }),
         ))
-    }
-
-    /// A second passes in which a session waited for memory.
-    pub fn pass_second(&mut self) {
-        for _ in 0..TICKS_A_SECOND {
-            self.book.count_tick(Tick::Time);
-        }
     }
 
     /// Gives all output of a session.

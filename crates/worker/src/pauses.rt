@@ -40,7 +40,7 @@ impl<'a> Pauses<'a> {
             has_others,
             waits,
             retries: Retries::default(),
-            ticks: Ticks::default(),
+            ticks: Ticks::new(),
         }
     }
 

@@ -45,24 +45,33 @@ impl Retries {
     }
 }
 
-/// The microseconds of a tick: a sixteenth of a second.
-const TICK_MICROS: u64 = 62_500;
+/// The microseconds of a sixteenth of a second.
+const SIXTEENTH: u64 = 62_500;
 
 /// The turns in a row in which nothing came that are a tick too: the port was polled in them.
-const IDLE_TURNS: u32 = 8;
+const IDLE_TURNS_A_TICK: u32 = 8;
 
 /// What passes while sessions wait for memory.
-#[derive(Clone, Copy, Default)]
+#[derive(Clone, Copy)]
 pub(crate) struct Ticks {
-    /// When the tick began that runs; none if no session waits, or the clock couldn't be read.
-    since: Option<Instant>,
+    /// When the second began that runs, and its sixteenth; none if no session waits, or the clock
+    /// couldn't be read.
+    since: Option<(Instant, Instant)>,
     /// The turns in a row in which nothing came.
     idle_turns: u32,
-    /// Whether these were the last tick.
-    was_idle: bool,
+    /// What passed last.
+    pub(crate) last: Tick,
 }
 
 impl Ticks {
+    pub(crate) fn new() -> Ticks {
+        Ticks {
+            since: None,
+            idle_turns: 0,
+            last: Tick::Idle,
+        }
+    }
+
     /// No session waits.
     pub(crate) fn stop(&mut self) {
         self.since = None;
@@ -86,28 +95,25 @@ impl Ticks {
             self.stop();
             return false;
         }
-        self.was_idle = self.idle_turns >= IDLE_TURNS;
-        if self.was_idle {
+        if self.idle_turns >= IDLE_TURNS_A_TICK {
             self.idle_turns = 0;
+            self.last = Tick::Idle;
             return true;
         }
         let Ok(now) = Instant::now(rt) else {
             return false;
         };
-        let since = *self.since.get_or_insert(now);
-        if now.duration_since(since) < Duration::from_micros(TICK_MICROS) {
+        let (second, sixteenth) = *self.since.get_or_insert((now, now));
+        if now.duration_since(second) >= Duration::from_secs(1) {
+            self.since = Some((now, now));
+            self.last = Tick::Second;
+            return true;
+        }
+        if now.duration_since(sixteenth) < Duration::from_micros(SIXTEENTH) {
             return false;
         }
-        self.since = Some(now);
+        self.since = Some((second, now));
+        self.last = Tick::Sixteenth;
         true
-    }
-
-    /// The tick that has passed.
-    pub(crate) fn last(&self) -> Tick {
-        if self.was_idle {
-            Tick::Idle
-        } else {
-            Tick::Time
-        }
     }
 }

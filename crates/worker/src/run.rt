@@ -272,7 +272,7 @@ fn shut_stalled<P: Port, R: Clock>(
     if !ticks.has_passed(rt, worker.state.book.waits_for_memory()) {
         return false;
     }
-    worker.state.book.count_tick(ticks.last());
+    worker.state.book.count_tick(ticks.last);
     let mut moved = false;
     for _ in 0..WINDOW {
         let Some(session) = worker.state.book.find_stalled() else {

@@ -13,7 +13,8 @@ use Rattle.index.specs.Table.{Table, HasPlace}
 use Rattle.segcache.specs.Invariants.{IsTied, AreDated, IsDatedIn}
 use Rattle.segcache.specs.LiveItems.{live_marks, is_dead}
 use Rattle.segcache.specs.OwnDeadlines.{may_expire}
-use Rattle.segcache.specs.Removals.{AllWaitIn}
+use Rattle.segcache.specs.Removals.{AllWaitIn, HaveArrivedLeft}
+use Rattle.segcache.specs.Shown.{current}
 use Rattle.segcache.proofs.OwnDeadlines.{dated_waits, dated_expired}
 use Rattle.segcache.proofs.TiedParts.{current_item, held_place}
 use Rattle.segcache.proofs.LeftPlaces.{standing_all, deadline_standing}
@@ -65,6 +66,17 @@ none_expires p t n dated never r i e same =
     ap (λ o. has_arrived (deadline_if_there (shared_at p r) o) t) e
     ∙ dated_waits p.exact (shared_at p r) i t (dated r i e)
     (ap (λ m. may_expire p.exact (deadline_in (segment_at p m)) t) same ∙ never)
+
+-- so none of its keys has to leave
+pub none_arrives : (p : PoolState) (t n : ℕ) (index : Table) → AreDated p
+    → may_expire p.exact (deadline_in (segment_at p n)) t ≡ false
+    → HaveArrivedLeft p t n (current p index) (current p index)
+none_arrives p t n index dated never =
+    record {
+      before = λ q r e. e;
+      waiting = λ q r e same. (let x = current_item p index q r e in none_expires p t n dated never r x.0 x.1 same);
+      others = λ q r e w. e;
+    }
 
 -- where items have no deadlines of their own, none of a segment lives in which items may expire
 pub all_expired : (p : PoolState) (marks : Marks) (t n : ℕ) → AreDated p → p.exact ≡ false

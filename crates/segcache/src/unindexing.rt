@@ -220,7 +220,8 @@ impl SegmentMap {
         }
     }
 
-    /// Takes the current items of a segment out whose deadline has come.
+    /// Takes the current items of a segment out whose deadline has come. None is read if none may
+    /// have expired.
     pub fn unindex_arrived(&mut self, segment: u32)
         requires in_range { segment < self.old.pool.sizes.segments }
         ensures left { HaveArrivedLeft self.old.pool self.old.moment segment
@@ -228,6 +229,10 @@ impl SegmentMap {
         ensures same { HasSamePool self.old self.new }
         ensures moment { self.new.moment ≡ self.old.moment }
     {
+        let deadline = self.pool.deadline(segment);
+        if !may_expire(self.pool.is_exact(), deadline, self.moment) {
+            return;
+        }
         let mut walk = self.pool.walk(segment);
         while let Some((place, item)) = walk.next() {
             if self.marks.is_marked(place) {

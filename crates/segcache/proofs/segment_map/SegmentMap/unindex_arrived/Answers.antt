@@ -1,4 +1,4 @@
-use Rattle.std.proofs.Common.{◌≡◌, ◌∷◌, true, false, sym, ap, subst, ◌∙◌, Some, inl, inr}
+use Rattle.std.proofs.Common.{◌≡◌, ◌∷◌, true, false, sym, ap, subst, ◌∙◌, Some, inl, inr, rules}
 use Rattle.std.proofs.lemmas.List.Elements.{All-head}
 use Rattle.proto.specs.Cache.{has_arrived}
 use Rattle.segments.specs.Pools.{Standing, item_in, place_deadline}
@@ -6,7 +6,19 @@ use Rattle.segments.specs.Walks.{standing_at}
 use Rattle.segments.specs.Shown.{item_of}
 use Rattle.segcache.specs.Shown.{current}
 use Rattle.segcache.proofs.LeftPlaces.{IsArriving, arriving_first, arriving_passed, arriving_more, has_arrived_left, deadline_shown}
+use Rattle.segcache.proofs.LiveSegments.{none_arrives}
+use Rattle.segcache.specs.OwnDeadlines.{may_expire}
 use Rattle.segcache.proofs.segment_map.SegmentMap.unindex_arrived.Goals as goal
+
+pub returns-then-not-may_expire-clause-left : goal.returns-then-not-may_expire-clause-left
+returns-then-not-may_expire-clause-left c =
+    let a = c.self.inside in
+    let t = a.moment in
+    let never : c.may_expire.result ≡ false = search rules in
+    rw (← c.self.view_is)
+    (none_arrives a.pool t c.args.segment a.index c.self.invariant.past.dated
+    (ap (λ d. may_expire a.pool.exact d t) (sym c.deadline-deadline.ensures)
+    ∙ ap (λ b. may_expire b c.deadline-deadline.result t) (sym c.is_exact.ensures) ∙ sym c.may_expire.ensures ∙ never))
 
 pub loop-place-init : goal.loop-place-init
 loop-place-init c =

@@ -4,6 +4,7 @@ requests hold that stop within their values.
 A `set` of a value that doesn't fit takes out the old one, and its session goes on behind it.
 """
 import contextlib
+import socket
 import threading
 import time
 
@@ -149,18 +150,20 @@ def test_who_stops_while_others_wait_is_closed(serve):
 
 
 def send_slowly(streams, text, seconds):
-    """Each sends the text evenly within so many seconds, or later if it isn't taken."""
-    sent, began = dict.fromkeys(streams, 0), time.monotonic()
+    """Each sends a fiftieth of the text at a time, within so many seconds, and hardly sends ahead:
+    what isn't taken then comes later."""
+    left, due = dict.fromkeys(streams, text), time.monotonic()
     for stream in streams:
+        stream.setsockopt(socket.SOL_SOCKET, socket.SO_SNDBUF, 16_384)
         stream.setblocking(False)
-    while sent:
-        most = min(int((time.monotonic() - began) / seconds * len(text)) + 1, len(text))
-        for stream in list(sent):
+    while left:
+        for stream in list(left):
             with contextlib.suppress(BlockingIOError):
-                sent[stream] += stream.send(text[sent[stream] : most])
-            if sent[stream] == len(text):
-                del sent[stream]
-        time.sleep(0.01)
+                left[stream] = left[stream][stream.send(left[stream][: len(text) // 50 + 1]) :]
+            if not left[stream]:
+                del left[stream]
+        due += seconds / 50
+        time.sleep(max(due - time.monotonic(), 0))
     for stream in streams:
         stream.setblocking(True)
 

@@ -183,7 +183,8 @@ impl Input {
         ensures err { OnErr result (self.new ≡ self.old) }
     {
         if self.need <= self.dialect.most_kept() {
-            self.kept.enlarge(self.large_need(), spares);
+            let need = self.large_need();
+            self.kept.enlarge(need, spares);
             let room = self.room();
             return self.kept.append(piece, room, spares);
         }

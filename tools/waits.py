@@ -38,7 +38,7 @@ BEFORE = 0.15
 AT_A_TIME = 2_000_000
 SEGMENTS = ["--segments", "64"]
 OPTIONS = ["--segment-size", "1048576", *SEGMENTS]
-# Both servers have the package's settings of the C library.
+# With the package's options both servers have its settings of the C library too.
 INSTALLED = {**os.environ, "GLIBC_TUNABLES": TUNABLES}
 
 
@@ -325,9 +325,9 @@ def in_two_of_three(measure, most, beside, said):
 def fairness_of(program, words):
     """What it says of the loads for a server with these words."""
     longest, within, is_packaged = (0, 0), 0, words == OF_MEGABYTES
-    sizes = SEGMENTS if is_packaged else OPTIONS
-    with (Server(program, *words, *sizes, environment=INSTALLED) as server,
-          Memcached(int(words[-1]), environment=INSTALLED) as memcached):
+    sizes, tuned = (SEGMENTS, INSTALLED) if is_packaged else (OPTIONS, None)
+    with (Server(program, *words, *sizes, environment=tuned) as server,
+          Memcached(int(words[-1]), environment=tuned) as memcached):
         before = server.kilobytes("VmRSS")
         for load in LOADS[words]:
             here, _ = in_two_of_three(lambda: waited(server, load), load.most,

@@ -1,9 +1,10 @@
 """What is kept and what is forgotten where eight segments of 4,096 bytes are full.
 
 With `oldest` the first merge takes the first four segments, of 32 keys, and the second one what the
-first one left and three segments behind it. With `least-read` the first one takes three segments,
-of 24 keys, and what it leaves stands behind others, so the second one takes those of the keys 25
-to 48. With a TTL whose bucket is 128 seconds wide and a tick of a second, segments are opened eight
+first one left and three segments behind it. With `least-read` the first one takes two segments, of
+16 keys, and what it leaves stands behind others: so the second and the third one take those of the
+keys 17 to 48, and the fourth one that of 49 to 56 with what the first one left. There a key that
+was read once stays again, as half its count is rounded up. With a TTL whose bucket is 128 seconds wide and a tick of a second, segments are opened eight
 seconds apart, and `oldest` merges none; for `least-read` those of 64 seconds are opened at one
 moment, which end at 1,088. With `least-read` a key that is written again goes over its item: one of
 a segment that was opened at 1,088 and ends at 3,136, until 1,291, when 2,100 seconds end 255
@@ -27,9 +28,9 @@ RUNS = [
     ("", 0, 89, 0, 0, [(1, 48)]),
     ("", 0, 89, 2, 0, [(2, 49)]),
     ("--evict oldest", 0, 89, 0, 0, [(1, 48)]),
-    (LEAST_READ, 0, 65, 0, 0, [(1, 16)]),
-    (LEAST_READ, 0, 89, 0, 0, [(1, 16), (25, 40)]),
-    (LEAST_READ, 0, 89, 1, 0, [(2, 17), (25, 40)]),
+    (LEAST_READ, 0, 65, 0, 0, [(1, 8)]),
+    (LEAST_READ, 0, 89, 0, 0, [(1, 24), (33, 40)]),
+    (LEAST_READ, 0, 89, 1, 0, [(2, 24), (33, 40), (49, 49)]),
     ("--now 1088 --tick 1", 2100, 65, 0, 0, [(1, 8)]),
     ("--now 1088 --tick 1 --evict least-read", 2100, 65, 0, 0, [(1, 16)]),
     ("--now 1080 --tick 1 --evict least-read", 2100, 65, 0, 0, [(9, 24)]),

@@ -127,13 +127,12 @@ def test_a_segment_is_freed_when_the_last_of_its_items_has_ended(program, moment
 
 
 def test_a_merge_keeps_each_deadline(program):
-    """64 items fill eight segments that `least-read` says were opened at 1,088. The next write has
-    the first three merged, and the newest of theirs stay, those of 17 to 24. Each item ends at a
-    second of its own."""
+    """64 items fill eight segments. The next write has the first two merged, and the newest of theirs
+    stay, those of 9 to 16. Each item ends at a second of its own."""
     numbers = range(1, 66)
     rows = [(1087 + it, put(key(it), LARGE, exptime=2060 + it), STORED) for it in numbers]
-    rows += [(1152 + it, *found(it, LARGE if it > 16 else None)) for it in numbers]
-    for it in (17, 18, 24, 25, 65):
+    rows += [(1152 + it, *found(it, LARGE if it > 8 else None)) for it in numbers]
+    for it in (9, 10, 16, 17, 65):
         rows += [(3146 + 2 * it, *found(it, LARGE)), (3147 + 2 * it, *found(it, None))]
     must_answer_at(program, rows, *SMALL, EXACT, *LEAST_READ)
 

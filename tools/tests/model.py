@@ -159,12 +159,20 @@ class Cache:
         width, _ = width_and_lower_end(bucket)
         return now - now % (width // 2)
 
+    def reclaim(self, segments, now):
+        """The current items of these segments whose deadline has come go."""
+        for item in (item for segment in segments for item in segment.items):
+            if self.current.get(item.key) is item and item.is_over(now):
+                del self.current[item.key]
+                self.counts["reclaimed"] += 1
+
     def give_back(self, now):
         live = [it for it in self.order if any(self.is_live(item, now) for item in it.items)]
-        dead, self.order = len(self.order) - len(live), live
-        self.free += dead
-        self.counts["segments_emptied"] += dead
-        return dead > 0
+        dead, self.order = [it for it in self.order if it not in live], live
+        self.reclaim(dead, now)
+        self.free += len(dead)
+        self.counts["segments_emptied"] += len(dead)
+        return bool(dead)
 
     def front(self, bucket, order):
         """Of a bucket's segments in this part of the order the first ones that can be merged, with
@@ -172,7 +180,8 @@ class Cache:
         chain = [it for it in order if it.bucket == bucket]
         front = list(itertools.takewhile(
             lambda it: bucket == LASTING or it.opened == chain[0].opened, chain[:-1]))
-        return front[: 3 if self.is_least_read else 4], chain[len(front)] if chain else None
+        most = 4 if not self.is_least_read else 2 if bucket == LASTING else 3
+        return front[:most], chain[len(front)] if chain else None
 
     def looked_at(self):
         """The first segments, a third of all."""
@@ -192,6 +201,7 @@ class Cache:
         for front, behind, cursor in self.fronts():
             if len(front) < 2:
                 continue
+            self.reclaim(front, now)
             live = [item for segment in front for item in segment.items if self.is_live(item, now)]
             kept, size = set(), 0
             for place in sorted(range(len(live)), key=lambda k: (-live[k].reads, -live[k].cas, k)):
@@ -201,7 +211,7 @@ class Cache:
             front[0].items = []
             for place, item in enumerate(live):
                 if place in kept:
-                    item.reads //= 2
+                    item.reads = (item.reads + self.is_least_read) // 2
                     item.segment = front[0]
                     front[0].items.append(item)
                 else:
@@ -223,6 +233,7 @@ class Cache:
         if self.is_least_read:
             victim = min(self.looked_at(), key=lambda it: it.hits)
         self.order.remove(victim)
+        self.reclaim([victim], now)
         for item in victim.items:
             if self.is_live(item, now):
                 del self.current[item.key]
@@ -244,28 +255,32 @@ class Cache:
         item.segment.hits += 1
 
     def goes_over(self, item, ttl, now):
-        """Whether the item goes over the one of its key, and if so puts it there: by the rule of
-        the least read, or where items have their own deadlines, if both take as many bytes, and the
-        item may have the deadline of that segment, or goes in there with its own."""
-        there, asked = self.find(item.key, now), None if ttl is None else now + ttl
+        """Whether the item goes over the one of its key, which may have expired, and if so puts it
+        there: by the rule of the least read, or where items have their own deadlines, if both take
+        as many bytes, and the item may have the deadline of that segment, or goes in there with its
+        own."""
+        there, asked = self.current.get(item.key), None if ttl is None else now + ttl
         if not ((self.is_least_read or self.is_exact) and there and there.size == item.size):
             return False
-        if not may_stand_for(there.segment.deadline, asked, now, self.is_exact):
+        has = there.segment.deadline
+        is_in_chain = self.stands_in_one_chain(item) and has is None
+        if not (is_in_chain or may_stand_for(has, asked, now, self.is_exact)):
             return False
         there.value, there.flags, there.cas, there.own = item.value, item.flags, item.cas, item.own
         there.segment.hits += 1
         return True
 
+    def stands_in_one_chain(self, item):
+        """Whether it has a deadline of its own, and with those stands beside items without one."""
+        return self.is_least_read and item.own is not None
+
     def store(self, item, ttl, now):
         item.own = now + ttl if self.is_exact and ttl is not None and now + ttl < 2**48 else None
         if self.goes_over(item, ttl, now):
             return
-        bucket = bucket_of(ttl)
+        bucket = LASTING if self.stands_in_one_chain(item) else bucket_of(ttl)
         self.current.pop(item.key, None)
         if not self.append(item, bucket, now):
-            left = {key: it for key, it in self.current.items() if not it.is_over(now)}
-            self.counts["reclaimed"] += len(self.current) - len(left)
-            self.current = left
             if not self.give_back(now) and not self.merge(now):
                 self.clear(now)
             assert self.append(item, bucket, now)

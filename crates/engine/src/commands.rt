@@ -270,7 +270,7 @@ impl<M: LiveMap> Engine<M> {
             (Reply.Values (hits_of with_cas (M.entries self.old.map) keys.old))) result }
         ensures same { keys.new ≡ keys.old }
     {
-        let hits = HitWriter::in_buffer(keys.take_buffer());
+        let hits = HitWriter::for_keys(keys);
         let written = match keys.only() {
             Some(only) => hit_of_only(&mut self.map, only, with_cas, self.dialect, hits),
             None => hits_of_keys(&mut self.map, keys, with_cas, self.dialect, hits),

@@ -126,16 +126,6 @@ pub trait LiveMap {
         ensures waits { IfSome result (λ r. has_arrived r.0.deadline (moment self.now) ≡ false) }
         ensures small { IfSome result (λ r. length r.0.value.now ≤ 1048576) };
 
-    /// The entry at the key, and where it stands; None if the key has none.
-    fn get<'a>(&'a self, key: &[u8]) -> Option<(EntryRef<'a>, Self::Place)>
-        ensures found { option_map (λ r. entry_of r.0) result ≡ map.get (entries self.now) key.now }
-        ensures stands { IfSome result (λ r. stands self.now key.now r.1) }
-        ensures waits { IfSome result (λ r. has_arrived r.0.deadline (moment self.now) ≡ false) }
-        ensures small { IfSome result (λ r. length r.0.value.now ≤ 1048576) }
-    {
-        self.entry_found(key, self.find(key))
-    }
-
     /// The entry at the key, which stands at the place, without a search.
     fn entry_at<'a>(&'a self, key: &[u8], place: Self::Place) -> EntryRef<'a>
         requires stands { stands self.now key.now place }

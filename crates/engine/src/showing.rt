@@ -124,7 +124,7 @@ fn list_found<'k, M: LiveMap>(
     let mut room: usize = 0;
     let mut words = keys.iter();
     while let Some(key) = words.next() {
-        if let Some((entry, place)) = map.get(key) {
+        if let Some((entry, place)) = map.entry_found(key, map.find(key)) {
             let hit = hit_with(key, entry.value, entry.flags, entry.cas, with_cas);
             let more = hit.room().ok_or(NoMemory)?;
             room = room.checked_add(more).ok_or(NoMemory)?;
@@ -199,10 +199,10 @@ pub fn hit_of_only<M: LiveMap>(
     requires { hits ≡ record { hits = []; room = 0 } }
     ensures { ShowsOrRefuses M.LiveMap with_cas dialect map.old (only.now ∷ []) map.new result }
 {
-    if let Some((entry, place)) = map.get(only) {
+    if let Some((entry, place)) = map.entry_found(only, map.find(only)) {
         let hit = hit_with(only, entry.value, entry.flags, entry.cas, with_cas);
         let room = hit.room().ok_or(Unshown::NoMemory)?;
-        if dialect.is_lenient() && room > MAX_ANSWER && left_after(MAX_ANSWER, hit).is_none() {
+        if room > MAX_ANSWER && dialect.is_lenient() && left_after(MAX_ANSWER, hit).is_none() {
             return Err(Unshown::TooLong);
         }
         hits.reserve(room)?;

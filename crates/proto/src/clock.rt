@@ -77,7 +77,7 @@ pub struct AskedClock<C: Clock> {
     pub(crate) clock: C,
     pub(crate) answers: ClockAnswers,
     /// When the monotonic clock was read last, if it was read. No clause speaks of it.
-    at: Option<Instant>,
+    pub at: Option<Instant>,
 }
 
 impl<C: Clock> AskedClock<C> {
@@ -117,11 +117,6 @@ impl<C: Clock> AskedClock<C> {
         let mut answers = Trace::new();
         answers.note_as(&self.answers);
         ClockAnswers { answers }
-    }
-
-    /// When the monotonic clock was read last; None if it wasn't.
-    pub fn at(&self) -> Option<Instant> {
-        self.at
     }
 
     pub fn into_clock(self) -> C

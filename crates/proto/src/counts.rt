@@ -153,7 +153,7 @@ impl Counts {
     {
         match (request, reply) {
             (Request::Get { keys, .. }, Reply::Values(hits)) => {
-                let (asked, shown) = (keys.len() as u64, hits.len() as u64);
+                let (asked, shown) = (keys.count as u64, hits.count as u64);
                 self.gets.add(shown, asked.saturating_sub(shown));
             }
             (Request::Set(_), Reply::Stored) => self.sets.add(1, 0),

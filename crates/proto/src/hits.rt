@@ -8,6 +8,7 @@ ghost use Rattle.proto.specs.Lines.{line_end};
 ghost use Rattle.proto.specs.SeenHits.{seen_hit};
 
 use crate::byte_string::ByteString;
+use crate::keys::Keys;
 use crate::no_memory::NoMemory;
 use crate::trace::{Noted, Trace};
 use itoa::Buffer;
@@ -57,7 +58,7 @@ impl<'a> HitRef<'a> {
 pub struct Hits {
     pub(crate) text: Vec<u8>,
     shown: Trace<Hit>,
-    count: usize,
+    pub(crate) count: usize,
 }
 
 impl Model for Hits {
@@ -144,50 +145,6 @@ fn push_number(text: &mut Vec<u8>, n: u64)
         .unwrap();
 }
 
-/// An empty buffer, which may have memory. It travels with the keys of a `get`, and comes back with
-/// the hits: so memory is used again where it would be freed by one thread and taken by another.
-#[derive(Drop)]
-pub struct SpareBuffer {
-    pub(crate) bytes: Vec<u8>,
-}
-
-impl Model for SpareBuffer {
-    ghost use Rattle.std.specs.Prelude.{◌≡◌, ℕ, [], vec_capacity};
-
-    ghost Value = { ℕ };
-
-    ghost view = { λ a. vec_capacity a.bytes };
-
-    ghost invariant = { λ a. a.bytes.items ≡ [] };
-}
-
-impl SpareBuffer {
-    /// A buffer without memory.
-    pub fn new(alloc: Global) -> SpareBuffer
-        ensures { result ≡ 0 }
-    {
-        SpareBuffer {
-            bytes: Vec::new(alloc),
-        }
-    }
-
-    /// The memory of these bytes, which are gone.
-    pub fn from_vec(mut bytes: Vec<u8>) -> SpareBuffer
-        ensures { result ≡ vec_capacity bytes }
-    {
-        bytes.clear();
-        SpareBuffer { bytes }
-    }
-
-    /// Its memory, without a byte in it.
-    pub fn into_bytes(self) -> Vec<u8>
-        ensures items { result.items ≡ [] }
-        ensures capacity { vec_capacity result ≡ self }
-    {
-        self.bytes
-    }
-}
-
 /// Puts hits one after the other into memory that was reserved for them.
 #[derive(Drop)]
 pub struct HitWriter {
@@ -210,12 +167,17 @@ impl Model for HitWriter {
 }
 
 impl HitWriter {
-    /// Puts hits into this buffer, once room is reserved.
-    pub fn in_buffer(buffer: SpareBuffer) -> HitWriter
-        ensures { result ≡ record { hits = []; room = 0 } }
+    /// Puts hits into the buffer that their keys were lent, once room is reserved. One without
+    /// memory is left to the keys.
+    pub fn for_keys(keys: &mut Keys) -> HitWriter
+        ensures new { result ≡ record { hits = []; room = 0 } }
+        ensures same { keys.new ≡ keys.old }
     {
+        let none = Vec::new(*keys.buffer.allocator());
+        let mut text = mem::replace(&mut keys.buffer, none);
+        text.clear();
         HitWriter {
-            text: buffer.bytes,
+            text,
             shown: Trace::new(),
             room: 0,
             count: 0,

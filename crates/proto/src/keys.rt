@@ -1,15 +1,13 @@
 //! The keys of a `get`.
 
 ghost use Rattle.std.specs.Prelude.{◌≡◌, ◌≢◌, ◌≤◌, ◌++◌, ◌∷◌, ◌↔◌, [], length, IfOk, IsTrue, MatchOption, OnErr, OnOk};
-ghost use Rattle.proto.specs.Words.{is_space, IsWord};
+ghost use Rattle.proto.specs.Words.{IsWord};
 ghost use Rattle.std.specs.List.{count_by};
 
-use crate::hits::SpareBuffer;
 use crate::no_memory::NoMemory;
 use crate::words::Words;
 use std::alloc::Global;
 use std::marker::Model;
-use std::mem;
 
 /// Keys in the order asked, in one piece of memory: a space stands before each. Beside them they
 /// have the buffer that they were lent for their hits, of which no clause speaks.
@@ -17,8 +15,10 @@ use std::mem;
 pub struct Keys {
     bytes: Vec<u8>,
     /// How many keys there are.
-    count: usize,
-    pub(crate) buffer: SpareBuffer,
+    pub(crate) count: usize,
+    /// It comes back with the hits: so memory is used again where it would be freed by one thread
+    /// and taken by another.
+    pub(crate) buffer: Vec<u8>,
 }
 
 impl Model for Keys {
@@ -39,7 +39,7 @@ impl Keys {
         Keys {
             bytes: Vec::new(alloc),
             count: 0,
-            buffer: SpareBuffer::new(alloc),
+            buffer: Vec::new(alloc),
         }
     }
 
@@ -53,10 +53,17 @@ impl Keys {
         let mut bytes = Vec::with_capacity(alloc, line.len() + 1)?;
         bytes.push_reserved(b' ');
         bytes.extend_from_slice(line).unwrap();
+        // one more than the spaces
+        let mut count: usize = 1;
+        for byte in line {
+            if *byte == b' ' {
+                count += 1;
+            }
+        }
         Ok(Keys {
             bytes,
-            count: spaces(line) + 1,
-            buffer: SpareBuffer::new(alloc),
+            count,
+            buffer: Vec::new(alloc),
         })
     }
 
@@ -111,26 +118,4 @@ impl Keys {
     pub fn allocator(&self) -> Global {
         *self.bytes.allocator()
     }
-
-    /// The buffer that was lent; one without memory is left.
-    pub fn take_buffer(&mut self) -> SpareBuffer
-        ensures { self.new ≡ self.old }
-    {
-        let none = SpareBuffer::new(*self.bytes.allocator());
-        mem::replace(&mut self.buffer, none)
-    }
-}
-
-/// How many spaces stand in the bytes.
-fn spaces(bytes: &[u8]) -> usize
-    ensures value { result ≡ count_by is_space bytes.now }
-    ensures at_most { result ≤ length bytes.now }
-{
-    let mut count: usize = 0;
-    for byte in bytes {
-        if *byte == b' ' {
-            count += 1;
-        }
-    }
-    count
 }

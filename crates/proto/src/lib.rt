@@ -41,7 +41,7 @@ pub use geometry::{
     MAX_SEGMENT_SIZE, MAX_SEGMENTS, MIN_ITEM_LIMIT, MIN_SEGMENT_SIZE, MIN_SEGMENTS, item_size,
 };
 pub use history::{Answered, Posted};
-pub use hits::{Hit, HitRef, HitWriter, Hits, SpareBuffer};
+pub use hits::{Hit, HitRef, HitWriter, Hits};
 pub use keys::Keys;
 pub use limits::{
     MAX_ANSWER, MAX_BLOCK, MAX_KEY, MAX_LENIENT_BLOCK, MAX_LENIENT_LINE, MAX_LINE, MAX_POSTS,

@@ -23,7 +23,7 @@ pub struct ClockStart {
 #[derive(Clone, Copy)]
 pub struct ClockReading {
     start: ClockStart,
-    now: Option<Instant>,
+    pub(crate) now: Option<Instant>,
 }
 
 impl Noted<Option<Instant>> for Option<Instant> {
@@ -111,11 +111,5 @@ impl ClockReading {
             (Some(first), Some(now)) => now.duration_since(first).as_secs(),
             _ => 0,
         }
-    }
-
-    pub(crate) fn now(self) -> Option<Instant>
-        ensures { result ≡ self.now }
-    {
-        self.now
     }
 }

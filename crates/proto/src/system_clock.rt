@@ -76,26 +76,6 @@ impl<R: time::Clock + Drop> SystemClock<R> {
         let began = log.start().unix_seconds();
         SystemClock { log, began }
     }
-
-    /// The whole seconds of one reading. They are 0 or more after the Unix seconds of the start.
-    pub fn now(&mut self) -> ClockAnswer
-        ensures start { self.new.start ≡ self.old.start }
-        ensures reading { (now : Option Instant) × (self.new.readings ≡ self.old.readings ++ now ∷ [])
-            × (result ≡ record {
-              seconds = seconds_since self.old.start now;
-              read = record { start = self.old.start; now = now } ∷ [];
-            }) }
-    {
-        let reading = self.log.read();
-        let seconds = self.began + reading.seconds();
-        let mut read = Trace::new();
-        read.note_as(&reading);
-        ClockAnswer {
-            seconds,
-            read,
-            at: reading.now(),
-        }
-    }
 }
 
 /// It tells its answers, one for each reading of the monotonic clock.
@@ -113,7 +93,23 @@ impl<R: time::Clock + Drop> Clock for SystemClock<R> {
 
     ghost leads_transitive = { λ _ _ _ _ _. tt };
 
-    fn now(&mut self) -> ClockAnswer {
-        self.now()
+    /// The whole seconds of one reading. They are 0 or more after the Unix seconds of the start.
+    fn now(&mut self) -> ClockAnswer
+        ensures start { self.new.start ≡ self.old.start }
+        ensures reading { (now : Option Instant) × (self.new.readings ≡ self.old.readings ++ now ∷ [])
+            × (result ≡ record {
+              seconds = seconds_since self.old.start now;
+              read = record { start = self.old.start; now = now } ∷ [];
+            }) }
+    {
+        let reading = self.log.read();
+        let seconds = self.began + reading.seconds();
+        let mut read = Trace::new();
+        read.note_as(&reading);
+        ClockAnswer {
+            seconds,
+            read,
+            at: reading.now,
+        }
     }
 }

@@ -178,7 +178,7 @@ impl LiveMap for PlainMap {
     }
 
     fn entry_at<'a>(&'a self, key: &[u8], _place: ()) -> EntryRef<'a> {
-        self.get(key).unwrap().0
+        self.entry_found(key, ()).unwrap().0
     }
 
     /// A plain map counts no reads.
@@ -213,7 +213,7 @@ impl LiveMap for PlainMap {
 
     /// Only if it has this very deadline.
     fn may_stay(&self, key: &[u8], _place: (), deadline: Option<u64>) -> bool {
-        is_same_deadline(deadline, self.get(key).unwrap().0.deadline)
+        is_same_deadline(deadline, self.entry_found(key, ()).unwrap().0.deadline)
     }
 
     fn remove(&mut self, key: &[u8], _spot: ()) {

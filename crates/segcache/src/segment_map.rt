@@ -327,7 +327,7 @@ impl LiveMap for SegmentMap {
     }
 
     fn find(&self, key: &[u8]) -> Entry {
-        self.find_key(key)
+        self.index.find(&self.pool, key)
     }
 
     fn entry_found<'a>(&'a self, key: &[u8], spot: Entry) -> Option<(EntryRef<'a>, Place)> {

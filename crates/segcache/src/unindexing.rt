@@ -170,13 +170,6 @@ fn is_expired(
 }
 
 impl SegmentMap {
-    /// What a search of the index for a key finds.
-    pub(crate) fn find_key(&self, key: &[u8]) -> Entry
-        ensures { FindsKey self.now key.now result }
-    {
-        self.index.find(&self.pool, key)
-    }
-
     /// Takes the item of a key out, whose search found this, if there is one.
     pub fn remove_key(&mut self, key: &[u8], found: Entry)
         requires { FindsKey self.old key.now found }

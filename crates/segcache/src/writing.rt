@@ -126,7 +126,7 @@ impl SegmentMap {
         ensures moment { self.new.moment ≡ self.old.moment }
     {
         self.free_segment();
-        let found = self.find_key(item.key);
+        let found = self.index.find(&self.pool, item.key);
         let _ = self.append(bucket, item, found);
     }
 

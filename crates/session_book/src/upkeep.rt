@@ -7,7 +7,7 @@ use crate::fault_line::FaultLine;
 use crate::input::ROOM_AT_ONCE;
 use crate::load::{KeyBytes, Load};
 use crate::ready_queues::{ReadyQueues, Task};
-use proto::{Answered, Keys, Reply, Request, SpareBuffer};
+use proto::{Answered, Keys, Reply, Request};
 use std::alloc::Global;
 
 /// What has passed while sessions waited for memory.
@@ -132,7 +132,7 @@ impl Upkeep {
         let mut hits = Vec::new(keys.allocator());
         self.load.asked(number, count, self.load.likely(count, own));
         self.spares.lend(Use::Hits, &mut hits);
-        let _ = request.lend_buffer(SpareBuffer::from_vec(hits));
+        let _ = request.lend_buffer(hits);
     }
 
     /// Uncounts so many keys of a request that was settled with so many bytes of output, and keeps
@@ -148,11 +148,10 @@ impl Upkeep {
         if matches!(reply, Reply::TooLarge) {
             self.load.refused_item();
         }
-        if let Some(spare) = reply.into_buffer() {
-            self.spares.keep(Use::Hits, spare.into_bytes());
+        if let Some(bytes) = reply.into_buffer() {
+            self.spares.keep(Use::Hits, bytes);
         }
-        if let Some(spare) = request.into_buffer() {
-            let bytes = spare.into_bytes();
+        if let Some(bytes) = request.into_buffer() {
             if bytes.capacity() > ROOM_AT_ONCE {
                 self.spares.keep(Use::LargeInput, bytes);
             } else if bytes.capacity() >= LARGE_MESSAGE {

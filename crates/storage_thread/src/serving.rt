@@ -144,7 +144,7 @@ pub(crate) fn execute<S: StorageEngine, C: Clock, R: time::Clock>(
         mut request,
     } = posted;
     let stored = carry_out(store, moment, &mut request);
-    let at = clock.at();
+    let at = clock.at;
     let reply = source.reply(rt, signals, at, counts, store, worker, &request, stored);
     counts.count(&request, &reply);
     let of_others = if holder == Some(worker) {

@@ -9,7 +9,7 @@ use crate::stats::passed;
 use engine::{Clock, StorageEngine};
 use exchange::{GroupSignals, IdleTurns};
 use std::marker::{Brand, Model, PhantomData};
-use std::sync::atomic::{AtomicU64, Ordering};
+use std::sync::atomic::{AtomicBool, Ordering};
 use std::sync::{Mutex, MutexGuard, OnceToken, Wait};
 use std::time::{self, Duration, Instant};
 
@@ -119,7 +119,7 @@ impl<S: StorageEngine, C: Clock, J: LockId> Serve for SharedSide<'_, S, C, J> {
     fn serve_turn<R: time::Clock>(&mut self, rt: &R, signals: &GroupSignals, own: usize) -> bool {
         let turn = self.side.serve_turn(rt, signals, own);
         self.note_held(rt, signals, turn.since);
-        turn.may_leave || self.side.is_done()
+        turn.is_left
     }
 
     fn serve_until_idle<R: Wait + time::Clock>(&mut self, rt: &R, signals: &GroupSignals) -> bool {
@@ -147,15 +147,15 @@ impl<S: StorageEngine, C: Clock, J: LockId> Serve for SharedSide<'_, S, C, J> {
 #[derive(Drop)]
 pub struct SharedStorage<T> {
     side: Mutex<T>,
-    /// 1 if a thread has found the side held since it was taken last.
-    wanted: AtomicU64,
+    /// Whether a thread has found the side held since it was taken last.
+    wanted: AtomicBool,
 }
 
 impl<T: Serve> SharedStorage<T> {
     pub fn new(side: T) -> SharedStorage<T> {
         SharedStorage {
             side: Mutex::new(side),
-            wanted: AtomicU64::new(0),
+            wanted: AtomicBool::new(false),
         }
     }
 
@@ -170,20 +170,15 @@ impl<T: Serve> SharedStorage<T> {
         let held = match self.side.try_lock() {
             Some(held) => held,
             None => {
-                self.wanted.store(1, Ordering::SeqCst);
+                self.wanted.store(true, Ordering::SeqCst);
                 self.side.try_lock()?
             }
         };
         // (a store takes much longer than a load)
-        if self.is_wanted() {
-            self.wanted.store(0, Ordering::SeqCst);
+        if self.wanted.load(Ordering::SeqCst) {
+            self.wanted.store(false, Ordering::SeqCst);
         }
         Some(held)
-    }
-
-    /// Whether a thread has found the side held since it was taken last.
-    fn is_wanted(&self) -> bool {
-        self.wanted.load(Ordering::SeqCst) != 0
     }
 
     /// Executes what was posted, for the worker of this number that has, unless another thread
@@ -199,7 +194,7 @@ impl<T: Serve> SharedStorage<T> {
             if is_left {
                 return false;
             }
-            if !self.is_wanted() {
+            if !self.wanted.load(Ordering::SeqCst) {
                 return true;
             }
         }
@@ -224,7 +219,7 @@ impl<T: Serve> SharedStorage<T> {
                     return;
                 }
                 drop(side);
-                has_served = has_served || self.is_wanted();
+                has_served = has_served || self.wanted.load(Ordering::SeqCst);
             }
             if has_served {
                 idle.reset(signals.parking());

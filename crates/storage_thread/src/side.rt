@@ -24,13 +24,6 @@ const OTHERS_BYTES_A_TURN: usize = 262_144;
 /// The most messages in a worker's turn: those of others, and all that its own window has room for.
 const MESSAGES_A_TURN: u64 = OTHERS_A_TURN + WINDOW;
 
-/// Ends the thread's wait, if its waits are noted.
-fn end_wait<R: time::Clock>(rt: &R, waits: Option<&mut Waits>) {
-    if let Some(waits) = waits {
-        waits.end(rt);
-    }
-}
-
 /// A message that was served.
 #[derive(Clone, Copy)]
 pub enum Served {
@@ -46,8 +39,9 @@ pub enum Served {
 /// A turn of a worker.
 #[derive(Clone, Copy)]
 pub struct Turn {
-    /// Whether it stopped before all was executed, so that messages may be left.
-    pub may_leave: bool,
+    /// Whether the storage thread is to go on: the turn stopped before all was executed, so that
+    /// messages may be left, or each worker has said bye.
+    pub is_left: bool,
     /// When the clock was read for its first request; None if it had none.
     pub since: Option<Instant>,
 }
@@ -173,15 +167,18 @@ impl<S: StorageEngine, C: Clock> StorageSide<S, C> {
             tell_workers(&mut self.state.end, signals, holder);
             return None;
         }
-        match take_next(
+        let taken = take_next(
             &mut self.state.end,
             &self.state.clock,
             self.state.executed,
             signals,
             holder,
-        ) {
-            Some(Taken::Asked { worker, posted }) => {
-                end_wait(rt, waits);
+        )?;
+        if let Some(waits) = waits {
+            waits.end(rt);
+        }
+        match taken {
+            Taken::Asked { worker, posted } => {
                 self.state.ahead = read_ahead(
                     self.state.ahead,
                     &self.state.store,
@@ -206,12 +203,10 @@ impl<S: StorageEngine, C: Clock> StorageSide<S, C> {
                 self.state.executed = self.state.executed.saturating_add(1);
                 Some(executed.served)
             }
-            Some(Taken::Bye { worker: _ }) => {
-                end_wait(rt, waits);
+            Taken::Bye { worker: _ } => {
                 self.state.left -= 1;
                 Some(Served::Bye)
             }
-            None => None,
         }
     }
 
@@ -231,14 +226,14 @@ impl<S: StorageEngine, C: Clock> StorageSide<S, C> {
         ensures told { self.new.end.told ≡ self.new.end.end.history }
     {
         let mut turn = Turn {
-            may_leave: true,
+            is_left: true,
             since: None,
         };
         let mut requests = 0u64;
         let mut bytes = 0usize;
         for _ in 0..MESSAGES_A_TURN {
             let Some(served) = self.serve_next(rt, signals, Some(own), None) else {
-                turn.may_leave = false;
+                turn.is_left = self.state.left == 0;
                 return turn;
             };
             if let Served::Request { at, of_others } = served {
@@ -249,7 +244,7 @@ impl<S: StorageEngine, C: Clock> StorageSide<S, C> {
                 }
             }
             if self.is_spent() {
-                turn.may_leave = false;
+                turn.is_left = self.state.left == 0;
                 break;
             }
             if requests >= OTHERS_A_TURN || bytes >= OTHERS_BYTES_A_TURN {

@@ -1,6 +1,6 @@
 //! Bytes and replies that the tests share.
 
-use proto::{HitRef, HitWriter, NoMemory, Reply, SpareBuffer};
+use proto::{HitRef, HitWriter, Keys, NoMemory, Reply};
 use std::alloc::{AllocError, Global};
 
 /// Some text, a byte and how many times it comes, and further text.
@@ -20,7 +20,7 @@ pub fn spell(
 
 /// The reply to a `get` that finds this value under `a`.
 pub fn values(alloc: Global, value: Option<&[u8]>, cas: Option<u64>) -> Result<Reply, NoMemory> {
-    let mut hits = HitWriter::in_buffer(SpareBuffer::new(alloc));
+    let mut hits = HitWriter::for_keys(&mut Keys::new(alloc));
     if let Some(value) = value {
         push_hit(&mut hits, value, cas)?;
     }

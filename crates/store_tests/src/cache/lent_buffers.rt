@@ -2,7 +2,7 @@
 
 use crate::same::check_same;
 use engine::StorageEngine;
-use proto::{Geometry, Message, Next, Request, SpareBuffer, next_message};
+use proto::{Geometry, Message, Next, Request, next_message};
 use segcache::Store;
 use std::alloc::Global;
 use std::process::Abort;
@@ -27,8 +27,8 @@ fn read(alloc: Global, text: &str) -> Result<Request, Fail> {
     }
 }
 
-fn capacity_of(buffer: Option<SpareBuffer>) -> Option<usize> {
-    Some(buffer?.into_bytes().capacity())
+fn capacity_of(buffer: Option<Vec<u8>>) -> Option<usize> {
+    Some(buffer?.capacity())
 }
 
 /// The capacity of the buffer that the request hands back, and of the one that comes back with the
@@ -39,7 +39,7 @@ fn buffers_back(
     text: &str,
 ) -> Result<(Option<usize>, Option<usize>), Fail> {
     let mut request = read(alloc, text)?;
-    let buffer = SpareBuffer::from_vec(Vec::with_capacity(alloc, LENT)?);
+    let buffer = Vec::with_capacity(alloc, LENT)?;
     let handed_back = capacity_of(request.lend_buffer(buffer));
     if store.last_moment() > 1 {
         return Err(Fail::from("the moment 1 is over"));

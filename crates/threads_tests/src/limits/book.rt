@@ -3,7 +3,7 @@
 use crate::same::check_same;
 use bytes::Bytes;
 use proto::{
-    Answered, ClockAnswers, Dialect, HitRef, HitWriter, NoMemory, Reply, Request, SpareBuffer,
+    Answered, ClockAnswers, Dialect, HitRef, HitWriter, Keys, NoMemory, Reply, Request,
 };
 use session_book::{Book, Received, Settled};
 use std::alloc::Global;
@@ -149,7 +149,7 @@ fn push_hit(hits: &mut HitWriter, value: &[u8]) -> Result<(), NoMemory> {
 
 fn value_of(alloc: Global, length: usize) -> Result<Reply, Fail> {
     let value = vec![in alloc; b'v'; length]?;
-    let mut hits = HitWriter::in_buffer(SpareBuffer::new(alloc));
+    let mut hits = HitWriter::for_keys(&mut Keys::new(alloc));
     push_hit(&mut hits, value.as_slice())?;
     Ok(Reply::Values(hits.finish()))
 }

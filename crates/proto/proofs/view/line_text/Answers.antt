@@ -6,8 +6,8 @@ use Rattle.proto.specs.Lines.{IsLenient, is_lenient, line_text}
 use Rattle.proto.specs.Words.{space}
 use Rattle.proto.proofs.LastSpaces.{last_space, any_other}
 use Rattle.proto.proofs.view.line_text.Goals as goal
-use Rattle.proto.proofs.view.line_text.Goals.{then-not-is_lenient-via-then-not-is_lenient}
-use Rattle.proto.proofs.view.line_text.Goals.{then-not-is_lenient-via-else-not-is_lenient+then-last-ne32}
+use Rattle.proto.proofs.view.line_text.Goals.{then-last-ne32-via-then-last-ne32}
+use Rattle.proto.proofs.view.line_text.Goals.{then-last-ne32-via-else-last-ne32+then-not-is_lenient}
 
 -- the dialect is the strict one
 strict_one : (d : Dialect) → is_lenient d ≡ false → d ≡ Strict
@@ -19,17 +19,17 @@ lenient_one : (d : Dialect) → is_lenient d ≡ true → IsLenient d
 lenient_one Strict e = absurd (false≢true e)
 lenient_one (Lenient limit) e = (limit, refl)
 
-pub returns-then-not-is_lenient : goal.returns-then-not-is_lenient
-returns-then-not-is_lenient c =
-    elim c.then-not-is_lenient.branch [
-      | then-not-is_lenient-via-then-not-is_lenient w ↦
-          let strict = strict_one c.args.dialect (sym c.is_lenient.ensures ∙ w.if-not-is_lenient.true) in
-          ap (λ (d : Dialect). line_text d c.loop-last.rest.now) (sym strict) ∙ c.loop-last.invariant
-      | then-not-is_lenient-via-else-not-is_lenient+then-last-ne32 w ↦
+pub returns-then-last-ne32 : goal.returns-then-last-ne32
+returns-then-last-ne32 c =
+    elim c.then-last-ne32.branch [
+      | then-last-ne32-via-then-last-ne32 w ↦
           let other : eqb c.in-Some.last.now space ≡ false =
           false_from_ne_true _ (λ e. w.if-last-ne32.true (eqb-true _ _ e)) in
           c.in-Some.ensures.cases.0 ∙ sym (any_other c.args.dialect c.in-Some.front.now c.in-Some.last.now other)
           ∙ ap (line_text c.args.dialect) (sym c.in-Some.ensures.cases.0) ∙ c.loop-last.invariant
+      | then-last-ne32-via-else-last-ne32+then-not-is_lenient w ↦
+          let strict = strict_one c.args.dialect (sym w.is_lenient.ensures ∙ w.if-not-is_lenient.true) in
+          ap (λ (d : Dialect). line_text d c.loop-last.rest.now) (sym strict) ∙ c.loop-last.invariant
     ]
 
 pub loop-last-preserved : goal.loop-last-preserved

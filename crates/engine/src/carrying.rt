@@ -55,6 +55,20 @@ fn touch_each<S: StorageEngine>(
     shown
 }
 
+/// The keys that a request touches behind its step, which was answered so, and by which exptime, if
+/// it touches some.
+fn touched<'a>(request: &'a Request, shown: &Reply) -> Option<(&'a Keys, i64)>
+    ensures { MatchOption result (touched_by request.now shown.now ≡ [])
+        (λ t. (touched_by request.now shown.now ≡ map (λ key. record { key = key; exptime = t.1 }) t.0.now)
+        × ((with_cas : Bool) × (request.now ≡ Request.GetAndTouch t.0.now with_cas t.1))) }
+{
+    match request {
+        Request::GetAndTouch { .. } if is_refused(shown) => None,
+        Request::GetAndTouch { keys, exptime, .. } => Some((keys, *exptime)),
+        _ => None,
+    }
+}
+
 /// Carries the request out at this moment: its step, and then a step for each key that it touches.
 pub fn carry_out<S: StorageEngine>(store: &mut S, now: u64, request: &mut Request) -> Reply
     requires not_before { S.moment store.old ≤ now }
@@ -78,11 +92,8 @@ pub fn carry_out<S: StorageEngine>(store: &mut S, now: u64, request: &mut Reques
         request.old result (S.cache store.new) }
 {
     let shown = store.handle(now, request);
-    let Request::GetAndTouch { keys, exptime, .. } = request else {
-        return shown;
-    };
-    if is_refused(&shown) {
-        return shown;
+    match touched(request, &shown) {
+        Some((keys, exptime)) => touch_each(store, now, keys, exptime, shown),
+        None => shown,
     }
-    touch_each(store, now, keys, *exptime, shown)
 }

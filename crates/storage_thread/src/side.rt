@@ -210,15 +210,6 @@ impl<S: StorageEngine, C: Clock> StorageSide<S, C> {
         }
     }
 
-    /// Whether all was executed that can have been posted, in a turn of the only worker.
-    fn is_spent(&self) -> bool {
-        if self.state.end.workers() > 1 {
-            return false;
-        }
-        let (_, _, seen) = self.state.end.seen();
-        seen == 0
-    }
-
     /// Executes what stands in the lanes, for the worker of this number: of others no more requests
     /// and bytes of answers than a turn has. The workers have been told of all answers.
     pub fn serve_turn<R: time::Clock>(&mut self, rt: &R, signals: &GroupSignals, own: usize) -> Turn
@@ -243,7 +234,9 @@ impl<S: StorageEngine, C: Clock> StorageSide<S, C> {
                     bytes = bytes.saturating_add(more);
                 }
             }
-            if self.is_spent() {
+            let (_, _, seen) = self.state.end.seen();
+            if seen == 0 && self.state.end.workers() == 1 {
+                // all that the only worker can have posted
                 turn.is_left = self.state.left == 0;
                 break;
             }

@@ -12,13 +12,13 @@ use Rattle.storage_thread.proofs.Turns.{serving_none, serving_bye, asked_read, a
 use Rattle.storage_thread.proofs.Sides.{told_more}
 use Rattle.storage_thread.proofs.side.StorageSide.serve_next.Goals as goal
 
-pub invariant_of-self-in-Some-Asked : goal.invariant_of-self-in-Some-Asked
-invariant_of-self-in-Some-Asked g c =
+pub invariant_of-self-in-Asked : goal.invariant_of-self-in-Asked
+invariant_of-self-in-Asked g c =
     let i = c.self.invariant in let s = c.self.inside.state in
-    let f = rw c.in-Some-Asked.field-0-is at c.in-Some-Asked.ensures.taken in let now : StorageView = s.end.end in
+    let f = rw c.in-Asked.is at c.in_ok-taken.ensures.taken in let now : StorageView = s.end.end in
     let mid : StorageView = c.take_next.new.end.end in let new : StorageView = c.execute-executed.new.end.end in
-    let w : ℕ = c.in-Some-Asked.worker in let p : Posted = c.in-Some-Asked.posted in
-    let m : ℕ = g.S.StorageEngine.moment c.execute-executed.new.store in let a = rw c.in-Some-Asked.field-0-is at c.execute-executed.ensures.answered in
+    let w : ℕ = c.in-Asked.worker in let p : Posted = c.in-Asked.posted in
+    let m : ℕ = g.S.StorageEngine.moment c.execute-executed.new.store in let a = c.execute-executed.ensures.answered in
     let told : List GivenAnswer = c.execute-executed.new.clock.answers in
     let long = longer now mid w p f new m told a in let added = c.saturating_add-self-inside.ensures in let so_far = i.counted in
     let all = i.left_are in
@@ -47,26 +47,26 @@ invariant_of-self-in-Some-Asked g c =
     }
 
 pub execute-executed-requires-clause-read : goal.execute-executed-requires-clause-read
-execute-executed-requires-clause-read g c = let f = rw c.in-Some-Asked.field-0-is at c.in-Some-Asked.ensures.taken in
-    asked_read c.self.inside.state.end.end c.take_next.new.end.end c.in-Some-Asked.worker c.in-Some-Asked.posted f _ c.self.invariant.read
+execute-executed-requires-clause-read g c = let f = rw c.in-Asked.is at c.in_ok-taken.ensures.taken in
+    asked_read c.self.inside.state.end.end c.take_next.new.end.end c.in-Asked.worker c.in-Asked.posted f _ c.self.invariant.read
 
 pub execute-executed-requires-clause-refused : goal.execute-executed-requires-clause-refused
-execute-executed-requires-clause-refused g c = let f = rw c.in-Some-Asked.field-0-is at c.in-Some-Asked.ensures.taken in
+execute-executed-requires-clause-refused g c = let f = rw c.in-Asked.is at c.in_ok-taken.ensures.taken in
     subst (λ (z : StorageView). RefusesBy g.S.StorageEngine.may_refuse z.history) (sym f.after) c.self.invariant.refused
 
 pub execute-executed-requires-clause-refuses : goal.execute-executed-requires-clause-refuses
-execute-executed-requires-clause-refuses g c none = let f = rw c.in-Some-Asked.field-0-is at c.in-Some-Asked.ensures.taken in
+execute-executed-requires-clause-refuses g c none = let f = rw c.in-Asked.is at c.in_ok-taken.ensures.taken in
     c.self.invariant.refuses (sym (ap (λ (z : StorageView). z.terms.may_refuse) f.after) ∙ none)
 
 pub execute-executed-requires-clause-counts : goal.execute-executed-requires-clause-counts
-execute-executed-requires-clause-counts g c = let f = rw c.in-Some-Asked.field-0-is at c.in-Some-Asked.ensures.taken in
+execute-executed-requires-clause-counts g c = let f = rw c.in-Asked.is at c.in_ok-taken.ensures.taken in
     subst (λ (z : StorageView). c.self.inside.state.counts ≡ counts_after no_counts z.history) (sym f.after) c.self.invariant.counts_are
 
-pub invariant_of-self-in-Some-Bye : goal.invariant_of-self-in-Some-Bye
-invariant_of-self-in-Some-Bye g c =
+pub invariant_of-self-in-Bye : goal.invariant_of-self-in-Bye
+invariant_of-self-in-Bye g c =
     let i = c.self.invariant in let s = c.self.inside.state in let now : StorageView = s.end.end in
     let new : StorageView = c.take_next.new.end.end in
-    let f = rw c.in-Some-Bye.field-0-is at c.in-Some-Bye.ensures.taken in record {
+    let f = rw c.in-Bye.is at c.in_ok-taken.ensures.taken in record {
       serving = serving_bye s.origin.end.value now new _ _ i.serving _ f;
       sized = search rules;
       refuses = λ none. i.refuses (sym (ap (λ (z : StorageView). z.terms.may_refuse) f.after) ∙ none);
@@ -87,8 +87,8 @@ invariant_of-self g c = let m = g.S.StorageEngine in let n = g.C.Clock in
     told_more m.cache m.moment m.sizes m.keeps m.is_exact m.may_refuse n.told n.start n.leads_to c.self.inside.state c.self.invariant
     c.tell_workers.new.end c.tell_workers.ensures.end
 
-pub invariant_of-self-in-None : goal.invariant_of-self-in-None
-invariant_of-self-in-None g c =
+pub invariant_of-self-in_err-taken : goal.invariant_of-self-in_err-taken
+invariant_of-self-in_err-taken g c =
     let i = c.self.invariant in let s = c.self.inside.state in let now : StorageView = s.end.end in
     let new : StorageView = c.take_next.new.end.end in
     let f : GetsNone now new = search rules in record {

@@ -95,7 +95,7 @@ impl LingeringStreams {
     /// If it is time, drops some of what came, as much of one stream as of another, and closes
     /// those that have ended or expired.
     pub(crate) fn drain<R: Clock>(&mut self, rt: &R, scratch: &mut [u8]) {
-        if self.streams.is_empty() || !self.reading.take(rt) {
+        if !self.reading.take(rt) {
             return;
         }
         let was_ready = self.is_ready;

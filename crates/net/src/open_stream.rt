@@ -21,11 +21,11 @@ use std::collections::VecDeque;
 use std::io::ErrorKind;
 use worker_port::{Gone, MAX_PIECE, ToldHistory};
 
-/// A session that was idle at this many looks in a row, and at one more, is ended. They come at
+/// A session that was idle at this many checks in a row, and at one more, is ended. They come at
 /// sixteenths of the time that it may be idle. The first of them may be late by almost one, so that
 /// the session was active until the second was due; from then on that time has passed, and an
 /// eighth more since it was active. A process that stood still ends nobody whose input waits.
-const LOOKS: u64 = 17;
+const IDLE_CHECKS: u64 = 17;
 
 /// What the input of a stream is doing.
 #[derive(Clone, Copy)]
@@ -46,7 +46,7 @@ pub(crate) enum Input {
 enum Output {
     /// The last write was whole.
     Free,
-    /// The last write was short, after this many looks for idle sessions, and no room was told
+    /// The last write was short, after this many checks for idle sessions, and no room was told
     /// since.
     Blocked(u64),
     /// The last write was short, and room was told since.
@@ -100,14 +100,14 @@ pub(crate) struct OpenStream {
     /// Something was heard of since what is ahead was read.
     has_more: bool,
     output: Output,
-    /// How many looks for idle sessions came before its last activity: it sent something, or took
+    /// How many checks for idle sessions came before its last activity: it sent something, or took
     /// some of what it is owed.
     active: u64,
 }
 
 impl OpenStream {
-    /// The stream of a session that was just opened, after this many looks for idle sessions.
-    pub(crate) fn new(stream: ServedStream, looks: u64) -> OpenStream
+    /// The stream of a session that was just opened, after this many checks for idle sessions.
+    pub(crate) fn new(stream: ServedStream, checks: u64) -> OpenStream
         ensures { (socket : ℤ) (exchange : TableId) → IsNewLog socket exchange stream
             → seen_of result ≡ fresh socket exchange }
     {
@@ -118,13 +118,13 @@ impl OpenStream {
             was_paused: false,
             has_more: false,
             output: Output::Free,
-            active: looks,
+            active: checks,
         }
     }
 
-    /// Takes note of what was heard of the stream, after this many looks for idle sessions, and
+    /// Takes note of what was heard of the stream, after this many checks for idle sessions, and
     /// lists it if something may be there to read. True if it has room that it had not.
-    pub(crate) fn hear(&mut self, heard: Heard, looks: u64, ready: &mut VecDeque<u64>) -> bool
+    pub(crate) fn hear(&mut self, heard: Heard, checks: u64, ready: &mut VecDeque<u64>) -> bool
         ensures seen { seen_of self.new ≡ seen_of self.old }
         ensures listed { Lists heard.session self.old self.new ready.old.items ready.new.items }
     {
@@ -139,7 +139,7 @@ impl OpenStream {
         let is_freed = heard.has_room && matches!(self.output, Output::Blocked(_));
         if is_freed {
             self.output = Output::Freed;
-            self.active = looks;
+            self.active = checks;
         }
         is_freed
     }
@@ -176,7 +176,7 @@ impl OpenStream {
         };
     }
 
-    /// Tells what is ahead, or reads once, if the stream is to be read, after this many looks for
+    /// Tells what is ahead, or reads once, if the stream is to be read, after this many checks for
     /// idle sessions. It was taken off the list, and goes behind the others if more may be there,
     /// but before them while something is ahead.
     pub(crate) fn read(
@@ -187,7 +187,7 @@ impl OpenStream {
         alloc: Global,
         scratch: &mut [u8],
         memory: &mut ReadMemory,
-        looks: u64,
+        checks: u64,
         ready: &mut VecDeque<u64>,
     ) -> Reading
         requires room { length scratch.old ≡ 16384 }
@@ -210,14 +210,16 @@ impl OpenStream {
         }
         let drains = matches!(input, Input::Draining);
         if self.stream.has_ahead() {
-            return self.tell(session, drains, looks, ready);
+            return self.tell(session, drains, checks, ready);
         }
         let block = if self.reads_much { memory.take() } else { None };
         match block {
             Some(block) => self.read_ahead(
-                owner, session, sender, block, memory, drains, looks, ready,
+                owner, session, sender, block, memory, drains, checks, ready,
             ),
-            None => self.read_piece(owner, session, sender, alloc, scratch, drains, looks, ready),
+            None => self.read_piece(
+                owner, session, sender, alloc, scratch, drains, checks, ready,
+            ),
         }
     }
 
@@ -230,7 +232,7 @@ impl OpenStream {
         alloc: Global,
         scratch: &mut [u8],
         drains: bool,
-        looks: u64,
+        checks: u64,
         ready: &mut VecDeque<u64>,
     ) -> Reading
         requires room { length scratch.old ≡ 16384 }
@@ -252,7 +254,7 @@ impl OpenStream {
                     self.list(session, drains, ready);
                 }
                 if matches!(self.output, Output::Free) {
-                    self.active = looks;
+                    self.active = checks;
                 }
                 piece_of(alloc, &scratch[..count])
             }
@@ -269,7 +271,7 @@ impl OpenStream {
         block: BytesMut,
         memory: &mut ReadMemory,
         drains: bool,
-        looks: u64,
+        checks: u64,
         ready: &mut VecDeque<u64>,
     ) -> Reading
         requires room { (block.items ≡ []) × (0 < block.spare) }
@@ -291,7 +293,7 @@ impl OpenStream {
             Ok(Some(count)) => {
                 self.reads_much = (count >= LARGE_READ) | ((count >= MAX_PIECE) & !self.was_paused);
                 self.has_more = false;
-                self.tell(session, drains, looks, ready)
+                self.tell(session, drains, checks, ready)
             }
             Ok(None) => Reading::Gone,
             Err(error) => failed(error.kind()),
@@ -302,7 +304,13 @@ impl OpenStream {
     /// so that all of a read is told while it is in the processor's cache. Else it goes behind them
     /// if more may have come: it drains, the piece is whole, or something was heard of since it was
     /// read.
-    fn tell(&mut self, session: u64, drains: bool, looks: u64, ready: &mut VecDeque<u64>) -> Reading
+    fn tell(
+        &mut self,
+        session: u64,
+        drains: bool,
+        checks: u64,
+        ready: &mut VecDeque<u64>,
+    ) -> Reading
         requires waits { IsTakenOff self.old }
         requires some { 0 < length self.old.stream.ahead }
         ensures arrives { Arrives (seen_of self.old) result (seen_of self.new) }
@@ -318,21 +326,21 @@ impl OpenStream {
             self.list(session, drains, ready);
         }
         if matches!(self.output, Output::Free) {
-            self.active = looks;
+            self.active = checks;
         }
         Reading::Bytes(piece)
     }
 
-    /// Writes once, after this many looks for idle sessions, unless the stream is known to have no
-    /// room: a short write is tried again at each look, as the system tells of room only once there
-    /// is much of it.
+    /// Writes once, after this many checks for idle sessions, unless the stream is known to have no
+    /// room: a short write is tried again after each check, as the system tells of room only once
+    /// there is much of it.
     pub(crate) fn write(
         &mut self,
         owner: Owner,
         session: u64,
         bytes: &[u8],
         history: &ToldHistory,
-        looks: u64,
+        checks: u64,
     ) -> Result<usize, Gone>
         requires exchange { history.now.exchange ≡ (seen_of self.old).exchange }
         requires due { MayBeSent (by_system_clock owner.geometry) owner.dialect owner.worker history.now.items session
@@ -341,7 +349,7 @@ impl OpenStream {
         ensures sends { IfOk result (λ n. seen_of self.new ≡ then_sent (take n bytes.now) (seen_of self.old)) }
     {
         let is_blocked = match self.output {
-            Output::Blocked(since) => since == looks,
+            Output::Blocked(since) => since == checks,
             Output::Free | Output::Freed => false,
         };
         if is_blocked || bytes.is_empty() {
@@ -353,12 +361,12 @@ impl OpenStream {
             Err(_) => return Err(Gone),
         };
         self.output = if count < bytes.len() {
-            Output::Blocked(looks)
+            Output::Blocked(checks)
         } else {
             Output::Free
         };
         if count > 0 {
-            self.active = looks;
+            self.active = checks;
         }
         Ok(count)
     }
@@ -394,12 +402,12 @@ impl OpenStream {
         }
     }
 
-    /// Whether the session is to be ended at this look: for long enough it took nothing of what it
+    /// Whether the session is to be ended at this check: for long enough it took nothing of what it
     /// is owed, or is owed nothing, sent nothing, and nothing of it waits to be read.
-    pub(crate) fn is_idle(&self, looks: u64) -> bool {
+    pub(crate) fn is_idle(&self, checks: u64) -> bool {
         let is_owed = !matches!(self.output, Output::Free);
         let is_waiting = matches!(self.input, Input::Waiting) && !self.stream.has_ahead();
-        looks.saturating_sub(self.active) > LOOKS && (is_owed || is_waiting)
+        checks.saturating_sub(self.active) > IDLE_CHECKS && (is_owed || is_waiting)
     }
 }
 

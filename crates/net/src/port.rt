@@ -29,9 +29,9 @@ use worker_port::{CloseReason, Gone, Port, PortEvent, ToldHistory};
 /// Events of one poll.
 const EVENTS: usize = 256;
 
-/// The time between two looks for idle sessions if a session may be idle for a second, in
+/// The time between two checks for idle sessions if a session may be idle for a second, in
 /// microseconds: a sixteenth of it.
-const LOOK_MICROS: u64 = 62_500;
+const CHECK_MICROS: u64 = 62_500;
 
 /// A worker's port over sockets.
 #[derive(Drop)]
@@ -42,12 +42,12 @@ pub struct MioPort<R: Drop> {
     events: Events,
     served: Streams,
     polls: Polls,
-    /// When idle sessions are looked for, if they are ended at all.
-    idle_looks: Option<Interval>,
+    /// When sessions are checked for idle ones, if these are ended at all.
+    idle_checks: Option<Interval>,
     /// The hand may have streams: it woke a poll since it was last empty, or a poll returned
     /// nothing (a wake can get lost).
     has_streams: bool,
-    /// Some sessions may have been idle for long enough at the last look.
+    /// Some sessions may have been idle for long enough at the last check.
     has_idle: bool,
     /// Sessions that were ended as idle.
     idle_kicks: u64,
@@ -78,7 +78,7 @@ impl<R: Wait + Clock + Net + Drop> MioPort<R> {
             events: Events::with_capacity(alloc, EVENTS)?,
             served: Streams::new(alloc, owner, exchange)?,
             polls: Polls::default(),
-            idle_looks: None,
+            idle_checks: None,
             has_streams: true,
             has_idle: false,
             idle_kicks: 0,
@@ -113,11 +113,11 @@ impl<R: Wait + Clock + Drop> MioPort<R> {
     pub fn set_idle_limit(&mut self, seconds: u64)
         ensures { TellsNothing self.old.served self.new.served }
     {
-        let between = Duration::from_micros(seconds.saturating_mul(LOOK_MICROS));
-        self.idle_looks = Some(Interval::of(between));
+        let between = Duration::from_micros(seconds.saturating_mul(CHECK_MICROS));
+        self.idle_checks = Some(Interval::of(between));
     }
 
-    /// Has the port look on for this many microseconds after an event, before it waits for the next
+    /// Has the port poll on for this many microseconds after an event, before it waits for the next
     /// one: until then its polls don't wait.
     pub fn set_spin(&mut self, micros: u32)
         ensures { TellsNothing self.old.served self.new.served }
@@ -160,20 +160,14 @@ impl<R: Wait + Clock + Drop> MioPort<R> {
         PortEvent::Idle
     }
 
-    /// Whether a stream may be read or opened, or a session may have been idle for long enough.
-    fn knows_event(&self) -> bool {
-        !self.served.ready.is_empty()
-            || self.has_idle
-            || (self.has_streams && self.served.len() < self.hand.most_open())
-    }
-
     /// Polls the sockets if no event is known yet and the end isn't to be told, unless it is too
-    /// early; and now and then even so. No poll waits beyond the next look for idle sessions.
+    /// early; and now and then even so. No poll waits beyond the next check for idle sessions.
     /// Returns false if there is no event.
-    fn look(&mut self, may_wait: bool) -> bool
+    fn poll_if_due(&mut self, may_wait: bool) -> bool
         ensures { TellsNothing self.old.served self.new.served }
     {
-        let knows_event = self.knows_event() || (self.served.is_empty() && self.hand.is_drained());
+        let knows_event = self.may_know_event()
+            || (self.served.is_empty() && self.hand.is_drained());
         let is_draining = self.served.lingering.is_ready;
         let Some(limit) = self
             .polls
@@ -181,10 +175,12 @@ impl<R: Wait + Clock + Drop> MioPort<R> {
         else {
             return knows_event;
         };
-        self.served.drain(&self.rt);
+        if !self.served.lingering.streams.is_empty() {
+            self.served.drain(&self.rt);
+        }
         self.hand.report_closed(self.served.len());
-        let limit = match self.idle_looks {
-            Some(looks) if !limit.is_zero() => looks.left(&self.rt).unwrap_or(limit).min(limit),
+        let limit = match self.idle_checks {
+            Some(checks) if !limit.is_zero() => checks.left(&self.rt).unwrap_or(limit).min(limit),
             _ => limit,
         };
         if self.poll.poll(&mut self.events, Some(limit)).is_ok() {
@@ -194,9 +190,9 @@ impl<R: Wait + Clock + Drop> MioPort<R> {
             }
             self.has_streams = self.has_streams || self.events.is_empty();
         }
-        if let Some(looks) = &mut self.idle_looks {
-            if looks.take_evenly(&self.rt) {
-                self.served.looks = self.served.looks.saturating_add(1);
+        if let Some(checks) = &mut self.idle_checks {
+            if checks.take_evenly(&self.rt) {
+                self.served.idle_checks = self.served.idle_checks.saturating_add(1);
                 self.has_idle = true;
             }
         }
@@ -244,7 +240,7 @@ impl<R: Wait + Clock + Drop> Port for MioPort<R> {
     ghost leads_transitive = { λ _ _ _ _ _. tt };
 
     fn next(&mut self, may_wait: bool, sender: &WorkerLane) -> PortEvent {
-        if !self.look(may_wait) {
+        if !self.poll_if_due(may_wait) {
             return PortEvent::Idle;
         }
         let event = self.next_event(sender);
@@ -280,12 +276,15 @@ impl<R: Wait + Clock + Drop> Port for MioPort<R> {
         }
     }
 
+    /// Whether a stream may be read or opened, or a session may have been idle for long enough.
     fn may_know_event(&self) -> bool {
-        self.knows_event()
+        !self.served.ready.is_empty()
+            || self.has_idle
+            || (self.has_streams && self.served.len() < self.hand.most_open())
     }
 
     fn rooms(&self) -> Option<u64> {
-        Some(self.served.rooms.wrapping_add(self.served.looks))
+        Some(self.served.rooms.wrapping_add(self.served.idle_checks))
     }
 
     fn set_gauges(&self, gauges: &Gauges) {

@@ -51,8 +51,8 @@ pub(crate) struct Streams {
     memory: ReadMemory,
     /// The number of the session that was opened last.
     pub(crate) last: u64,
-    /// How often idle sessions were looked for.
-    pub(crate) looks: u64,
+    /// How often sessions were checked for idle ones.
+    pub(crate) idle_checks: u64,
     /// The peer of the session that was ended last as idle.
     pub(crate) idle_peer: Peer,
     pub(crate) told: Trace<PortRecord>,
@@ -93,7 +93,7 @@ impl Streams {
             scratch: Vec::from_elem(alloc, 0u8, MAX_PIECE)?,
             memory: ReadMemory::new(alloc)?,
             last: 0,
-            looks: 0,
+            idle_checks: 0,
             idle_peer: Peer::Unknown,
             told: Trace::new(),
             has_ended: false,
@@ -129,7 +129,7 @@ impl Streams {
         self.ready.reserve(OPEN_SESSIONS).ok()?;
         let accepted = Snapshot::of(&stream);
         let stream = stream.serve(poll, session, &self.exchange)?;
-        let open = OpenStream::new(stream, self.looks);
+        let open = OpenStream::new(stream, self.idle_checks);
         self.open.insert(session, open).ok()?;
         self.last = session;
         self.sockets.note_as(&SocketNote { stream: &accepted });
@@ -153,7 +153,7 @@ impl Streams {
                 self.lingering.is_ready = true;
                 continue;
             };
-            let has_room = open.hear(heard, self.looks, &mut self.ready);
+            let has_room = open.hear(heard, self.idle_checks, &mut self.ready);
             self.rooms = self.rooms.wrapping_add(u64::from(has_room));
         }
         was_woken
@@ -202,7 +202,7 @@ impl Streams {
             self.alloc,
             self.scratch.as_mut_slice(),
             &mut self.memory,
-            self.looks,
+            self.idle_checks,
             &mut self.ready,
         ) {
             Reading::Bytes(piece) => {
@@ -230,7 +230,7 @@ impl Streams {
         ensures sockets { KeepsSockets self.old self.new }
     {
         let mut entries = self.open.iter();
-        let idle = entries.find(|(_, open)| open.is_idle(self.looks));
+        let idle = entries.find(|(_, open)| open.is_idle(self.idle_checks));
         let session = idle.map(|(session, _)| *session)?;
         let ended = self.open.remove(&session)?;
         self.idle_peer = ended.stream.peer();
@@ -265,7 +265,7 @@ impl Streams {
         let Some(open) = self.open.get_mut(&session) else {
             return Err(Gone);
         };
-        let answer = open.write(self.owner, session, bytes, &history, self.looks);
+        let answer = open.write(self.owner, session, bytes, &history, self.idle_checks);
         self.history = Some(history);
         match answer {
             Ok(count) if 0 < count => {

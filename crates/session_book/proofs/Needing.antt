@@ -1,5 +1,6 @@
 -- How many bytes there have to be before a message can be found.
-use Rattle.std.proofs.Common.{◌≡◌, ℕ, ◌<◌, List, [], ◌++◌, length, take, Option, Some, subst, arith, inl, inr, append_assoc, length-append}
+use Rattle.std.proofs.Common.{◌≡◌, ℕ, ◌+◌, ◌-◌, ◌<◌, List, [], ◌++◌, length}
+use Rattle.std.proofs.Common.{take, Option, Some, subst, arith, inl, inr, append_assoc, length-append}
 use Rattle.std.specs.Prelude.{nat_le}
 use Rattle.std.specs.Bool.{OnFalse}
 use Rattle.std.proofs.lemmas.Bool.{cases_Bool, leb-false}
@@ -28,14 +29,15 @@ spells_none d b need h fewer =
     let none : SpellsNone d (b ++ []) = h [] (rw append-nil fewer) in
     rw append-nil at none
 
--- no beginning spells a message where too few bytes are there
-pub none_short : (d : Dialect) (b : List ℕ) (need n : ℕ) → n ≡ length b → NeedsMore d b need
-    → OnFalse (nat_le need n) (SpellsNone d b)
-none_short d b need n len h =
-    elim (cases_Bool (nat_le need n)) [
+-- no beginning spells a message where, beside those that are gone, fewer bytes are there than are
+-- missing
+pub none_short : (d : Dialect) (b : List ℕ) (need gone missing n : ℕ) → gone + n ≡ length b → missing ≡ need - gone → NeedsMore d b need
+    → OnFalse (nat_le missing n) (SpellsNone d b)
+none_short d b need gone missing n len is h =
+    elim (cases_Bool (nat_le missing n)) [
       | inl enough ↦ rw enough tt
       | inr short ↦
-          let fewer : length b < need = omega (arith, leb-false need n short, len) in
+          let fewer : length b < need = omega (arith, leb-false missing n short, len, is) in
           rw short (spells_none d b need h fewer)
     ]
 

@@ -15,7 +15,6 @@ ghost use Rattle.session_book.specs.BookInside.{ChangesAt};
 
 use crate::causes::{EndCause, OpenFault, Received, Settled, Unasked, Unsettled};
 use crate::fault_line::FaultLine;
-use crate::load::Load;
 use crate::ready_queues::Task;
 use crate::session::{MAX_WAITING, Offer, Session};
 use crate::upkeep::{Tick, Upkeep, key_count};
@@ -180,10 +179,9 @@ impl Book {
         let Some(mut request) = read? else {
             return Ok(None);
         };
-        let key_bytes = open.key_bytes();
         self.numbered += 1;
         let number = self.numbered;
-        self.upkeep.asked(&mut request, number, key_bytes);
+        self.upkeep.asked(&mut request, number);
         self.unsettled
             .push_back_reserved(Unsettled { number, session });
         Ok(Some((request, number)))
@@ -214,7 +212,7 @@ impl Book {
         match kept {
             Ok(_) => Settled::Kept,
             Err(NoMemory) => {
-                remove(&mut self.sessions, session, &mut self.upkeep.load);
+                remove(&mut self.sessions, session, &mut self.upkeep);
                 Settled::Starved
             }
         }
@@ -276,7 +274,7 @@ impl Book {
     pub fn close(&mut self, session: u64)
         ensures { ChangesSession self.old self.new session None }
     {
-        remove(&mut self.sessions, session, &mut self.upkeep.load);
+        remove(&mut self.sessions, session, &mut self.upkeep);
     }
 
     /// An open session that has input or output left, or has finished, if there is one.
@@ -300,7 +298,7 @@ impl Book {
         if let Some(place) = find(&self.sessions, session, &mut self.upkeep.ready.place) {
             let (_, open) = self.sessions.pair_mut(place);
             open.ask_later(session, &mut self.upkeep.ready);
-            self.upkeep.load.yielded();
+            self.upkeep.counts.yielded();
         }
     }
 
@@ -346,9 +344,9 @@ impl Book {
         self.upkeep.count(tick);
     }
 
-    /// A lenient session whose client has stopped for ten seconds, as they were counted, if it holds
-    /// memory that others wait for: it took none of more than 16,384 bytes of output, or sent
-    /// no more of a large message.
+    /// A lenient session whose client has stopped for ten seconds, as they were counted, if it
+    /// holds memory that others wait for: it took none of more than 16,384 bytes of output, or
+    /// sent no more of a large message.
     pub fn find_stalled(&self) -> Option<u64>
         ensures { IfSome result (IsStalled self.now) }
     {
@@ -380,7 +378,7 @@ impl Book {
             return true;
         };
         match self.sessions.get_index(place) {
-            Some((_, open)) => self.upkeep.load.has_budget_for(open.large_need()),
+            Some((_, open)) => self.upkeep.rooms.has_budget_for(open.large_need()),
             None => true,
         }
     }
@@ -437,9 +435,7 @@ impl Book {
         ensures { self.new ≡ self.old }
     {
         let has_room = self.has_room_for_first();
-        self.upkeep
-            .ready
-            .take_to_ask(self.upkeep.load.is_free(), has_room)
+        self.upkeep.ready.take_to_ask(&self.upkeep.load, has_room)
     }
 
     /// Takes out the next session that is to be taken up for the task.
@@ -454,15 +450,9 @@ impl Book {
         self.upkeep.ready.count(task)
     }
 
-    /// How many bytes of output were given, over all sessions. After the greatest number it goes on
-    /// from 0.
-    pub fn written(&self) -> u64 {
-        self.upkeep.load.written()
-    }
-
     /// No session has anything to do.
     pub fn is_idle(&self) -> bool {
-        self.upkeep.ready.are_empty()
+        self.upkeep.ready.members == 0
     }
 
     /// Whether more than 255 keys stand in unsettled requests, over all sessions, or these are
@@ -484,8 +474,9 @@ impl Book {
             (Gauge::CurrConnections, self.sessions.len() as u64),
             (Gauge::TotalConnections, self.opened),
             (Gauge::RequestsInFlight, self.unsettled.len() as u64),
+            (Gauge::OutputBytes, self.upkeep.load.output as u64),
         ]);
-        self.upkeep.load.set_gauges(gauges);
+        self.upkeep.counts.set_gauges(gauges);
     }
 }
 
@@ -537,10 +528,10 @@ fn find(sessions: &IndexMap<u64, Session>, session: u64, place: &mut usize) -> O
 }
 
 /// Closes a session, if it is open. What is left of its input and its output counts no more.
-fn remove(sessions: &mut IndexMap<u64, Session>, session: u64, load: &mut Load)
+fn remove(sessions: &mut IndexMap<u64, Session>, session: u64, upkeep: &mut Upkeep)
     ensures { ChangesAt sessions.old.entries session None sessions.new.entries }
 {
     if let Some(open) = sessions.swap_remove(&session) {
-        open.forget(load);
+        open.forget(upkeep);
     }
 }

@@ -69,12 +69,12 @@ impl Buffer {
         &self.bytes.as_slice()[self.start..]
     }
 
-    /// Puts input after the others, with room for as many bytes as there have to be. None at all
-    /// needs no memory.
+    /// Puts input after the others, with room for so many bytes at least. None at all needs no
+    /// memory.
     pub fn append(
         &mut self,
         piece: &[u8],
-        need: usize,
+        room: usize,
         spares: &mut SpareBuffers,
     ) -> Result<(), NoMemory>
         ensures ok { OnOk result (self.new ≡ self.old ++ piece.now) }
@@ -84,8 +84,7 @@ impl Buffer {
             return Ok(());
         }
         spares.lend(Use::Input, &mut self.bytes);
-        let missing = need.saturating_sub(self.len());
-        self.bytes.reserve(missing.max(piece.len()))?;
+        self.bytes.reserve(room.max(piece.len()))?;
         self.bytes.extend_from_slice(piece)?;
         Ok(())
     }
@@ -153,7 +152,7 @@ impl Buffer {
         let before = self.bytes.len();
         pending.show(reply, &mut self.bytes)?;
         let shown = self.bytes.len().saturating_sub(before);
-        upkeep.load.showed_output(shown);
+        upkeep.load.output = upkeep.load.output.saturating_add(shown);
         Ok(())
     }
 

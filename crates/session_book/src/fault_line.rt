@@ -2,7 +2,7 @@
 
 use crate::input::Input;
 use bytes::Bytes;
-use proto::{FatalKind, Message};
+use proto::FatalKind;
 use std::alloc::Global;
 
 /// The most bytes of a line that are shown.
@@ -21,18 +21,14 @@ pub struct FaultLine {
 }
 
 impl FaultLine {
-    /// That of the message that the input begins with. None if it isn't fatal, or if memory is
-    /// missing.
-    pub(crate) fn copied(alloc: Global, message: &Message, input: &Input) -> Option<FaultLine> {
-        let Message::Fatal(kind) = message else {
-            return None;
-        };
+    /// That of the message of this kind that the input begins with. None if memory is missing.
+    pub(crate) fn copied(alloc: Global, kind: FatalKind, input: &Input) -> Option<FaultLine> {
         let most = match kind {
             FatalKind::Binary => BINARY_HEADER,
             _ => SHOWN,
         };
         let line = Bytes::copy_from_slice(alloc, first_line(input.kept(), most)).ok()?;
-        Some(FaultLine { kind: *kind, line })
+        Some(FaultLine { kind, line })
     }
 }
 

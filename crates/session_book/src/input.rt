@@ -1,7 +1,7 @@
 //! The unread bytes of a session, and what they begin with. Those of a message whose item is too
 //! large are dropped as they come.
 
-ghost use Rattle.std.specs.Prelude.{◌≡◌, ◌≤◌, ◌<◌, [], ◌++◌, length, drop, Ok, IfOk, OnOk, OnErr};
+ghost use Rattle.std.specs.Prelude.{◌≡◌, ◌≤◌, ◌<◌, ◌+◌, [], ◌++◌, length, drop, Ok, IfOk, OnOk, OnErr};
 ghost use Rattle.std.specs.Prelude.{option_map};
 ghost use Rattle.std.specs.Bool.{OnTrue, OnFalse};
 ghost use Rattle.proto.specs.declared.message.Message.{Message};
@@ -127,23 +127,22 @@ impl Input {
         ensures few { OnFalse result (length self.now.unread < self.now.need) }
         ensures none { OnFalse result (SpellsNone self.now.dialect self.now.unread) }
     {
-        if self.need > self.dialect.most_kept() {
-            self.dropped == self.need
-        } else {
-            self.kept.len() >= self.need
-        }
+        self.need.saturating_sub(self.dropped) <= self.kept.len()
     }
 
-    /// How many unread bytes are kept at most.
-    pub fn most_unread(&self) -> usize
-        ensures value { result ≡ max_unread self.now.dialect self.now.need }
-        ensures some { 262144 ≤ result }
+    /// Whether so many more bytes may be kept.
+    pub fn has_room_for(&self, n: usize) -> bool
+        ensures room { OnTrue result (kept_length self.now.dialect self.now.unread self.now.need + n
+            ≤ max_unread self.now.dialect self.now.need) }
+        ensures full { OnFalse result (max_unread self.now.dialect self.now.need
+            < kept_length self.now.dialect self.now.unread self.now.need + n) }
     {
-        if self.need > self.dialect.most_kept() {
+        let most = if self.need > self.dialect.most_kept() {
             MAX_UNREAD
         } else {
             MAX_UNREAD.max(self.need + BESIDE_MESSAGE)
-        }
+        };
+        n <= most && self.kept.len() <= most - n
     }
 
     /// The bytes of the message that the unread ones begin, if it is kept and needs room of its
@@ -170,23 +169,20 @@ impl Input {
         self.kept.len().saturating_add(self.dropped)
     }
 
-    /// How many bytes there is to be room for: those that the message needs, but if these are many,
-    /// no more than twice as many as have come. So what has only begun takes little memory.
-    fn room(&self) -> usize {
-        self.need
-            .min(self.kept.len().saturating_mul(2).max(ROOM_AT_ONCE))
-    }
-
-    /// Puts a piece after the others. What is still to be dropped of a message is dropped.
+    /// Puts a piece after the others. There is then room for the bytes that the message needs, but
+    /// if these are many, for no more than twice as many as have come: so what has only begun takes
+    /// little memory. What is still to be dropped of a message is dropped.
     pub fn append(&mut self, piece: &[u8], spares: &mut SpareBuffers) -> Result<(), NoMemory>
         ensures ok { OnOk result (self.new ≡ record self.old { unread = self.old.unread ++ piece.now }) }
         ensures err { OnErr result (self.new ≡ self.old) }
     {
         if self.need <= self.dialect.most_kept() {
-            let need = self.large_need();
-            self.kept.enlarge(need, spares);
-            let room = self.room();
-            return self.kept.append(piece, room, spares);
+            if self.need > MAX_SMALL_MESSAGE {
+                self.kept.enlarge(self.need, spares);
+            }
+            let come = self.kept.len();
+            let most = self.need.min(come.saturating_mul(2).max(ROOM_AT_ONCE));
+            return self.kept.append(piece, most.saturating_sub(come), spares);
         }
         let (front, behind) = piece.split_at((self.need - self.dropped).min(piece.len()));
         self.kept.append(behind, 0, spares)?;

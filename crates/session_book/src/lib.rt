@@ -5,11 +5,13 @@
 mod book;
 mod buffer;
 mod causes;
+mod counts;
 mod fault_line;
 mod input;
 pub mod laws;
 mod load;
 mod ready_queues;
+mod rooms;
 mod session;
 mod upkeep;
 

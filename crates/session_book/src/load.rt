@@ -1,7 +1,6 @@
-//! How much is unfinished in all sessions of a book, and what it counts for `stats`.
+//! How much is unfinished in all sessions of a book.
 
-use proto::{FatalKind, Gauge, Gauges, LocalKind, Message, WINDOW};
-use std::mem;
+use proto::WINDOW;
 
 /// The bytes up to which an answer is small: it waits for no room.
 pub const SMALL_ANSWER: usize = 16_384;
@@ -25,95 +24,6 @@ pub const MAX_KEYS: usize = 255;
 /// answer is small.
 pub const OUTPUT_BUDGET: usize = 67_108_864;
 
-/// The bytes of large messages for which there is room, over all sessions. A session whose message
-/// would exceed them isn't read on.
-const INPUT_BUDGET: usize = 67_108_864;
-
-/// The bytes of large messages that come at once if it is more than one of them, as long as their
-/// clients send fast: so they stand in the processor's cache until they are whole, and others wait
-/// for few of their pieces.
-const INPUT_AT_ONCE: usize = 1_048_576;
-
-/// The room of a large message, and how often room had aged when it was reserved.
-#[derive(Clone, Copy, Default)]
-pub(crate) struct Room {
-    bytes: usize,
-    age: u64,
-}
-
-impl Room {
-    pub(crate) fn is_reserved(&self) -> bool {
-        self.bytes > 0
-    }
-}
-
-/// The room that is reserved for large messages. What was reserved before room aged twice is of
-/// clients that send slowly or have stopped. As much as that may come at once beside them, so soon
-/// all have room that one budget has.
-#[derive(Clone, Copy, Default)]
-struct Rooms {
-    new: usize,
-    /// What was reserved before room aged last.
-    aged: usize,
-    slow: usize,
-    /// How often room has aged.
-    age: u64,
-}
-
-impl Rooms {
-    /// What comes fast, as far as is known.
-    fn coming(&self) -> usize {
-        self.new.saturating_add(self.aged)
-    }
-
-    /// Whether there is room for so many bytes more.
-    fn has_budget_for(&self, n: usize) -> bool {
-        let reserved = self.coming().saturating_add(self.slow);
-        reserved.saturating_add(n) <= INPUT_BUDGET
-    }
-
-    /// Whether so many bytes more may come now.
-    fn has_room_for(&self, n: usize) -> bool {
-        let coming = self.coming();
-        let most = INPUT_AT_ONCE.max(self.slow);
-        self.has_budget_for(n) && (coming == 0 || coming.saturating_add(n) <= most)
-    }
-
-    /// All room ages.
-    fn grow_old(&mut self) {
-        self.slow = self.slow.saturating_add(self.aged);
-        self.aged = mem::take(&mut self.new);
-        self.age = self.age.saturating_add(1);
-    }
-
-    /// The message of this room has come, or doesn't any more.
-    fn release(&mut self, room: Room) {
-        match self.age.saturating_sub(room.age) {
-            0 => self.new = self.new.saturating_sub(room.bytes),
-            1 => self.aged = self.aged.saturating_sub(room.bytes),
-            _ => self.slow = self.slow.saturating_sub(room.bytes),
-        }
-    }
-}
-
-/// What a book counts for `stats`. After the greatest number a count goes on from 0.
-#[derive(Clone, Copy, Default)]
-struct BookCounts {
-    /// Bytes that came of open sessions.
-    read: u64,
-    /// Bytes of output that were given.
-    written: u64,
-    /// Bytes of open sessions that no message was read from yet.
-    unread: u64,
-    unknown: u64,
-    bad_lines: u64,
-    malformed: u64,
-    binary: u64,
-    too_large: u64,
-    /// How often a session that may have further requests was set aside.
-    yields: u64,
-}
-
 /// The bytes that a key is likely to take in an answer: what each took in the last one, or half of
 /// what it was before, if that is more.
 #[derive(Clone, Copy, Default)]
@@ -135,8 +45,7 @@ impl KeyBytes {
     }
 }
 
-/// How much is unfinished in all sessions of a book, and what it counts for `stats`. No clause
-/// speaks of it.
+/// How much is unfinished in all sessions of a book. No clause speaks of it.
 #[derive(Clone, Copy)]
 pub(crate) struct Load {
     /// The keys of unsettled requests.
@@ -151,8 +60,6 @@ pub(crate) struct Load {
     pub(crate) output: usize,
     /// The bytes that output and the answers on their way may take.
     pub(crate) output_budget: usize,
-    rooms: Rooms,
-    counts: BookCounts,
 }
 
 impl Load {
@@ -164,8 +71,6 @@ impl Load {
             key_bytes: KeyBytes::default(),
             output: 0,
             output_budget: OUTPUT_BUDGET,
-            rooms: Rooms::default(),
-            counts: BookCounts::default(),
         }
     }
 
@@ -208,57 +113,6 @@ impl Load {
         likely > LARGE_ANSWER
     }
 
-    /// So many bytes came of an open session.
-    pub(crate) fn received(&mut self, n: usize) {
-        self.counts.read = self.counts.read.wrapping_add(n as u64);
-    }
-
-    /// So many bytes are to be read.
-    pub(crate) fn fed(&mut self, n: usize) {
-        self.counts.unread = self.counts.unread.wrapping_add(n as u64);
-    }
-
-    /// Reserves room for a message of so many bytes. None if there is none now.
-    pub(crate) fn reserve(&mut self, n: usize) -> Option<Room> {
-        let rooms = &mut self.rooms;
-        if !rooms.has_room_for(n) {
-            return None;
-        }
-        rooms.new = rooms.new.saturating_add(n);
-        Some(Room {
-            bytes: n,
-            age: rooms.age,
-        })
-    }
-
-    /// Whether there may be room for a message of so many bytes before another one has come.
-    pub(crate) fn has_budget_for(&self, n: usize) -> bool {
-        self.rooms.has_budget_for(n)
-    }
-
-    /// The room of large messages ages.
-    pub(crate) fn grow_old(&mut self) {
-        self.rooms.grow_old();
-    }
-
-    /// A message of this length was read, for which this room was reserved.
-    pub(crate) fn read(&mut self, message: &Message, length: usize, room: Room) {
-        self.rooms.release(room);
-        let counts = &mut self.counts;
-        counts.unread = counts.unread.wrapping_sub(length as u64);
-        match message {
-            Message::Ask(..) | Message::Quit => {}
-            Message::Local(LocalKind::Unknown) => counts.unknown = counts.unknown.wrapping_add(1),
-            Message::Local(LocalKind::BadLine) => {
-                counts.bad_lines = counts.bad_lines.wrapping_add(1);
-            }
-            Message::Local(LocalKind::TooLarge(_)) => self.refused_item(),
-            Message::Local(_) => {}
-            Message::Fatal(FatalKind::Binary) => counts.binary = counts.binary.wrapping_add(1),
-            Message::Fatal(_) => counts.malformed = counts.malformed.wrapping_add(1),
-        }
-    }
-
     /// Whether so much is on its way that one request at a time goes on.
     pub(crate) fn is_crowded(&self) -> bool {
         self.keys > MAX_KEYS || self.coming > MAX_COMING
@@ -278,56 +132,5 @@ impl Load {
         let likely = self.coming_of[(number % WINDOW) as usize];
         self.coming = self.coming.saturating_sub(likely);
         self.key_bytes.took(keys, length);
-    }
-
-    /// A storage command was refused as too large.
-    pub(crate) fn refused_item(&mut self) {
-        self.counts.too_large = self.counts.too_large.wrapping_add(1);
-    }
-
-    /// A session that may have further requests is asked later.
-    pub(crate) fn yielded(&mut self) {
-        self.counts.yields = self.counts.yields.wrapping_add(1);
-    }
-
-    /// How many bytes of output were given.
-    pub(crate) fn written(&self) -> u64 {
-        self.counts.written
-    }
-
-    /// So many bytes of output are to be given.
-    pub(crate) fn showed_output(&mut self, n: usize) {
-        self.output = self.output.saturating_add(n);
-    }
-
-    /// So many bytes of output were given.
-    pub(crate) fn gave_output(&mut self, n: usize) {
-        self.output = self.output.saturating_sub(n);
-        self.counts.written = self.counts.written.wrapping_add(n as u64);
-    }
-
-    /// So many bytes of input and of output count no more, nor does the room that was reserved:
-    /// their session is closed.
-    pub(crate) fn forget(&mut self, unread: usize, output: usize, room: Room) {
-        self.output = self.output.saturating_sub(output);
-        self.rooms.release(room);
-        self.counts.unread = self.counts.unread.wrapping_sub(unread as u64);
-    }
-
-    /// Sets the gauges of what it counted.
-    pub(crate) fn set_gauges(&self, gauges: &Gauges) {
-        let counts = &self.counts;
-        gauges.set(&[
-            (Gauge::BytesRead, counts.read),
-            (Gauge::BytesWritten, counts.written),
-            (Gauge::InputBytes, counts.unread),
-            (Gauge::OutputBytes, self.output as u64),
-            (Gauge::StoreTooLarge, counts.too_large),
-            (Gauge::UnknownCommands, counts.unknown),
-            (Gauge::BadLines, counts.bad_lines),
-            (Gauge::ClosedMalformed, counts.malformed),
-            (Gauge::ClosedBinary, counts.binary),
-            (Gauge::ConnYields, counts.yields),
-        ]);
     }
 }

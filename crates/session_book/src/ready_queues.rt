@@ -1,6 +1,7 @@
 //! Which sessions have something to do, as a held piece to feed, input to ask from or output to
 //! give.
 
+use crate::load::Load;
 use proto::WINDOW;
 use std::alloc::{AllocError, Global};
 use std::collections::VecDeque;
@@ -91,7 +92,7 @@ pub(crate) struct ReadyQueues {
     /// By their tasks. The memory for a session is reserved when it is opened.
     queues: [ReadyQueue; TASKS],
     /// How many sessions stand in all of them.
-    members: usize,
+    pub(crate) members: usize,
     /// Where the session that was found last, or taken out of a queue, stands in the table.
     pub(crate) place: usize,
     /// How many sessions were taken out to be asked while another one waited for its turn.
@@ -192,7 +193,7 @@ impl ReadyQueues {
     /// or for the answers on their way, comes if no other is to be asked, or once as many others as
     /// a window has requests went before it. If a large answer is on its way then, none is taken
     /// out until it has come, so that it doesn't wait for ever.
-    pub(crate) fn take_to_ask(&mut self, is_free: bool, has_room: bool) -> Option<u64> {
+    pub(crate) fn take_to_ask(&mut self, load: &Load, has_room: bool) -> Option<u64> {
         self.let_in = None;
         if !has_room && self.count(Task::AskLarge) == 0 {
             self.passed = 0;
@@ -202,7 +203,7 @@ impl ReadyQueues {
             self.passed = self.passed.saturating_add(1);
             return self.take(Task::Ask);
         }
-        if !is_free {
+        if !load.is_free() {
             return None;
         }
         let task = if has_room {
@@ -233,11 +234,6 @@ impl ReadyQueues {
     /// How many sessions are to be taken up for the task.
     pub(crate) fn count(&self, task: Task) -> usize {
         self.queues[task as usize].sessions.len()
-    }
-
-    /// No session has anything to do.
-    pub(crate) fn are_empty(&self) -> bool {
-        self.members == 0
     }
 
     /// No session has anything to do, but for those that wait for room or for their clients.

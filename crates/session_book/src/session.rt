@@ -15,8 +15,9 @@ use crate::buffer::{Buffer, Use};
 use crate::causes::{EndCause, Received, Unasked, Unsettled};
 use crate::fault_line::FaultLine;
 use crate::input::{Found, Input};
-use crate::load::{KeyBytes, Load, Room, SMALL_ANSWER};
+use crate::load::{KeyBytes, SMALL_ANSWER};
 use crate::ready_queues::{ReadyQueues, Task, Tickets};
+use crate::rooms::Room;
 use crate::upkeep::{Upkeep, Waiting};
 use bytes::Bytes;
 use proto::{Dialect, Message, NoMemory, PendingAnswer, Reply, Request};
@@ -120,7 +121,7 @@ impl Session {
     pub fn receive(&mut self, session: u64, piece: Bytes, upkeep: &mut Upkeep) -> Received
         ensures { TakesPiece self.old piece result self.new }
     {
-        upkeep.load.received(piece.len());
+        upkeep.counts.received(piece.len());
         self.received_at = upkeep.seconds;
         if self.held.is_some() {
             return Received::Refused;
@@ -159,12 +160,11 @@ impl Session {
         ensures not_fed { (result ≡ Ok true → ⊥) → self.new ≡ self.old }
     {
         if self.ended.is_none() {
-            let most = self.input.most_unread();
-            if piece.len() > most || self.input.kept().len() > most - piece.len() {
+            if !self.input.has_room_for(piece.len()) {
                 return Ok(false);
             }
             self.input.append(piece, &mut upkeep.spares)?;
-            upkeep.load.fed(piece.len());
+            upkeep.counts.fed(piece.len());
             if !self.input.has_enough() {
                 return Ok(true);
             }
@@ -197,24 +197,26 @@ impl Session {
         match self.input.next(self.alloc, &mut upkeep.spares)? {
             Found::Nothing => Ok(None),
             Found::Copied(message, length) => {
-                self.waiting = waiting_of(&message, self.key_bytes, upkeep);
+                self.waiting = upkeep.waiting(&message, self.key_bytes);
                 if self.waiting.is_some() {
                     self.input.hold(self.alloc, message, length);
                     return Err(Unasked::Waits);
                 }
                 put_behind(&mut self.queue, &mut self.output, &message, upkeep)?;
-                upkeep.fault = FaultLine::copied(self.alloc, &message, &self.input);
+                if let Message::Fatal(kind) = &message {
+                    upkeep.fault = FaultLine::copied(self.alloc, *kind, &self.input);
+                }
                 self.input.take(length, &mut upkeep.spares);
-                let room = mem::take(&mut self.room);
-                upkeep.load.read(&message, length, room);
+                upkeep.counts.read(&message, length);
+                upkeep.rooms.release(mem::take(&mut self.room));
                 self.ended = cause_of(&message);
                 Ok(Some(message))
             }
             Found::Taken(request, noreply, length) => {
                 let message = Message::Ask(request, noreply);
                 self.queue.push_back_reserved(PendingAnswer::of(&message));
-                let room = mem::take(&mut self.room);
-                upkeep.load.read(&message, length, room);
+                upkeep.counts.read(&message, length);
+                upkeep.rooms.release(mem::take(&mut self.room));
                 Ok(Some(message))
             }
         }
@@ -249,7 +251,9 @@ impl Session {
     pub fn join_queues(&mut self, session: u64, upkeep: &mut Upkeep)
         ensures { self.new ≡ self.old }
     {
-        self.reserve_room(session, upkeep);
+        if self.input.large_need() > 0 {
+            self.reserve_room(session, upkeep);
+        }
         let ready = &mut upkeep.ready;
         if self.held.is_some() && self.has_room() && !ready.has(self.tickets.read) {
             ready.add(Task::Feed, session, &mut self.tickets.feed);
@@ -269,12 +273,11 @@ impl Session {
     fn reserve_room(&mut self, session: u64, upkeep: &mut Upkeep)
         ensures { self.new ≡ self.old }
     {
-        let needed = self.input.large_need();
-        if needed == 0 || self.room.is_reserved() || upkeep.ready.has(self.tickets.read) {
+        if self.room.is_reserved() || upkeep.ready.has(self.tickets.read) {
             return;
         }
         if upkeep.ready.none_waits_to_read() {
-            if let Some(room) = upkeep.load.reserve(needed) {
+            if let Some(room) = upkeep.rooms.reserve(self.input.large_need()) {
                 self.room = room;
                 return;
             }
@@ -298,7 +301,7 @@ impl Session {
         ensures same { self.new ≡ self.old }
         ensures none_held { OnTrue result (self.old.held ≡ []) }
     {
-        match upkeep.load.reserve(self.input.large_need()) {
+        match upkeep.rooms.reserve(self.input.large_need()) {
             Some(room) => self.room = room,
             None if has_ended => {}
             None => return false,
@@ -324,7 +327,7 @@ impl Session {
 
     /// Whether it is worth feeding. A session that has ended drops what it is fed.
     fn has_room(&self) -> bool {
-        self.ended.is_some() || self.input.kept().len() <= self.input.most_unread() - WORTH_FEEDING
+        self.ended.is_some() || self.input.has_room_for(WORTH_FEEDING)
     }
 
     /// Gives the first request of the queue, for so many keys, its reply. It answers how many bytes
@@ -340,13 +343,13 @@ impl Session {
         ensures ok { OnOk result (self.new ≡ with_reply self.old reply.old) }
         ensures silent { said self.old.queue (reply.old ∷ []) ≡ [] → IsOk result }
     {
-        let before = self.output.len();
+        let before = upkeep.load.output;
         match answer_first(&mut self.queue, reply, &mut self.output, upkeep) {
             Ok(()) => {
                 upkeep
                     .ready
                     .add(Task::Give, session, &mut self.tickets.give);
-                let length = self.output.len().saturating_sub(before);
+                let length = upkeep.load.output.saturating_sub(before);
                 self.key_bytes.took(keys, length);
                 Ok(length)
             }
@@ -391,7 +394,8 @@ impl Session {
         ensures read { HasReadAll (Some self.new) result }
     {
         let left = self.output.discard(n, Use::Output, &mut upkeep.spares);
-        upkeep.load.gave_output(n);
+        upkeep.load.output = upkeep.load.output.saturating_sub(n);
+        upkeep.counts.gave(n);
         if n > 0 && left.saturating_add(n) > MAX_WAITING {
             upkeep.ready.add(Task::Ask, session, &mut self.tickets.ask);
         }
@@ -430,8 +434,10 @@ impl Session {
     }
 
     /// What is left of its input and its output counts no more: the session is closed.
-    pub fn forget(&self, load: &mut Load) {
-        load.forget(self.input.len(), self.output.len(), self.room);
+    pub fn forget(&self, upkeep: &mut Upkeep) {
+        upkeep.counts.forget(self.input.len());
+        upkeep.rooms.release(self.room);
+        upkeep.load.output = upkeep.load.output.saturating_sub(self.output.len());
     }
 
     /// No more input comes.
@@ -455,11 +461,6 @@ impl Session {
     /// The bytes of the large message for which it waits to be read on, if it does; else 0.
     pub fn large_need(&self) -> usize {
         self.input.large_need()
-    }
-
-    /// What keys took in the last answer.
-    pub fn key_bytes(&self) -> KeyBytes {
-        self.key_bytes
     }
 
     /// Whether its client has stopped for some seconds while it holds memory that others wait for:
@@ -518,17 +519,6 @@ impl Session {
             && self.held().is_empty()
             && self.finished().is_none()
             && !self.is_ready()
-    }
-}
-
-/// What a message waits for before it is asked, if keys took so much in the last answer of its
-/// session: none but a `get` or a `gat` does.
-fn waiting_of(message: &Message, own: KeyBytes, upkeep: &mut Upkeep) -> Option<Waiting> {
-    match message {
-        Message::Ask(Request::Get { keys, .. } | Request::GetAndTouch { keys, .. }, _) => {
-            upkeep.waiting(keys.len(), own)
-        }
-        _ => None,
     }
 }
 

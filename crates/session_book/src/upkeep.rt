@@ -3,11 +3,13 @@
 ghost use Rattle.std.specs.Prelude.{◌≡◌};
 
 use crate::buffer::{LARGE_MESSAGE, SpareBuffers, Use};
+use crate::counts::BookCounts;
 use crate::fault_line::FaultLine;
 use crate::input::ROOM_AT_ONCE;
 use crate::load::{KeyBytes, Load};
 use crate::ready_queues::{ReadyQueues, Task};
-use proto::{Answered, Keys, Reply, Request};
+use crate::rooms::Rooms;
+use proto::{Answered, Message, Reply, Request};
 use std::alloc::Global;
 
 /// What has passed while sessions waited for memory.
@@ -33,26 +35,19 @@ pub(crate) struct Waiting {
     pub(crate) likely: usize,
 }
 
-/// The keys whose hits a request shows, if it is one that shows hits.
-fn shown_keys(request: &Request) -> Option<&Keys> {
-    match request {
-        Request::Get { keys, .. } | Request::GetAndTouch { keys, .. } => Some(keys),
-        _ => None,
-    }
-}
-
 /// How many keys a request is to show.
 pub(crate) fn key_count(request: &Request) -> usize {
-    match shown_keys(request) {
-        Some(keys) => keys.len(),
-        None => 0,
+    match request {
+        Request::Get { keys, .. } | Request::GetAndTouch { keys, .. } => keys.len(),
+        _ => 0,
     }
 }
 
-/// Which sessions have something to do, how much is unfinished in all of them, and the memory of
-/// buffers that are empty. No clause speaks of it.
+/// Which sessions have something to do, how much is unfinished in all of them, what is counted for
+/// `stats`, and the memory of buffers that are empty. No clause speaks of it.
 #[derive(Drop)]
 pub(crate) struct Upkeep {
+    alloc: Global,
     pub(crate) ready: ReadyQueues,
     /// Whether the session that was asked last can be read further.
     pub(crate) reads_on: bool,
@@ -60,6 +55,10 @@ pub(crate) struct Upkeep {
     pub(crate) asked: u64,
     pub(crate) fault: Option<FaultLine>,
     pub(crate) load: Load,
+    /// The bytes that the answer to the `get` that was read last is likely to take.
+    likely: usize,
+    pub(crate) rooms: Rooms,
+    pub(crate) counts: BookCounts,
     /// The seconds that were counted.
     pub(crate) seconds: u64,
     pub(crate) spares: SpareBuffers,
@@ -68,23 +67,34 @@ pub(crate) struct Upkeep {
 impl Upkeep {
     pub(crate) fn new(alloc: Global) -> Upkeep {
         Upkeep {
+            alloc,
             ready: ReadyQueues::new(alloc),
             reads_on: false,
             asked: 0,
             fault: None,
             load: Load::new(),
+            likely: 0,
+            rooms: Rooms::default(),
+            counts: BookCounts::default(),
             seconds: 0,
             spares: SpareBuffers::new(alloc),
         }
     }
 
-    /// What a `get` for so many keys waits for, if keys took so much in the last answer of its
-    /// session; none if it is to be asked now. None goes before one that waits for room, but those
-    /// whose answers are small. One whose answer is likely to be large lets the others go first
-    /// that are to be asked.
-    pub(crate) fn waiting(&mut self, keys: usize, own: KeyBytes) -> Option<Waiting> {
+    /// What a message waits for, if keys took so much in the last answer of its session; none if it
+    /// is to be asked now, as all are but a `get` or a `gat`. None of these goes before one that
+    /// waits for room, but those whose answers are small. One whose answer is likely to be large
+    /// lets the others go first that are to be asked.
+    pub(crate) fn waiting(&mut self, message: &Message, own: KeyBytes) -> Option<Waiting> {
+        let keys = match message {
+            Message::Ask(Request::Get { keys, .. } | Request::GetAndTouch { keys, .. }, _) => {
+                keys.len()
+            }
+            _ => return None,
+        };
         let let_in = self.ready.let_in.take();
         let likely = self.load.likely(keys, own);
+        self.likely = likely;
         if matches!(let_in, Some(Task::AskForRoom)) || self.load.is_small(keys, likely, own) {
             return None;
         }
@@ -114,23 +124,23 @@ impl Upkeep {
         match tick {
             Tick::Sixteenth => {}
             Tick::Second => self.seconds = self.seconds.saturating_add(1),
-            Tick::Idle => self.load.grow_old(),
+            Tick::Idle => self.rooms.grow_old(),
         }
-        self.load.grow_old();
+        self.rooms.grow_old();
     }
 
-    /// Counts the keys of a `get` that is asked with this number, and lends it a spare buffer for
-    /// its hits. Keys took so much in the last answer of its session.
-    pub(crate) fn asked(&mut self, request: &mut Request, number: u64, own: KeyBytes)
+    /// Counts the request that was read last and is asked with this number, and its keys. A `get`
+    /// is lent a spare buffer for its hits.
+    pub(crate) fn asked(&mut self, request: &mut Request, number: u64)
         ensures { request.new ≡ request.old }
     {
-        let Some(keys) = shown_keys(request) else {
+        let keys = key_count(request);
+        if keys == 0 {
             self.load.asked(number, 0, 0);
             return;
-        };
-        let count = keys.len();
-        let mut hits = Vec::new(keys.allocator());
-        self.load.asked(number, count, self.load.likely(count, own));
+        }
+        self.load.asked(number, keys, self.likely);
+        let mut hits = Vec::new(self.alloc);
         self.spares.lend(Use::Hits, &mut hits);
         let _ = request.lend_buffer(hits);
     }
@@ -146,7 +156,7 @@ impl Upkeep {
         } = answered;
         self.load.settled(number, keys, length);
         if matches!(reply, Reply::TooLarge) {
-            self.load.refused_item();
+            self.counts.refused_item();
         }
         if let Some(bytes) = reply.into_buffer() {
             self.spares.keep(Use::Hits, bytes);

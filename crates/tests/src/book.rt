@@ -287,8 +287,7 @@ const ROWS: [Row; 11] = [
         found: None,
         parts: &[(1, &[Open(5), Known(5), Known(4), Known(0), Open(6)])],
     },
-    // A line that is answered without the cache stands in its place, and a silent one has no
-    // answer.
+    // A line that is answered without the cache stands in its place. A silent one has no answer.
     Row {
         name: "local lines are answered in their places",
         dialect: Dialect::Lenient(131_072),

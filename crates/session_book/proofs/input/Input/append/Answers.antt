@@ -9,7 +9,8 @@ use Rattle.session_book.proofs.input.Input.append.Goals as goal
 pub returns-clause-ok : goal.returns-clause-ok
 returns-clause-ok c =
     let i = c.self.inside in
-    let h = dropping i.dialect i.gone.items i.kept i.need (refused_by i.key i.noreply) c.self.invariant.3 (rw c.most_kept.ensures.value at c.if-self-most_kept.false) in
+    let h = dropping i.dialect i.gone.items i.kept i.need (refused_by i.key i.noreply) c.self.invariant.3
+    (rw c.most_kept.ensures.value at c.if-self-most_kept.false) in
     let few : c.min.result ≤ i.need - length i.gone.items = omega (arith, c.min.ensures, c.self.invariant.0) in
     with_unread c.args.self.now i.dialect (i.gone.items ++ i.kept) (c.note.new.self.items ++ c.append-2.new.self) i.need
     (λ (b : List ℕ). b ++ c.args.piece.now) c.self.view_is
@@ -21,7 +22,8 @@ returns-clause-ok c =
 pub invariant_of-self-2 : goal.invariant_of-self-2
 invariant_of-self-2 c =
     let i = c.self.inside in
-    let h = dropping i.dialect i.gone.items i.kept i.need (refused_by i.key i.noreply) c.self.invariant.3 (rw c.most_kept.ensures.value at c.if-self-most_kept.false) in
+    let h = dropping i.dialect i.gone.items i.kept i.need (refused_by i.key i.noreply) c.self.invariant.3
+    (rw c.most_kept.ensures.value at c.if-self-most_kept.false) in
     let few : c.min.result ≤ i.need - length i.gone.items = omega (arith, c.min.ensures, c.self.invariant.0) in
     let whole : c.note.new.self.items ++ c.append-2.new.self ≡ (i.gone.items ++ i.kept) ++ c.args.piece.now =
     ap (λ (x : List ℕ). x ++ c.append-2.new.self) c.note.ensures

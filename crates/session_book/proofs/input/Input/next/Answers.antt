@@ -13,7 +13,8 @@ use Rattle.session_book.proofs.input.Input.next.Goals as goal
 pub returns-then-self-most_kept : goal.returns-then-self-most_kept
 returns-then-self-most_kept c =
     let i = c.self.inside in
-    let h = dropping i.dialect i.gone.items i.kept i.need (refused_by i.key i.noreply) c.self.invariant.3 (rw c.most_kept.ensures.value at c.if-self-most_kept.true) in
+    let h = dropping i.dialect i.gone.items i.kept i.need (refused_by i.key i.noreply) c.self.invariant.3
+    (rw c.most_kept.ensures.value at c.if-self-most_kept.true) in
     let is = c.in_ok-message.ensures ∙ c.too_large-view.ensures ∙ ap (λ (key : Option (List ℕ)). refused_by key i.noreply) c.lent_key.ensures in (
       subst (λ (m : Message). Begins c.args.self.now m i.need) (sym is)
           (whole_dropped c.args.self.now i.dialect i.gone.items i.kept i.need (refused_by i.key i.noreply) c.self.view_is h c.requires),
@@ -41,14 +42,16 @@ overflow_sub-start c =
 pub invariant_of-self-then-is_worth_taking : goal.invariant_of-self-then-is_worth_taking
 invariant_of-self-then-is_worth_taking c =
     let i = c.self.inside in
-    taken_anew i.dialect i.gone.items i.kept c.take_part.new.self i.need i.dropped (refused_by i.key i.noreply) (refused_by i.key i.noreply) _ c.self.invariant.3
+    taken_anew i.dialect i.gone.items i.kept c.take_part.new.self i.need i.dropped (refused_by i.key i.noreply) (refused_by i.key i.noreply) _
+    c.self.invariant.3
     (rw c.most_kept.ensures.value at c.if-self-most_kept.false) c.self.invariant.0 (search rules)
 
 pub returns-in_ok-value-in-Found-Put-default : goal.returns-in_ok-value-in-Found-Put-default
 returns-in_ok-value-in-Found-Put-default c =
     let i = c.self.inside in let f = c.in-Found-Put-default in let seen = c.as_slice.result.now in
     let key = c.in_ok-key-in-Found-Put-default.key in let value = c.in_ok-value-in-Found-Put-default.value in
-    let none = none_gone i.dialect i.gone.items i.kept i.need (refused_by i.key i.noreply) c.self.invariant.3 (rw c.most_kept.ensures.value at c.if-self-most_kept.false) in
+    let none = none_gone i.dialect i.gone.items i.kept i.need (refused_by i.key i.noreply) c.self.invariant.3
+    (rw c.most_kept.ensures.value at c.if-self-most_kept.false) in
     let put : Put = record { key = f.head.key.now; flags = f.head.flags; exptime = f.head.exptime; value = f.data.now } in
     let spells : Spells i.dialect (take f.length seen) (message_by f.head.word f.head.unique put f.head.noreply) = search rules in
     let within : f.length ≤ length seen = (search rules) in

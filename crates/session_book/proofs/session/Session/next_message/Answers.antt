@@ -35,8 +35,8 @@ returns-in_err-put_behind-in-Copied-clause-tries c =
     let p = err_from_is_err_and c.from_residual-in_err-put_behind-in-Copied.result c.from_residual-in_err-put_behind-in-Copied.ensures.1 in
     rw p.1 (looked c.if-not-is_ready.ensures.ready (omega (arith, c.saturating_add.ensures)) (search rules))
 
-pub returns-in_ok-put_behind-in-Copied-clause-tries : goal.returns-in_ok-put_behind-in-Copied-clause-tries
-returns-in_ok-put_behind-in-Copied-clause-tries c =
+pub returns-after-message-3-clause-tries : goal.returns-after-message-3-clause-tries
+returns-after-message-3-clause-tries c =
     let found = rw c.in-Copied.is at c.in_ok-next.ensures in
     let m = c.in-Copied.message in
     let ready = c.if-not-is_ready.ensures.ready in

@@ -9,6 +9,7 @@ mod fault_line;
 mod input;
 pub mod laws;
 mod load;
+mod prepared;
 mod ready_queues;
 mod session;
 mod upkeep;

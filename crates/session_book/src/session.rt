@@ -16,6 +16,7 @@ use crate::causes::{EndCause, Received, Unasked, Unsettled};
 use crate::fault_line::FaultLine;
 use crate::input::{Found, Input};
 use crate::load::{KeyBytes, Load, Room, SMALL_ANSWER};
+use crate::prepared::is_very_large;
 use crate::ready_queues::{ReadyQueues, Task, Tickets};
 use crate::upkeep::{Upkeep, Waiting};
 use bytes::Bytes;
@@ -450,6 +451,17 @@ impl Session {
     /// The bytes that the answer to the `get` is likely to take that waits, if one does.
     pub fn likely_bytes(&self) -> usize {
         self.waiting.map_or(0, |waiting| waiting.likely)
+    }
+
+    /// Whether its `get` waits for those on their way alone, with an answer that is likely to be
+    /// very large.
+    pub fn waits_for_prepared(&self) -> bool {
+        match self.waiting {
+            Some(waiting) => {
+                matches!(waiting.task, Task::AskLarge) && is_very_large(waiting.likely)
+            }
+            None => false,
+        }
     }
 
     /// The bytes of the large message for which it waits to be read on, if it does; else 0.

@@ -6,8 +6,9 @@ use crate::buffer::{LARGE_MESSAGE, SpareBuffers, Use};
 use crate::fault_line::FaultLine;
 use crate::input::ROOM_AT_ONCE;
 use crate::load::{KeyBytes, Load};
+use crate::prepared::{PreparedMemory, is_very_large};
 use crate::ready_queues::{ReadyQueues, Task};
-use proto::{Answered, Keys, Reply, Request, SpareBuffer};
+use proto::{Answered, Dialect, Keys, Reply, Request, SpareBuffer};
 use std::alloc::Global;
 
 /// What has passed while sessions waited for memory.
@@ -49,6 +50,19 @@ pub(crate) fn key_count(request: &Request) -> usize {
     }
 }
 
+/// How many bytes the value has that a request was to store; none if there is no value.
+fn stored_bytes(request: &Request) -> Option<usize> {
+    match request {
+        Request::Set(item)
+        | Request::Add(item)
+        | Request::Replace(item)
+        | Request::Cas(item, _)
+        | Request::Append(item)
+        | Request::Prepend(item) => Some(item.value.as_slice().len()),
+        _ => None,
+    }
+}
+
 /// Which sessions have something to do, how much is unfinished in all of them, and the memory of
 /// buffers that are empty. No clause speaks of it.
 #[derive(Drop)]
@@ -63,10 +77,12 @@ pub(crate) struct Upkeep {
     /// The seconds that were counted.
     pub(crate) seconds: u64,
     pub(crate) spares: SpareBuffers,
+    /// Beside them, the memory of the very large answer that comes next.
+    prepared: PreparedMemory,
 }
 
 impl Upkeep {
-    pub(crate) fn new(alloc: Global) -> Upkeep {
+    pub(crate) fn new(alloc: Global, dialect: Dialect) -> Upkeep {
         Upkeep {
             ready: ReadyQueues::new(alloc),
             reads_on: false,
@@ -75,13 +91,14 @@ impl Upkeep {
             load: Load::new(),
             seconds: 0,
             spares: SpareBuffers::new(alloc),
+            prepared: PreparedMemory::new(alloc, dialect),
         }
     }
 
     /// What a `get` for so many keys waits for, if keys took so much in the last answer of its
     /// session; none if it is to be asked now. None goes before one that waits for room, but those
     /// whose answers are small. One whose answer is likely to be large lets the others go first
-    /// that are to be asked.
+    /// that are to be asked; and one with a very large answer waits until its memory is prepared.
     pub(crate) fn waiting(&mut self, keys: usize, own: KeyBytes) -> Option<Waiting> {
         let let_in = self.ready.let_in.take();
         let likely = self.load.likely(keys, own);
@@ -95,7 +112,8 @@ impl Upkeep {
                 likely,
             });
         }
-        let is_its_turn = let_in.is_some() || self.ready.none_is_to_ask();
+        let may_come = self.ready.none_is_to_ask() && self.is_prepared(likely);
+        let is_its_turn = let_in.is_some() || may_come;
         let goes_on = !self.load.is_large(likely) || (is_its_turn && self.load.is_free());
         (!goes_on).then_some(Waiting {
             task: Task::AskLarge,
@@ -119,8 +137,37 @@ impl Upkeep {
         self.load.grow_old();
     }
 
+    /// Whether the memory is there for an answer that is likely to take so much, if it is to be
+    /// prepared.
+    pub(crate) fn is_prepared(&self, likely: usize) -> bool {
+        self.prepared.is_enough(likely)
+    }
+
+    /// Takes a part of the memory for the answer to this session, which comes next and is likely to
+    /// take so much, if it is to be prepared and no large one is on its way. True if it did.
+    pub(crate) fn prepare(&mut self, session: u64, likely: usize) -> bool {
+        if self.is_prepared(likely) || !self.load.is_free() {
+            return false;
+        }
+        self.prepared.take_more(session, likely);
+        self.ready.hold_memory(true);
+        true
+    }
+
+    /// The session for whose answer memory is held, if some is.
+    pub(crate) fn prepared_for(&self) -> Option<u64> {
+        self.prepared.session()
+    }
+
+    /// The memory that is held for an answer, which is none any more.
+    pub(crate) fn give_prepared(&mut self) -> Vec<u8> {
+        self.ready.hold_memory(false);
+        self.prepared.give()
+    }
+
     /// Counts the keys of a `get` that is asked with this number, and lends it a spare buffer for
-    /// its hits. Keys took so much in the last answer of its session.
+    /// its hits, or the memory that was prepared. Keys took so much in the last answer of its
+    /// session.
     pub(crate) fn asked(&mut self, request: &mut Request, number: u64, own: KeyBytes)
         ensures { request.new ≡ request.old }
     {
@@ -130,13 +177,17 @@ impl Upkeep {
         };
         let count = keys.len();
         let mut hits = Vec::new(keys.allocator());
-        self.load.asked(number, count, self.load.likely(count, own));
+        let likely = self.load.likely(count, own);
+        self.load.asked(number, count, likely);
+        if is_very_large(likely) {
+            hits = self.give_prepared();
+        }
         self.spares.lend(Use::Hits, &mut hits);
         let _ = request.lend_buffer(SpareBuffer::from_vec(hits));
     }
 
     /// Uncounts so many keys of a request that was settled with so many bytes of output, and keeps
-    /// the memory of its hits for a `get`. That of a large value is kept for input.
+    /// the memory of its hits for a `get`, or that of its value.
     pub(crate) fn settled(&mut self, answered: Answered, keys: usize, length: usize) {
         let Answered {
             number,
@@ -150,6 +201,17 @@ impl Upkeep {
         }
         if let Some(spare) = reply.into_buffer() {
             self.spares.keep(Use::Hits, spare.into_bytes());
+        }
+        if keys == 0 {
+            self.keep_value(request);
+        }
+    }
+
+    /// Counts the value that was to be stored, if there is one, and keeps the memory of a large one
+    /// for input.
+    fn keep_value(&mut self, request: Request) {
+        if let Some(length) = stored_bytes(&request) {
+            self.load.stored(length);
         }
         if let Some(spare) = request.into_buffer() {
             let bytes = spare.into_bytes();

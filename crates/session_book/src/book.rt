@@ -16,7 +16,6 @@ ghost use Rattle.session_book.specs.BookInside.{ChangesAt};
 use crate::causes::{EndCause, OpenFault, Received, Settled, Unasked, Unsettled};
 use crate::fault_line::FaultLine;
 use crate::load::Load;
-use crate::prepared::is_very_large;
 use crate::ready_queues::Task;
 use crate::session::{MAX_WAITING, Offer, Session};
 use crate::upkeep::{Tick, Upkeep, key_count};
@@ -442,15 +441,15 @@ impl Book {
             return self.upkeep.ready.take_next();
         }
         let is_free = self.upkeep.load.is_free();
-        let (_, likely) = self.next_to_let_in(has_room);
-        let is_prepared = self.upkeep.is_prepared(likely);
+        let (_, needed) = self.next_to_let_in(has_room);
+        let is_prepared = self.upkeep.is_prepared(needed);
         self.upkeep
             .ready
             .take_to_ask(is_free, has_room, is_prepared)
     }
 
-    /// The session whose `get` waits and comes next, and the bytes that its answer is likely to
-    /// take; 0 if none may come, or it is closed.
+    /// The session whose `get` waits and comes next, and the bytes of memory that are to be taken
+    /// for it before; 0 if none may come, or it is closed.
     fn next_to_let_in(&self, has_room: bool) -> (u64, usize) {
         let task = if has_room {
             Task::AskForRoom
@@ -462,7 +461,7 @@ impl Book {
         };
         match find(&self.sessions, session, &mut place) {
             Some(place) => match self.sessions.get_index(place) {
-                Some((_, open)) => (session, open.likely_bytes()),
+                Some((_, open)) => (session, open.needed()),
                 None => (session, 0),
             },
             None => (session, 0),
@@ -476,22 +475,22 @@ impl Book {
         ensures { self.new ≡ self.old }
     {
         let has_room = self.has_room_for_first();
-        let (session, likely) = self.next_to_let_in(has_room);
-        if self.upkeep.prepare(session, likely) {
+        let (session, needed) = self.next_to_let_in(has_room);
+        if self.upkeep.prepare(session, needed) {
             return true;
         }
         let Some(session) = self.upkeep.prepared_for() else {
             return false;
         };
-        if is_very_large(likely) || self.waits_for_prepared(session) {
+        if needed > 0 || self.waits_for_prepared(session) {
             return false;
         }
         drop(self.upkeep.give_prepared());
         true
     }
 
-    /// Whether the `get` of this session waits for the answers on their way alone, and its own is
-    /// likely to be very large.
+    /// Whether the `get` of this session waits for no room, and memory is to be taken before it is
+    /// asked.
     fn waits_for_prepared(&self, session: u64) -> bool {
         match self.sessions.get(&session) {
             Some(open) => open.waits_for_prepared(),

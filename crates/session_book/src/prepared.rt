@@ -1,5 +1,6 @@
 //! The memory of a very large answer, which is taken before its `get` is asked.
 
+use crate::book::MAX_HIT;
 use proto::Dialect;
 use std::alloc::Global;
 use std::mem;
@@ -33,11 +34,6 @@ pub(crate) struct PreparedMemory {
     session: u64,
 }
 
-/// Whether an answer that is likely to take so much is very large.
-pub(crate) fn is_very_large(likely: usize) -> bool {
-    likely > VERY_LARGE
-}
-
 impl PreparedMemory {
     pub(crate) fn new(alloc: Global, dialect: Dialect) -> PreparedMemory {
         PreparedMemory {
@@ -52,23 +48,25 @@ impl PreparedMemory {
         }
     }
 
-    /// Whether a `get` whose answer is likely to take so many bytes may be asked: it needs no such
-    /// memory, or that was taken, as far as there is some.
-    pub(crate) fn is_enough(&self, likely: usize) -> bool {
-        !is_very_large(likely) || self.is_refused || self.missing(likely) == 0
+    /// How much memory is to be taken before a `get` for so many keys is asked, whose answer is
+    /// likely to take so many bytes; none unless it is very large.
+    pub(crate) fn needed(&self, keys: usize, likely: usize) -> usize {
+        let most = keys.saturating_mul(MAX_HIT).min(self.most);
+        if likely.min(most) <= VERY_LARGE {
+            return 0;
+        }
+        likely.saturating_add(likely / MORE_ROOM).min(most)
     }
 
-    /// How many bytes are still to be taken for a very large answer that is likely to take so many.
-    fn missing(&self, likely: usize) -> usize {
-        let needed = likely.saturating_add(likely / MORE_ROOM).min(self.most);
-        needed.saturating_sub(self.bytes.len())
+    /// Whether so much was taken, or all that there is.
+    pub(crate) fn is_enough(&self, needed: usize) -> bool {
+        self.bytes.len() >= needed || self.is_refused
     }
 
-    /// Takes more memory for the very large answer to a session, which is likely to take so many
-    /// bytes.
-    pub(crate) fn take_more(&mut self, session: u64, likely: usize) {
+    /// Takes more, until it is so much, for the `get` of a session.
+    pub(crate) fn take_more(&mut self, session: u64, needed: usize) {
         self.session = session;
-        let missing = self.missing(likely);
+        let missing = needed.saturating_sub(self.bytes.len());
         let written = self.bytes.len().saturating_add(missing.min(A_STEP));
         self.is_refused = self.bytes.reserve_exact(missing).is_err()
             || self.bytes.resize(written, 0).is_err();

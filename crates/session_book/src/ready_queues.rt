@@ -93,7 +93,7 @@ pub(crate) struct ReadyQueues {
     /// How many sessions stand in all of them; and one more while memory is held for an answer, so
     /// that its owner doesn't wait.
     members: usize,
-    holds_memory: bool,
+    pub(crate) holds_memory: bool,
     /// Where the session that was found last, or taken out of a queue, stands in the table.
     pub(crate) place: usize,
     /// How many sessions were taken out to be asked while another one waited for its turn.

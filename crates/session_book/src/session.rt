@@ -16,7 +16,6 @@ use crate::causes::{EndCause, Received, Unasked, Unsettled};
 use crate::fault_line::FaultLine;
 use crate::input::{Found, Input};
 use crate::load::{KeyBytes, Load, Room, SMALL_ANSWER};
-use crate::prepared::is_very_large;
 use crate::ready_queues::{ReadyQueues, Task, Tickets};
 use crate::upkeep::{Upkeep, Waiting};
 use bytes::Bytes;
@@ -453,13 +452,15 @@ impl Session {
         self.waiting.map_or(0, |waiting| waiting.likely)
     }
 
-    /// Whether its `get` waits for those on their way alone, with an answer that is likely to be
-    /// very large.
+    /// The bytes of memory that are to be taken before the `get` is asked that waits, if one does.
+    pub fn needed(&self) -> usize {
+        self.waiting.map_or(0, |waiting| waiting.needed)
+    }
+
+    /// Whether one waits that needs some, and waits for no room.
     pub fn waits_for_prepared(&self) -> bool {
         match self.waiting {
-            Some(waiting) => {
-                matches!(waiting.task, Task::AskLarge) && is_very_large(waiting.likely)
-            }
+            Some(waiting) => matches!(waiting.task, Task::AskLarge) && waiting.needed > 0,
             None => false,
         }
     }

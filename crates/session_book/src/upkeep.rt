@@ -6,7 +6,7 @@ use crate::buffer::{LARGE_MESSAGE, SpareBuffers, Use};
 use crate::fault_line::FaultLine;
 use crate::input::ROOM_AT_ONCE;
 use crate::load::{KeyBytes, Load};
-use crate::prepared::{PreparedMemory, is_very_large};
+use crate::prepared::PreparedMemory;
 use crate::ready_queues::{ReadyQueues, Task};
 use proto::{Answered, Dialect, Keys, Reply, Request, SpareBuffer};
 use std::alloc::Global;
@@ -32,6 +32,8 @@ pub(crate) struct Waiting {
     pub(crate) task: Task,
     /// The bytes that its answer is likely to take.
     pub(crate) likely: usize,
+    /// The bytes of memory that are to be taken for it before.
+    pub(crate) needed: usize,
 }
 
 /// The keys whose hits a request shows, if it is one that shows hits.
@@ -105,19 +107,22 @@ impl Upkeep {
         if matches!(let_in, Some(Task::AskForRoom)) || self.load.is_small(keys, likely, own) {
             return None;
         }
+        let needed = self.prepared.needed(keys, likely);
         let must_queue = self.ready.count(Task::AskForRoom) > 0;
         if must_queue || !self.load.has_room_for(likely) {
             return Some(Waiting {
                 task: Task::AskForRoom,
                 likely,
+                needed,
             });
         }
-        let may_come = self.ready.none_is_to_ask() && self.is_prepared(likely);
+        let may_come = self.ready.none_is_to_ask() && self.is_prepared(needed);
         let is_its_turn = let_in.is_some() || may_come;
         let goes_on = !self.load.is_large(likely) || (is_its_turn && self.load.is_free());
         (!goes_on).then_some(Waiting {
             task: Task::AskLarge,
             likely,
+            needed,
         })
     }
 
@@ -137,19 +142,18 @@ impl Upkeep {
         self.load.grow_old();
     }
 
-    /// Whether the memory is there for an answer that is likely to take so much, if it is to be
-    /// prepared.
-    pub(crate) fn is_prepared(&self, likely: usize) -> bool {
-        self.prepared.is_enough(likely)
+    /// Whether so much memory was taken, or all that there is.
+    pub(crate) fn is_prepared(&self, needed: usize) -> bool {
+        self.prepared.is_enough(needed)
     }
 
-    /// Takes a part of the memory for the answer to this session, which comes next and is likely to
-    /// take so much, if it is to be prepared and no large one is on its way. True if it did.
-    pub(crate) fn prepare(&mut self, session: u64, likely: usize) -> bool {
-        if self.is_prepared(likely) || !self.load.is_free() {
+    /// Takes a part of the memory that is needed for the `get` of a session, which comes next, if
+    /// some is missing and no large answer is on its way. True if it did.
+    pub(crate) fn prepare(&mut self, session: u64, needed: usize) -> bool {
+        if self.is_prepared(needed) || !self.load.is_free() {
             return false;
         }
-        self.prepared.take_more(session, likely);
+        self.prepared.take_more(session, needed);
         self.ready.hold_memory(true);
         true
     }
@@ -179,7 +183,7 @@ impl Upkeep {
         let mut hits = Vec::new(keys.allocator());
         let likely = self.load.likely(count, own);
         self.load.asked(number, count, likely);
-        if is_very_large(likely) {
+        if self.ready.holds_memory && self.prepared.needed(count, likely) > 0 {
             hits = self.give_prepared();
         }
         self.spares.lend(Use::Hits, &mut hits);

@@ -90,7 +90,7 @@ impl Book {
             greatest: 0,
             opened: 0,
             looks: 0,
-            upkeep: Upkeep::new(alloc),
+            upkeep: Upkeep::new(alloc, dialect),
         }
     }
 
@@ -430,12 +430,69 @@ impl Book {
 
     /// Takes out the next session that is to be asked. One whose `get` waits comes once it has room
     /// and no large answer is on its way, if no other is to be asked, or once as many others as a
-    /// window has requests went before it.
+    /// window has requests went before it. The memory of a very large answer is prepared before.
     pub fn next_to_ask(&mut self) -> Option<u64>
         ensures { self.new ≡ self.old }
     {
         let has_room = self.has_room_for_first();
-        self.upkeep.ready.take_to_ask(&self.upkeep.load, has_room)
+        if !has_room && self.upkeep.ready.count(Task::AskLarge) == 0 {
+            return self.upkeep.ready.take_next();
+        }
+        let (_, needed) = self.next_to_let_in(has_room);
+        let is_prepared = self.upkeep.is_prepared(needed);
+        self.upkeep
+            .ready
+            .take_to_ask(&self.upkeep.load, has_room, is_prepared)
+    }
+
+    /// The session whose `get` waits and comes next, and the bytes of memory that are to be taken
+    /// for it before; 0 if none may come, or it is closed.
+    fn next_to_let_in(&self, has_room: bool) -> (u64, usize) {
+        let task = if has_room {
+            Task::AskForRoom
+        } else {
+            Task::AskLarge
+        };
+        let Some((session, mut place)) = self.upkeep.ready.first(task) else {
+            return (0, 0);
+        };
+        match find(&self.sessions, session, &mut place) {
+            Some(place) => match self.sessions.get_index(place) {
+                Some((_, open)) => (session, open.needed()),
+                None => (session, 0),
+            },
+            None => (session, 0),
+        }
+    }
+
+    /// Takes a part of the memory for a very large answer, if that is what comes next of what
+    /// waits. What was taken for a session that waits no more, or for room, is freed. To be called
+    /// in each turn in which a session has something to do. True if something was done.
+    pub fn prepare_answer(&mut self) -> bool
+        ensures { self.new ≡ self.old }
+    {
+        let has_room = self.has_room_for_first();
+        let (session, needed) = self.next_to_let_in(has_room);
+        if self.upkeep.prepare(session, needed) {
+            return true;
+        }
+        let Some(session) = self.upkeep.prepared_for() else {
+            return false;
+        };
+        if needed > 0 || self.waits_for_prepared(session) {
+            return false;
+        }
+        drop(self.upkeep.give_prepared());
+        true
+    }
+
+    /// Whether the `get` of this session waits for no room, and memory is to be taken before it is
+    /// asked.
+    fn waits_for_prepared(&self, session: u64) -> bool {
+        match self.sessions.get(&session) {
+            Some(open) => open.waits_for_prepared(),
+            None => false,
+        }
     }
 
     /// Takes out the next session that is to be taken up for the task.

@@ -153,6 +153,11 @@ impl Buffer {
         pending.show(reply, &mut self.bytes)?;
         let shown = self.bytes.len().saturating_sub(before);
         upkeep.load.output = upkeep.load.output.saturating_add(shown);
+        // (the memory of the hits may have been prepared for many more)
+        let capacity = self.bytes.capacity();
+        if capacity > MAX_BYTES && capacity / 2 > self.bytes.len() {
+            self.bytes.shrink_to(MAX_BUFFER);
+        }
         Ok(())
     }
 

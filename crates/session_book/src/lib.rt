@@ -10,6 +10,7 @@ mod fault_line;
 mod input;
 pub mod laws;
 mod load;
+mod prepared;
 mod ready_queues;
 mod rooms;
 mod session;

@@ -12,6 +12,13 @@ const LARGE_ANSWER: usize = 262_144;
 /// request at a time goes on. So the others wait for about 1 MiB of them.
 const MAX_COMING: usize = 1_048_576;
 
+/// The keys from which on a `get` is for many: what they take is likely to be what those of the
+/// last one for many took.
+const MANY_KEYS: usize = 64;
+
+/// By how little of itself the size of stored values follows the last one.
+const STORED_SHARE: usize = 16;
+
 /// Keys of unsettled requests, over all sessions, above which one request at a time goes on,
 /// whatever their answers are likely to take. Up to then each key has a hit at most, and the last
 /// request one answer: so before they are put into outputs, their hits take no more than 40 MiB
@@ -29,6 +36,8 @@ pub const OUTPUT_BUDGET: usize = 67_108_864;
 #[derive(Clone, Copy, Default)]
 pub(crate) struct KeyBytes {
     bytes: usize,
+    /// The same, of the answers for many keys.
+    of_many: usize,
 }
 
 impl KeyBytes {
@@ -36,6 +45,9 @@ impl KeyBytes {
     pub(crate) fn took(&mut self, keys: usize, length: usize) {
         if keys > 0 {
             self.bytes = (length / keys).max(self.bytes / 2).max(1);
+            if keys >= MANY_KEYS {
+                self.of_many = (length / keys).max(self.of_many / 2).max(1);
+            }
         }
     }
 
@@ -56,6 +68,8 @@ pub(crate) struct Load {
     coming_of: [usize; WINDOW as usize],
     /// Over all sessions.
     key_bytes: KeyBytes,
+    /// The bytes of the values that were to be stored, on average over the last ones.
+    stored_bytes: usize,
     /// The bytes of output that weren't given yet.
     pub(crate) output: usize,
     /// The bytes that output and the answers on their way may take.
@@ -69,6 +83,7 @@ impl Load {
             coming: 0,
             coming_of: [0; WINDOW as usize],
             key_bytes: KeyBytes::default(),
+            stored_bytes: 0,
             output: 0,
             output_budget: OUTPUT_BUDGET,
         }
@@ -79,10 +94,25 @@ impl Load {
     /// taken to be small.
     pub(crate) fn likely(&self, keys: usize, own: KeyBytes) -> usize {
         match own.bytes {
+            _ if keys >= MANY_KEYS => keys.saturating_mul(self.likely_of_many(own)),
             0 if keys <= 1 => self.key_bytes.bytes.min(SMALL_ANSWER),
             0 => keys.saturating_mul(self.key_bytes.bytes),
             bytes => keys.saturating_mul(bytes),
         }
+    }
+
+    /// The bytes that each of many keys is likely to take. The first `get` for many of a session is
+    /// taken to show what the last one of all showed, or values as they were stored lately.
+    fn likely_of_many(&self, own: KeyBytes) -> usize {
+        if own.of_many > 0 {
+            return own.of_many;
+        }
+        let known = if own.is_known() {
+            own.bytes
+        } else {
+            self.key_bytes.bytes
+        };
+        known.max(self.key_bytes.of_many).max(self.stored_bytes)
     }
 
     /// Whether a `get` for so many keys goes on whatever waits, if keys took so much in the last
@@ -132,5 +162,15 @@ impl Load {
         let likely = self.coming_of[(number % WINDOW) as usize];
         self.coming = self.coming.saturating_sub(likely);
         self.key_bytes.took(keys, length);
+    }
+
+    /// A value of so many bytes was to be stored.
+    pub(crate) fn stored(&mut self, length: usize) {
+        let before = self.stored_bytes;
+        self.stored_bytes = if before == 0 {
+            length
+        } else {
+            (before - before / STORED_SHARE).saturating_add(length / STORED_SHARE)
+        };
     }
 }

@@ -91,8 +91,10 @@ impl Tickets {
 pub(crate) struct ReadyQueues {
     /// By their tasks. The memory for a session is reserved when it is opened.
     queues: [ReadyQueue; TASKS],
-    /// How many sessions stand in all of them.
+    /// How many sessions stand in all of them; and one more while memory is held for an answer, so
+    /// that its owner doesn't wait.
     pub(crate) members: usize,
+    pub(crate) holds_memory: bool,
     /// Where the session that was found last, or taken out of a queue, stands in the table.
     pub(crate) place: usize,
     /// How many sessions were taken out to be asked while another one waited for its turn.
@@ -116,6 +118,7 @@ impl ReadyQueues {
                 ReadyQueue::new(alloc),
             ],
             members: 0,
+            holds_memory: false,
             place: 0,
             passed: 0,
             let_in: None,
@@ -189,21 +192,40 @@ impl ReadyQueues {
         self.queues[task as usize].sessions.front().copied()
     }
 
+    /// Memory is held for an answer from now on, or none.
+    pub(crate) fn hold_memory(&mut self, is_held: bool) {
+        if is_held && !self.holds_memory {
+            self.members = self.members.saturating_add(1);
+        } else if self.holds_memory && !is_held {
+            self.members = self.members.saturating_sub(1);
+        }
+        self.holds_memory = is_held;
+    }
+
+    /// Takes out the next session that is to be asked, where none that waits may come.
+    pub(crate) fn take_next(&mut self) -> Option<u64> {
+        self.let_in = None;
+        self.passed = 0;
+        self.take(Task::Ask)
+    }
+
     /// Takes out the next session that is to be asked. One that waits, for room that it has by now
     /// or for the answers on their way, comes if no other is to be asked, or once as many others as
     /// a window has requests went before it. If a large answer is on its way then, none is taken
-    /// out until it has come, so that it doesn't wait for ever.
-    pub(crate) fn take_to_ask(&mut self, load: &Load, has_room: bool) -> Option<u64> {
+    /// out until it has come, so that it doesn't wait for ever. While the memory isn't prepared for
+    /// the one that waits, all others go before it.
+    pub(crate) fn take_to_ask(
+        &mut self,
+        load: &Load,
+        has_room: bool,
+        is_prepared: bool,
+    ) -> Option<u64> {
         self.let_in = None;
-        if !has_room && self.count(Task::AskLarge) == 0 {
-            self.passed = 0;
-            return self.take(Task::Ask);
-        }
-        if self.count(Task::Ask) > 0 && self.passed < WINDOW {
+        if self.count(Task::Ask) > 0 && (self.passed < WINDOW || !is_prepared) {
             self.passed = self.passed.saturating_add(1);
             return self.take(Task::Ask);
         }
-        if !load.is_free() {
+        if !load.is_free() || !is_prepared {
             return None;
         }
         let task = if has_room {

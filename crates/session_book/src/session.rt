@@ -458,6 +458,19 @@ impl Session {
         self.waiting.map_or(0, |waiting| waiting.likely)
     }
 
+    /// The bytes of memory that are to be taken before the `get` is asked that waits, if one does.
+    pub fn needed(&self) -> usize {
+        self.waiting.map_or(0, |waiting| waiting.needed)
+    }
+
+    /// Whether one waits that needs some, and waits for no room.
+    pub fn waits_for_prepared(&self) -> bool {
+        match self.waiting {
+            Some(waiting) => matches!(waiting.task, Task::AskLarge) && waiting.needed > 0,
+            None => false,
+        }
+    }
+
     /// The bytes of the large message for which it waits to be read on, if it does; else 0.
     pub fn large_need(&self) -> usize {
         self.input.large_need()

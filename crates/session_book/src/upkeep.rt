@@ -7,9 +7,10 @@ use crate::counts::BookCounts;
 use crate::fault_line::FaultLine;
 use crate::input::ROOM_AT_ONCE;
 use crate::load::{KeyBytes, Load};
+use crate::prepared::PreparedMemory;
 use crate::ready_queues::{ReadyQueues, Task};
 use crate::rooms::Rooms;
-use proto::{Answered, Message, Reply, Request};
+use proto::{Answered, Dialect, Message, Reply, Request};
 use std::alloc::Global;
 
 /// What has passed while sessions waited for memory.
@@ -33,6 +34,8 @@ pub(crate) struct Waiting {
     pub(crate) task: Task,
     /// The bytes that its answer is likely to take.
     pub(crate) likely: usize,
+    /// The bytes of memory that are to be taken for it before.
+    pub(crate) needed: usize,
 }
 
 /// How many keys a request is to show.
@@ -40,6 +43,19 @@ pub(crate) fn key_count(request: &Request) -> usize {
     match request {
         Request::Get { keys, .. } | Request::GetAndTouch { keys, .. } => keys.len(),
         _ => 0,
+    }
+}
+
+/// How many bytes the value has that a request was to store; none if there is no value.
+fn stored_bytes(request: &Request) -> Option<usize> {
+    match request {
+        Request::Set(item)
+        | Request::Add(item)
+        | Request::Replace(item)
+        | Request::Cas(item, _)
+        | Request::Append(item)
+        | Request::Prepend(item) => Some(item.value.as_slice().len()),
+        _ => None,
     }
 }
 
@@ -62,10 +78,12 @@ pub(crate) struct Upkeep {
     /// The seconds that were counted.
     pub(crate) seconds: u64,
     pub(crate) spares: SpareBuffers,
+    /// Beside them, the memory of the very large answer that comes next.
+    prepared: PreparedMemory,
 }
 
 impl Upkeep {
-    pub(crate) fn new(alloc: Global) -> Upkeep {
+    pub(crate) fn new(alloc: Global, dialect: Dialect) -> Upkeep {
         Upkeep {
             alloc,
             ready: ReadyQueues::new(alloc),
@@ -78,13 +96,15 @@ impl Upkeep {
             counts: BookCounts::default(),
             seconds: 0,
             spares: SpareBuffers::new(alloc),
+            prepared: PreparedMemory::new(alloc, dialect),
         }
     }
 
     /// What a message waits for, if keys took so much in the last answer of its session; none if it
     /// is to be asked now, as all are but a `get` or a `gat`. None of these goes before one that
     /// waits for room, but those whose answers are small. One whose answer is likely to be large
-    /// lets the others go first that are to be asked.
+    /// lets the others go first that are to be asked; and one with a very large answer waits until its
+    /// memory is prepared.
     pub(crate) fn waiting(&mut self, message: &Message, own: KeyBytes) -> Option<Waiting> {
         let keys = match message {
             Message::Ask(Request::Get { keys, .. } | Request::GetAndTouch { keys, .. }, _) => {
@@ -98,18 +118,22 @@ impl Upkeep {
         if matches!(let_in, Some(Task::AskForRoom)) || self.load.is_small(keys, likely, own) {
             return None;
         }
+        let needed = self.prepared.needed(keys, likely);
         let must_queue = self.ready.count(Task::AskForRoom) > 0;
         if must_queue || !self.load.has_room_for(likely) {
             return Some(Waiting {
                 task: Task::AskForRoom,
                 likely,
+                needed,
             });
         }
-        let is_its_turn = let_in.is_some() || self.ready.none_is_to_ask();
+        let may_come = self.ready.none_is_to_ask() && self.is_prepared(needed);
+        let is_its_turn = let_in.is_some() || may_come;
         let goes_on = !self.load.is_large(likely) || (is_its_turn && self.load.is_free());
         (!goes_on).then_some(Waiting {
             task: Task::AskLarge,
             likely,
+            needed,
         })
     }
 
@@ -129,8 +153,35 @@ impl Upkeep {
         self.rooms.grow_old();
     }
 
+    /// Whether so much memory was taken, or all that there is.
+    pub(crate) fn is_prepared(&self, needed: usize) -> bool {
+        self.prepared.is_enough(needed)
+    }
+
+    /// Takes a part of the memory that is needed for the `get` of a session, which comes next, if
+    /// some is missing and no large answer is on its way. True if it did.
+    pub(crate) fn prepare(&mut self, session: u64, needed: usize) -> bool {
+        if self.is_prepared(needed) || !self.load.is_free() {
+            return false;
+        }
+        self.prepared.take_more(session, needed);
+        self.ready.hold_memory(true);
+        true
+    }
+
+    /// The session for whose answer memory is held, if some is.
+    pub(crate) fn prepared_for(&self) -> Option<u64> {
+        self.prepared.session()
+    }
+
+    /// The memory that is held for an answer, which is none any more.
+    pub(crate) fn give_prepared(&mut self) -> Vec<u8> {
+        self.ready.hold_memory(false);
+        self.prepared.give()
+    }
+
     /// Counts the request that was read last and is asked with this number, and its keys. A `get`
-    /// is lent a spare buffer for its hits.
+    /// is lent a spare buffer for its hits, or the memory that was prepared.
     pub(crate) fn asked(&mut self, request: &mut Request, number: u64)
         ensures { request.new ≡ request.old }
     {
@@ -141,12 +192,15 @@ impl Upkeep {
         }
         self.load.asked(number, keys, self.likely);
         let mut hits = Vec::new(self.alloc);
+        if self.ready.holds_memory && self.prepared.needed(keys, self.likely) > 0 {
+            hits = self.give_prepared();
+        }
         self.spares.lend(Use::Hits, &mut hits);
         let _ = request.lend_buffer(hits);
     }
 
     /// Uncounts so many keys of a request that was settled with so many bytes of output, and keeps
-    /// the memory of its hits for a `get`. That of a large value is kept for input.
+    /// the memory of its hits for a `get`, or that of its value.
     pub(crate) fn settled(&mut self, answered: Answered, keys: usize, length: usize) {
         let Answered {
             number,
@@ -160,6 +214,17 @@ impl Upkeep {
         }
         if let Some(bytes) = reply.into_buffer() {
             self.spares.keep(Use::Hits, bytes);
+        }
+        if keys == 0 {
+            self.keep_value(request);
+        }
+    }
+
+    /// Counts the value that was to be stored, if there is one, and keeps the memory of a large one
+    /// for input.
+    fn keep_value(&mut self, request: Request) {
+        if let Some(length) = stored_bytes(&request) {
+            self.load.stored(length);
         }
         if let Some(bytes) = request.into_buffer() {
             if bytes.capacity() > ROOM_AT_ONCE {

@@ -36,3 +36,5 @@ mod sizes;
 mod spinning;
 #[cfg(test)]
 mod traces;
+#[cfg(test)]
+mod very_large;

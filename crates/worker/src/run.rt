@@ -327,8 +327,8 @@ fn share_memory<P: Port, R: Clock>(
     shut | paused | resumed
 }
 
-/// Offers output again that clients didn't take, and has sessions wait for memory, or go on. True
-/// if something was done.
+/// Offers output again that clients didn't take, and has sessions wait for memory, or go on; takes
+/// a part of it for a very large answer. True if something was done.
 fn serve_waiting<P: Port, R: Clock>(
     rt: &R,
     worker: &mut Worker<P>,
@@ -343,7 +343,8 @@ fn serve_waiting<P: Port, R: Clock>(
     }
     let given = retry_output(worker, &mut pauses.retries);
     let shared = share_memory(rt, worker, &mut pauses.ticks, storage);
-    given | shared
+    let prepared = worker.state.book.prepare_answer();
+    given | shared | prepared
 }
 
 /// One turn. True if something was done. It puts the held request, then what has come and what fits

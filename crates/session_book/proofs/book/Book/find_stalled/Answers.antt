@@ -6,6 +6,7 @@ use Rattle.std.specs.Cmp.{nat_eq_equiv}
 use Rattle.std.specs.Map.{lookup}
 use Rattle.std.specs.Map.Iter.{deref_pair}
 use Rattle.session_book.specs.Book.{BookState}
+use Rattle.session_book.proofs.book.Book.find_stalled.Goals.{in-Strict, in_default}
 use Rattle.session_book.proofs.book.Book.find_stalled.Goals as goal
 
 pub returns-then-is_stalled : goal.returns-then-is_stalled
@@ -14,7 +15,7 @@ returns-then-is_stalled c =
     let turn = hash_map_turn deref_pair _ _ _ _ _ _ c.loop-session.yielded_by c.in-Some.is c.next.ensures.steps
     nat_eq_equiv c.self.inside.sessions start c.iter-session-items.ensures.unique in
     record {
-      lenient = search rules;
+      lenient = elim c.match-matches.branch [ in-Strict w ↦ search (rules, w.matches-is, c.if-matches.false) | in_default w ↦ search (rules, w.in_default) ];
       s = c.in-Some.open.now;
       there = sym (ap (λ (b : BookState). lookup (nat_eq c.in-Some.session.now) b.sessions) c.self.view_is) ∙ turn.1;
       much = OnTrue_at c.if-is_stalled.true c.is_stalled.ensures;

@@ -5,6 +5,7 @@ use Rattle.proto.specs.declared.message.Message.{Message}
 use Rattle.proto.specs.declared.message.Message.TheVariants.{Ask}
 use Rattle.proto.specs.Answers.{said}
 use Rattle.session_book.specs.Session.{SessionState, messages_left, looked, at_rest}
+use Rattle.session_book.proofs.Answering.{begins_asked_by}
 use Rattle.session_book.proofs.Steps.{read_found, left_stays, said_stays, asked_behind}
 use Rattle.session_book.proofs.session.Session.next_message.Goals as goal
 
@@ -47,6 +48,10 @@ returns-after-message-3-clause-tries c =
     refl refl found.0 found.1 c.take.ensures c.cause_of-self-inside.ensures
     (put.queue ∙ ap (λ (queue : List Message). messages_left (queue ++ m ∷ []) []) reserved)
     (put.out ∙ ap (λ (queue : List Message). c.self.inside.output ++ said (queue ++ m ∷ []) []) reserved))
+
+pub invariant_of-self-in-Copied : goal.invariant_of-self-in-Copied
+invariant_of-self-in-Copied c =
+    begins_asked_by _ (c.reserve-2.new.self.items ++ c.in-Copied.message ∷ []) [] c.in_ok-put_behind-in-Copied.ensures.queue
 
 pub returns-in-Taken-clause-tries : goal.returns-in-Taken-clause-tries
 returns-in-Taken-clause-tries c =

@@ -1,8 +1,9 @@
 -- Words that are all keys, read byte by byte.
-use Rattle.std.proofs.Common.{◌≡◌, ℕ, ◌+◌, Bool, true, false, cond, ◌&&◌, List, [], ◌∷◌, ◌++◌, length}
+use Rattle.std.proofs.Common.{◌≡◌, ◌<◌, ℕ, ◌+◌, Bool, true, false, cond, ◌&&◌, List, [], ◌∷◌, ◌++◌, length, arith}
 use Rattle.std.proofs.Common.{refl, sym, ap, ◌∙◌, append_assoc, length-append, inl, inr}
+use Rattle.std.specs.Prelude.{nat_le}
 use Rattle.std.specs.List.{list_all}
-use Rattle.std.proofs.lemmas.Bool.{and_parts, and_right, cases_Bool, eqb-true}
+use Rattle.std.proofs.lemmas.Bool.{and_parts, and_right, cases_Bool, eqb-true, lt-leb}
 use Rattle.std.proofs.lemmas.List.{append-nil}
 use Rattle.std.proofs.lemmas.List.Folds.{list_all-append}
 use Rattle.proto.specs.Lines.{is_key}
@@ -16,7 +17,15 @@ abbrev pub goes_on : ℕ → List ℕ → Bool
 goes_on n [] = is_key_length n
 goes_on n (b ∷ rest) = cond (is_key_byte b) (goes_on (n + 1) rest) (is_space b && is_key_length n && goes_on 0 rest)
 
-and_true : (x : Bool) → x ≡ (x && true)
+stopped : (x y : Bool) → (x && false && y) ≡ false
+stopped true y = refl
+stopped false y = refl
+
+-- a key has at most 250 bytes
+long_key : (n : ℕ) → 250 < n → is_key_length n ≡ false
+long_key n many = rw (lt-leb n 250 many) (and_right (nat_le 1 n) false refl)
+
+pub and_true : (x : Bool) → x ≡ (x && true)
 and_true true = refl
 and_true false = refl
 
@@ -59,3 +68,12 @@ keys_after word (b ∷ rest) all =
 -- the words of a line are keys
 pub are_keys : (line : List ℕ) → goes_on 0 line ≡ list_all is_key (words_of line)
 are_keys line = keys_after [] line refl
+
+-- more bytes than a key has are the first of none
+pub too_many : (n : ℕ) (rest : List ℕ) → 250 < n → goes_on n rest ≡ false
+too_many n [] many = long_key n many
+too_many n (b ∷ rest) many =
+    elim (cases_Bool (is_key_byte b)) [
+      | inl key ↦ rw key (too_many (n + 1) rest (omega (arith, many)))
+      | inr other ↦ rw (other, long_key n many) (stopped (is_space b) (goes_on 0 rest))
+    ]

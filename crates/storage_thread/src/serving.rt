@@ -48,8 +48,8 @@ pub struct StorageReport<C: Clock> {
     pub executed: u64,
 }
 
-/// Prefetches for the message just taken and for those seen after it. `done` is how many messages
-/// an earlier call has already covered, and the result is how many this one has.
+/// Prefetches by hints for the message just taken and for those seen after it. `done` is how many
+/// messages an earlier call has already covered, and the result is how many this one has.
 pub(crate) fn read_ahead<S: StorageEngine>(
     done: u64,
     store: &S,
@@ -61,7 +61,7 @@ pub(crate) fn read_ahead<S: StorageEngine>(
     }
     let (lane, first, seen) = end.seen();
     let count = seen.min(MESSAGES_AHEAD);
-    if count < 2 || !signals.has_hints() {
+    if count < 2 {
         return 0;
     }
     let mut hashes = [0; MESSAGES_AHEAD as usize];

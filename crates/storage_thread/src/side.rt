@@ -179,12 +179,16 @@ impl<S: StorageEngine, C: Clock> StorageSide<S, C> {
         }
         match taken {
             Taken::Asked { worker, posted } => {
-                self.state.ahead = read_ahead(
-                    self.state.ahead,
-                    &self.state.store,
-                    &self.state.end,
-                    signals,
-                );
+                self.state.ahead = if signals.has_hints() {
+                    read_ahead(
+                        self.state.ahead,
+                        &self.state.store,
+                        &self.state.end,
+                        signals,
+                    )
+                } else {
+                    0
+                };
                 let executed = execute(
                     rt,
                     signals,

@@ -3,7 +3,7 @@ use Rattle.std.proofs.Common.{rules, w64, ◌≡◌, ℕ, ℤ, ◌^◌, Bool, tr
 use Rattle.std.proofs.Common.{refl, sym, ap, ◌∙◌}
 use Rattle.std.specs.Prelude.{nat_le}
 use Rattle.std.specs.List.{list_all}
-use Rattle.std.proofs.lemmas.Bool.{le-leb}
+use Rattle.std.proofs.lemmas.Bool.{and_parts}
 use Rattle.std.proofs.lemmas.Int.{to_z-of_z}
 use Rattle.proto.specs.Lines.{is_key}
 use Rattle.proto.specs.Grammar.{meant}
@@ -11,7 +11,6 @@ use Rattle.proto.specs.declared.dialect.Dialect.{Dialect}
 use Rattle.proto.specs.declared.message.Request.TheVariants.{GetAndTouch}
 use Rattle.proto.specs.PlainReader.{request, taken, signed_in, get_and_touch_in}
 use Rattle.proto.proofs.Options.{bind_some, some_is, none_is_some}
-use Rattle.proto.proofs.WordLists.{some_words}
 use Rattle.proto.proofs.line.get_and_touch.Goals as goal
 
 -- what is read of an exptime and of keys behind it
@@ -30,11 +29,9 @@ pub returns : goal.returns
 returns c =
     let fits : SFits w64 c.meant.result = search rules in
     let written : SFits w64 c.in_ok-written.written = search rules in
-    let some : nat_le 1 (length c.next_signed.new.self) ≡ true =
-    le-leb 1 _ (rw c.in_ok-rest.ensures at (some_words c.in_ok-rest.field-0.now)) in
-    let all : list_all is_key c.next_signed.new.self ≡ true =
-    ap (list_all is_key) (sym c.in_ok-rest.ensures) ∙ sym c.are_keys.ensures ∙ c.if-not-are_keys.false in
+    let keys = c.next_signed.new.self in
+    let both = and_parts (nat_le 1 (length keys)) (list_all is_key keys) (sym c.are_keys.ensures ∙ c.if-not-are_keys.false) in
     ap (λ (e : ℤ). Some (request (GetAndTouch c.next_signed.new.self c.args.with_cas e) false))
     (to_z-of_z w64 c.meant.result fits ∙ c.meant.ensures)
     ∙ read c.args.dialect c.args.with_cas c.args.words c.next_signed.new.self _
-    (ap (λ (e : ℤ). Some (e, c.next_signed.new.self)) (to_z-of_z w64 c.in_ok-written.written written) ∙ c.in_ok-written.ensures) some all
+    (ap (λ (e : ℤ). Some (e, c.next_signed.new.self)) (to_z-of_z w64 c.in_ok-written.written written) ∙ c.in_ok-written.ensures) both.0 both.1

@@ -70,7 +70,7 @@ impl Polls {
         self.unpolled = 0;
         let millis = match may_wait {
             _ if needs_none => 0,
-            true if self.spins(rt) => 0,
+            true if !self.spin.is_zero() && self.spins(rt) => 0,
             true if is_draining => DRAINING_WAIT_MILLIS,
             true => WAIT_MILLIS,
             false => 0,
@@ -81,9 +81,6 @@ impl Polls {
     /// Whether a poll is too early to wait. The clock is read only here, so that a busy port never
     /// reads it.
     fn spins<R: Clock>(&mut self, rt: &R) -> bool {
-        if self.spin.is_zero() {
-            return false;
-        }
         let Ok(now) = Instant::now(rt) else {
             return false;
         };

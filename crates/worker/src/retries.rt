@@ -9,7 +9,7 @@ use std::time::{Clock, Duration, Instant};
 const RETRIES_A_TURN: usize = 2;
 
 /// The same at a port that tells of room, once it has told.
-const TOLD_RETRIES_A_TURN: usize = 16;
+const RETRIES_WITH_ROOM: usize = 16;
 
 /// Which of the sessions whose clients took nothing are still to be offered their output again. A
 /// port that tells of room is offered it only once it has told of some.
@@ -31,7 +31,7 @@ impl Retries {
             self.rooms = rooms;
             self.left = waiting;
         }
-        self.left.min(TOLD_RETRIES_A_TURN)
+        self.left.min(RETRIES_WITH_ROOM)
     }
 
     /// So many of them were offered it.

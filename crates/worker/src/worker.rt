@@ -176,9 +176,9 @@ impl<P: Port> WorkerState<P> {
     }
 
     /// What the worker says once it has posted. The port may have more events, or not. A posting of
-    /// many requests is large; so is one for so many keys, or with answers so large, that the worker
-    /// sends one request at a time. There is more to do if streams may have input, or the window has
-    /// no room for requests.
+    /// many requests is large; so is one for so many keys, or with answers so large, that the
+    /// worker sends one request at a time. There is more to do if streams may have input, or the
+    /// window has no room for requests.
     fn posting(&self, may_read_on: bool) -> Posting {
         let has_more = may_read_on || self.book.ready(Task::Ask) > 0;
         Posting {
@@ -428,7 +428,7 @@ impl<P: Port> Worker<P> {
             return false;
         };
         let session = answered.session;
-        gate.answered(self.state.batch.worker(), answered.number);
+        gate.answered(answered.worker, answered.number);
         match self.state.book.settle(answered) {
             Settled::Kept => {}
             Settled::Dropped => {}
@@ -439,8 +439,8 @@ impl<P: Port> Worker<P> {
     }
 
     /// Offers in one call the output of the next session that is to be taken up for the task, if it
-    /// is worth it, and shuts the session if it has finished. It gives how many bytes were accepted,
-    /// and None if nothing was done.
+    /// is worth it, and shuts the session if it has finished. It gives how many bytes were
+    /// accepted, and None if nothing was done.
     pub(crate) fn give_next(&mut self, task: Task) -> Option<usize>
         ensures { Continues P.told P.leads_to self.old self.new }
     {

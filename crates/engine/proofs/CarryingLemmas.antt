@@ -41,7 +41,7 @@ touched_refused (GetAndTouch keys with_cas exptime) reply refused = rw refused r
 touched_refused _ reply refused = refl
 
 -- nor behind a request that sets no deadline
-touched_undated : (q : Request) (reply : Reply) → SetsNoDeadline q → touched_by q reply ≡ []
+pub touched_undated : (q : Request) (reply : Reply) → SetsNoDeadline q → touched_by q reply ≡ []
 touched_undated (GetAndTouch keys with_cas exptime) reply sets = absurd sets
 touched_undated _ reply sets = refl
 

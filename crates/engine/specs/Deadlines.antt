@@ -1,11 +1,12 @@
 -- Stores that keep deadlines to the second.
-use Rattle.std.specs.Prelude.{◌≡◌, ◌≢◌, ℕ, Bool, true, nat_lt, List, Option, Some, None}
+use Rattle.std.specs.Prelude.{◌≡◌, ◌≢◌, ℕ, ◌<◌, ◌^◌, Bool, true, nat_lt, List, Option, Some, None}
 use Rattle.std.specs.FinMap as map
 use Rattle.proto.specs.declared.message.Request.{Request}
 use Rattle.proto.specs.declared.message.Reply.{Reply}
 use Rattle.proto.specs.declared.message.Reply.TheVariants.{NoMemory}
 use Rattle.proto.specs.Sizes.{Sizes}
 use Rattle.proto.specs.Cache.{Entry, Cache}
+use Rattle.proto.specs.Commands.{Outcome}
 use Rattle.proto.specs.Steps.{Step}
 use Rattle.engine.specs.Outcomes.{outcome_at}
 
@@ -14,13 +15,15 @@ abbrev pub is_storable_deadline : Option ℕ → Bool
 is_storable_deadline None = true
 is_storable_deadline (Some deadline) = nat_lt deadline 281474976710656
 
--- The entry that a request stores is there then as it asks to be, with the very deadline that it
--- asks for, if a store can keep that.
+-- The entry that was stored is there then as it was asked for, with the very deadline, if that is
+-- below 2^48.
+abbrev pub IsAsAsked : Outcome → Cache → Type 0
+IsAsAsked done after = (key : List ℕ) (e : Entry) → done.stored ≡ Some key → map.get done.entries key ≡ Some e
+    → ((deadline : ℕ) → e.deadline ≡ Some deadline → deadline < 2 ^ 48) → map.get after.entries key ≡ Some e
+
+-- a request that isn't refused memory leaves what it stores so
 abbrev pub StoresAsAsked : Sizes → Cache → ℕ → Request → Reply → Cache → Type 0
-StoresAsAsked sizes before t q reply after =
-    let done = outcome_at sizes before t q in
-    (key : List ℕ) (e : Entry) → done.stored ≡ Some key → reply ≢ NoMemory → map.get done.entries key ≡ Some e
-    → is_storable_deadline e.deadline ≡ true → map.get after.entries key ≡ Some e
+StoresAsAsked sizes before t q reply after = reply ≢ NoMemory → IsAsAsked (outcome_at sizes before t q) after
 
 -- a step that stores its entry so
 abbrev pub IsExactStep : Sizes → ℕ → Cache → Request → Reply → Cache → Type 0

@@ -39,7 +39,7 @@ sees_earlier sizes history before between after one other stands legal =
     let found = last_cache start a.0 in
     let on = subst (λ l. Chain (Step sizes) found (one ∷ l) a.1) (sym (append_assoc between (other ∷ []) after)) a.3 in
     let b = parts (Step sizes) found (one ∷ (between ++ other ∷ [])) after a.1 on in
-    record { before = before; between = between; after = after; stands = stands; found = found; caches = b.0; leads = b.2 }
+    (before, between, after, stands, found, b.0, b.2)
 
 -- an entry of the first part of a history comes before one of the second part, which sees what it
 -- left

@@ -1,6 +1,6 @@
 -- What the threads left makes the run of a group.
-use Rattle.std.proofs.Common.{◌≡◌, ℕ, ◌<◌, ◌≤◌, List, [], length, map, Option, refl, sym, ap, subst, ◌∙◌, append-nil, Bool}
-use Rattle.std.specs.Prelude.{All, IfErr, Result, Ok, Err, slice_index, slice_index_or}
+use Rattle.std.proofs.Common.{◌≡◌, ℕ, ◌<◌, ◌≤◌, true≢false, List, [], length, map, Option, Some, None, refl, sym, ap, subst, ◌∙◌, append-nil, Bool}
+use Rattle.std.specs.Prelude.{All, IfErr, is_some, option_map, false, Result, Ok, Err, slice_index, slice_index_or}
 use Rattle.std.proofs.lemmas.List.{length-map}
 use mathlib.Core.Option.{some}
 use lib.ListN.{get_elem?}
@@ -21,23 +21,28 @@ use Rattle.worker.specs.Reports.{IsSessionAnswered}
 use Rattle.group.specs.declared.report.GroupReport.{GroupReport}
 use Rattle.worker.specs.Starts.{IsPortAt, HasSentNothing}
 use Rattle.group.specs.declared.fault.GroupFault.{GroupFault}
-use Rattle.group.specs.declared.fault.GroupFault.TheVariants.{NoMemory, NoThread, NotNew}
+use Rattle.group.specs.declared.fault.GroupFault.TheVariants.{NoThread}
+use Rattle.group.specs.declared.start.CalledOff.{CalledOff}
 use Rattle.group.specs.Threads.{AreJoined, AreEach, ArePortsOf, IsCalledOff, IsLeftByStorage, KeepsWorker, KeepsStorage}
 use Rattle.group.specs.Threads.{ends_of, worker_of, workers_of}
-use Rattle.group.specs.Headline.{IsWorkerOf, IsRun, NoneBegan}
+use Rattle.group.specs.Headline.{IsWorkerOf, IsRun}
 use Rattle.group.proofs.Places.{at_map, at_mapped}
 use Rattle.storage_thread.proofs.Callers.{or_at}
 
 -- where the start said not to begin, none began
-none_began : (id : ℕ) (fault : GroupFault) → IsCalledOff id fault → NoneBegan fault
-none_began id NoMemory off = absurd off
-none_began id (NoThread shown) off = off.1
-none_began id NotNew off = tt
-
 pub none_began_in : {A : Type 0} (id : ℕ) (result : Result A GroupFault) → IfErr result (IsCalledOff id)
-    → IfErr result NoneBegan
-none_began_in id (Ok x) off = tt
-none_began_in id (Err fault) off = none_began id fault off
+    → IfErr result (λ fault. (off : CalledOff) → fault ≡ NoThread off → off.begins.value ≡ false)
+none_began_in id (Ok x) said = tt
+none_began_in id (Err fault) said = λ off is. (subst (IsCalledOff id) is said).1
+
+-- what tells if and only if the other does, in the same dialect if both do, tells the same dialect
+same_dialect : (now first : Option PortTrace) → is_some now ≡ is_some first
+    → ((old new : PortTrace) → first ≡ Some old → now ≡ Some new → new.dialect ≡ old.dialect)
+    → option_map (λ (trace : PortTrace). trace.dialect) now ≡ option_map (λ (trace : PortTrace). trace.dialect) first
+same_dialect None None tells same = refl
+same_dialect None (Some old) tells same = absurd (true≢false (sym tells))
+same_dialect (Some new) None tells same = absurd (true≢false tells)
+same_dialect (Some new) (Some old) tells same = ap Some (same old new refl refl)
 
 module _ {P : Type 0} (told : P → Option PortTrace) (leads_to : P → P → Type 0) where
   module _ (terms : Terms) (storage : StorageView) (ports : List P) (reports : List (WorkerReport P))
@@ -86,7 +91,7 @@ module _ {P : Type 0} (told : P → Option PortTrace) (leads_to : P → P → Ty
       let all = counted.compared.all kept.bye.said_bye in
       let sent : asked_posted (worker_share s.history r.worker_end.worker) ≡ r.worker_end.sent = all.1 in record {
         leads = kept.leads;
-        tells = kept.tells;
+        tells = same_dialect (told r.port) (told port) kept.tells kept.spelled;
         exactly = subst (λ n. asked_posted (worker_share s.history n) ≡ r.worker_end.sent) is sent;
         sent = subst (λ n. slice_index g.sent n ≡ length r.worker_end.sent) is counted.sent_is;
         back = subst (λ n. slice_index g.back n ≡ length r.worker_end.sent) is
@@ -105,7 +110,6 @@ module _ {P : Type 0} (told : P → Option PortTrace) (leads_to : P → P → Ty
             ((kept.reported trace tells).answered s.history (sym all.0) sent t cause messages rest listed reads);
         given_by = λ trace tells. starts_trans s.history r.worker_end.seen trace.history counted.compared.seen
             (kept.whose trace tells).later;
-        spelled = kept.spelled;
       }
 
   -- the same of an end of the same exchange

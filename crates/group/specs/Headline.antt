@@ -1,5 +1,5 @@
 -- The headline: what holds once a group has ended.
-use Rattle.std.specs.Prelude.{◌≡◌, ℕ, ◌^◌, ◌-◌, ◌<◌, ◌≤◌, ⊤, Bool, true, false, List, length, min, All, Option, Some, is_some, slice_index}
+use Rattle.std.specs.Prelude.{◌≡◌, ℕ, ◌^◌, ◌-◌, ◌<◌, ◌≤◌, Bool, true, List, length, min, All, Option, Some, option_map, slice_index}
 use mathlib.Core.Option.{some}
 use lib.ListN.{get_elem?}
 use Rattle.proto.specs.declared.message.Message.{Message}
@@ -9,15 +9,13 @@ use Rattle.proto.specs.History.{Legal, RefusesBy, worker_share, asked_posted}
 use Rattle.proto.specs.Reading.{Reads}
 use Rattle.exchange.specs.declared.opening.Gathered.{Gathered}
 use Rattle.exchange.specs.Beginnings.{StartsWith}
-use Rattle.storage_thread.specs.Keeping.{MayAlwaysForgetNothing}
-use Rattle.storage_thread.specs.Deadlines.{MayStoreAsAsked}
+use Rattle.storage_thread.specs.Keeping.{MayAlwaysForgetNothing, MayLeave}
+use Rattle.engine.specs.Deadlines.{IsAsAsked}
 use Rattle.storage_thread.specs.Serving.{IsTimed}
 use Rattle.session_book.specs.declared.causes.EndCause.{EndCause}
 use Rattle.worker_port.specs.Ports.{PortTrace, fed}
 use Rattle.worker.specs.Sessions.{cause_of}
 use Rattle.worker.specs.Reports.{AreListed, IsSessionAnswered}
-use Rattle.group.specs.declared.fault.GroupFault.{GroupFault}
-use Rattle.group.specs.declared.fault.GroupFault.TheVariants.{NoMemory, NoThread, NotNew}
 use Rattle.group.specs.declared.report.GroupWorker.{GroupWorker}
 use Rattle.group.specs.declared.report.GroupReport.{GroupReport}
 
@@ -31,15 +29,14 @@ pub record IsWorkerOf {P : Type 0} (told : P → Option PortTrace) (leads_to : P
   pub back : slice_index gathered.back w ≡ length worker.sent
   pub strangers : worker.strangers ≡ 0
   pub leads : leads_to port worker.port
-  pub tells : is_some (told worker.port) ≡ is_some (told port)
+  pub tells : option_map (λ (trace : PortTrace). trace.dialect) (told worker.port)
+      ≡ option_map (λ (trace : PortTrace). trace.dialect) (told port)
   pub listed : (trace : PortTrace) → told worker.port ≡ Some trace
       → AreListed trace.events worker.sent worker.sessions.items worker.unopened
   pub answered : (trace : PortTrace) → told worker.port ≡ Some trace
       → (s : ℕ) (cause : EndCause) (messages : List Message) (rest : List ℕ)
       → cause_of worker.sessions.items s ≡ Some cause → Reads trace.dialect (fed s trace.events) messages rest
       → IsSessionAnswered trace.dialect trace.events history w s cause messages
-  pub spelled : (first trace : PortTrace) → told port ≡ Some first → told worker.port ≡ Some trace
-      → trace.dialect ≡ first.dialect
   pub given_by : (trace : PortTrace) → told worker.port ≡ Some trace → StartsWith history trace.history
 
 -- The headline: there is a legal history of these workers, at the moments of this clock. Its length
@@ -63,11 +60,4 @@ pub record IsRun {P C : Type 0} (told : P → Option PortTrace) (leads_to : P �
       → (slice_index report.gathered.sent w ≡ 0) × (slice_index report.gathered.back w ≡ 0)
   pub refused : RefusesBy may_refuse history
   pub bounded : keeps → MayAlwaysForgetNothing sizes history
-  pub dated : exact ≡ true → MayStoreAsAsked sizes history
-
--- After this fault no thread of the group has begun: none was started, or the start said to those
--- that were not to begin.
-abbrev pub NoneBegan : GroupFault → Type 0
-NoneBegan NoMemory = ⊤
-NoneBegan (NoThread off) = off.begins.value ≡ false
-NoneBegan NotNew = ⊤
+  pub dated : exact ≡ true → MayLeave IsAsAsked sizes history

@@ -11,29 +11,20 @@ use Rattle.proto.specs.Steps.{Step}
 use Rattle.proto.specs.History.{Chain, session_share}
 use Rattle.worker_port.specs.Ports.{PortTrace, fed}
 
--- The one was answered before the other was sent, at one port or at two. A port told the first
--- trace when it was given the answer: the one stands in the history of that give. The other's port
--- has told the second trace by now, and what came of the session so far spells these messages. In a
--- later history the other is a further request of the session, behind all that they ask.
-pub record AnsweredBeforeSent (answering sending : PortTrace) (later : List Answered) (one other : Answered) : Type 0 where
-  pub place : ℕ
-  pub answered : get_elem? answering.history place ≡ some one
-  pub session : ℕ
-  pub messages : List Message
-  pub rest : List ℕ
-  pub came : Reads sending.dialect (fed session sending.events) messages rest
-  pub further : ℕ
-  pub unsent : length (asks messages) ≤ further
-  pub stands : get_elem? (session_share later sending.worker session) further ≡ some other
+-- The one was answered before the other was sent, at one port or at two. The one stands in the
+-- earlier history, by which its answer was given. The other's port has told this trace by now, and
+-- what came of the other's session so far spells these messages. In a later history the other is a
+-- further request of the session, behind all that they ask.
+abbrev pub AnsweredBeforeSent : List Answered → PortTrace → List Answered → Answered → Answered → Type 0
+AnsweredBeforeSent earlier sending later one other =
+    (place further : ℕ) × (messages : List Message) × (rest : List ℕ) × (get_elem? earlier place ≡ some one)
+    × Reads sending.dialect (fed other.session sending.events) messages rest × (length (asks messages) ≤ further)
+    × (get_elem? (session_share later sending.worker other.session) further ≡ some other)
 
 -- In the history the one comes before the other, and a chain leads through both and all entries
 -- between them. So the other is executed on the cache that the one left, or on what the entries
 -- between them made of it.
-pub record SeesLeft (sizes : Sizes) (history : List Answered) (one other : Answered) : Type 0 where
-  pub before : List Answered
-  pub between : List Answered
-  pub after : List Answered
-  pub stands : history ≡ before ++ one ∷ (between ++ other ∷ after)
-  pub found : Cache
-  pub caches : List Cache
-  pub leads : Chain (Step sizes) found (one ∷ (between ++ other ∷ [])) caches
+abbrev pub SeesLeft : Sizes → List Answered → Answered → Answered → Type 0
+SeesLeft sizes history one other =
+    (before between after : List Answered) × (history ≡ before ++ one ∷ (between ++ other ∷ after))
+    × (found : Cache) × (caches : List Cache) × Chain (Step sizes) found (one ∷ (between ++ other ∷ [])) caches

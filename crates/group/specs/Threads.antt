@@ -11,8 +11,8 @@ use Rattle.proto.specs.Sizes.{Sizes}
 use Rattle.proto.specs.declared.history.Answered.{Answered}
 use Rattle.proto.specs.History.{Legal, RefusesBy}
 use Rattle.exchange.specs.Ends.{TableId, WorkerView, StorageView, new_worker_view, new_storage_view}
-use Rattle.storage_thread.specs.Keeping.{MayAlwaysForgetNothing}
-use Rattle.storage_thread.specs.Deadlines.{MayStoreAsAsked}
+use Rattle.storage_thread.specs.Keeping.{MayAlwaysForgetNothing, MayLeave}
+use Rattle.engine.specs.Deadlines.{IsAsAsked}
 use Rattle.storage_thread.specs.Serving.{IsSameExchange, IsTimed}
 use Rattle.storage_thread.specs.declared.serving.StorageReport.{StorageReport}
 use Rattle.worker_port.specs.Ports.{PortTrace}
@@ -52,7 +52,7 @@ pub record KeepsStorage {C : Type 0} (told : C → Option (List ℕ)) (leads_to 
   pub leads : leads_to clock report.clock
   pub refused : RefusesBy may_refuse report.storage_end.history
   pub bounded : keeps → MayAlwaysForgetNothing end.terms.geometry report.storage_end.history
-  pub dated : exact ≡ true → MayStoreAsAsked end.terms.geometry report.storage_end.history
+  pub dated : exact ≡ true → MayLeave IsAsAsked end.terms.geometry report.storage_end.history
 
 -- what a thread leaves that waited for the start `id`: it ran exactly if it was told to begin, and
 -- what it left is kept

@@ -21,10 +21,9 @@ pub fn later_requests_see_earlier_ones(sender: &mut WorkerLane, earlier: ToldHis
     requires { earlier.exchange ≡ sender.old.end.exchange }
     ensures same { sender.new ≡ sender.old }
     ensures handed_back { result ≡ earlier }
-    ensures sees { (sizes : Sizes) (answering sending : PortTrace) (later : List Answered) (one other : Answered)
-        → answering.history ≡ earlier.items
+    ensures sees { (sizes : Sizes) (sending : PortTrace) (later : List Answered) (one other : Answered)
         → HasAskedOnly sending sender.old.end.exchange sender.old.end.worker sender.old.end.sent
-        → AreOfOne earlier.items later → Legal sizes later → AnsweredBeforeSent answering sending later one other
+        → AreOfOne earlier.items later → Legal sizes later → AnsweredBeforeSent earlier.items sending later one other
         → SeesLeft sizes later one other }
 {
     order_in_real_time(sender, earlier)

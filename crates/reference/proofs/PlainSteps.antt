@@ -84,5 +84,5 @@ handles_plainly before t q reply after h =
 pub keeps_deadlines : (before : Engine PlainMap) (t : ℕ) (q : Request) (reply : Reply) (after : Engine PlainMap)
     → HandlesPlainly before t q reply after → KeepsDeadlines plain_sizes plain_cache (λ _. true) before t q reply after
 keeps_deadlines before t q reply after (inl e) =
-    (refl, λ _ key entry stored other is near. ap (λ (c : Cache). map.get c.entries key) e.cache_is ∙ is)
-keeps_deadlines before t q reply after (inr r) = (refl, λ _ key entry stored other is near. absurd (other r.reply_is))
+    (refl, λ _ other key entry stored is near. ap (λ (c : Cache). map.get c.entries key) e.cache_is ∙ is)
+keeps_deadlines before t q reply after (inr r) = (refl, λ _ other key entry stored is near. absurd (other r.reply_is))

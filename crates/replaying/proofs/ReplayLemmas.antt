@@ -1,8 +1,8 @@
 -- From a group's run over the ports of a script to what the script's bytes make it print.
 use Rattle.std.proofs.Common.{◌≡◌, ℕ, zero, suc, ◌+◌, ◌<◌, nat_lt, inl, inr, ⊎_elim, ◌==◌, Bool, true, false, ◌||◌}
 use Rattle.std.proofs.Common.{cond, List, [], ◌∷◌, ◌++◌, length, map}
-use Rattle.std.proofs.Common.{true≢false, Some, None, All, Contains, refl, sym, ap, subst, ◌∙◌, arith}
-use Rattle.std.specs.Prelude.{⊤, flat_map, IsSome}
+use Rattle.std.proofs.Common.{true≢false, Option, Some, None, All, Contains, refl, sym, ap, subst, ◌∙◌, arith}
+use Rattle.std.specs.Prelude.{⊤, flat_map, IsSome, option_map}
 use Rattle.std.specs.List.{list_any}
 use Rattle.std.proofs.lemmas.List.{length-map, get_or-map}
 use Rattle.std.proofs.Common.{length-append, append_assoc, append-nil}
@@ -28,7 +28,7 @@ use Rattle.script.specs.Clocks.{ClockState, answer_of, first_answers, AreTimed}
 use Rattle.script.specs.Scripts.{Workers, AreEventsOf}
 use Rattle.worker_port.specs.declared.events.PortRecord.{PortRecord}
 use Rattle.worker_port.specs.declared.events.PortRecord.TheVariants as was
-use Rattle.worker_port.specs.Ports.{fed, given, is_in}
+use Rattle.worker_port.specs.Ports.{PortTrace, fed, given, is_in}
 use Rattle.worker.specs.Sessions.{cause_of}
 use Rattle.worker.specs.Reports.{IsCauseOf, AreListed, IsSessionAnswered}
 use Rattle.script.specs.declared.clock.RecordingClock.{RecordingClock}
@@ -240,9 +240,11 @@ replayed sizes d exact clock workers accept fail_give text scripts read exchange
           let told_is = ap (λ b. cond b (Some (script_trace x.0.port)) None) plays in
           let first : is_playable port.0.player.script ≡ true =
           ap (λ (p : PortState). is_playable p.player.script) is.1 ∙ is.0 in
-          let dialect_is : x.0.port.dialect ≡ d =
-          of.spelled (script_trace port.0) (script_trace x.0.port) (ap (λ b. cond b (Some (script_trace port.0)) None) first) told_is
-          ∙ ap (λ (p : PortState). p.dialect) is.1 in
+          let spoken : Option PortTrace → Option Dialect = option_map (λ (trace : PortTrace). trace.dialect) in
+          let both : Some x.0.port.dialect ≡ Some port.0.dialect =
+          sym (ap spoken told_is) ∙ of.tells ∙ ap spoken (ap (λ b. cond b (Some (script_trace port.0)) None) first) in
+          let same : x.0.port.dialect ≡ port.0.dialect = cc in
+          let dialect_is : x.0.port.dialect ≡ d = same ∙ ap (λ (p : PortState). p.dialect) is.1 in
           let can_fail_is : x.0.port.player.can_fail ≡ nat_lt 0 fail_give =
           of.leads.2 ∙ ap (λ (p : PortState). p.player.can_fail) is.1 in
           subst (AreOutcomesOf d run.history w fail_give events) x.2

@@ -18,8 +18,8 @@ use Rattle.exchange.specs.Beginnings.{StartsWith}
 use Rattle.worker_port.specs.Giving.{BeginsAnswers}
 use Rattle.session_book.specs.declared.causes.EndCause.{EndCause}
 use Rattle.session_book.specs.declared.causes.EndCause.TheVariants as causes
-use Rattle.storage_thread.specs.Keeping.{MayAlwaysForgetNothing}
-use Rattle.storage_thread.specs.Deadlines.{MayStoreAsAsked}
+use Rattle.storage_thread.specs.Keeping.{MayAlwaysForgetNothing, MayLeave}
+use Rattle.engine.specs.Deadlines.{IsAsAsked}
 use Rattle.script.specs.declared.event.ScriptEvent.{ScriptEvent}
 use Rattle.script.specs.Events.{sessions_opened, sent_bytes, goes_in_script}
 use Rattle.script.specs.Clocks.{ClockState, AreTimed}
@@ -104,5 +104,5 @@ pub record IsReplayOf (sizes : Sizes) (d : Dialect) (exact : Bool) (clock : Cloc
       → get_elem? outcomes w ≡ some os → AreOutcomesOf d history w fail_give script os
   pub refused : RefusesBy false history
   pub bounded : MayAlwaysForgetNothing sizes history
-  pub dated : exact ≡ true → MayStoreAsAsked sizes history
+  pub dated : exact ≡ true → MayLeave IsAsAsked sizes history
   pub printed_is : printed ≡ outcome_lines 0 outcomes

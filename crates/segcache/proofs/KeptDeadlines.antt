@@ -1,8 +1,9 @@
 -- That a store whose items have deadlines of their own keeps them to the second.
-use Rattle.std.proofs.Common.{◌≡◌, ◌≢◌, ℕ, true, List, [], ◌∷◌, Option, Some, refl, sym, ap, subst, ◌∙◌, inl, inr}
+use Rattle.std.proofs.Common.{◌≡◌, ◌≢◌, ◌<◌, ◌^◌, ℕ, true, List, [], ◌∷◌, Option, Some, None, refl, sym, ap, subst, ◌∙◌, inl, inr}
 use Rattle.std.specs.Prelude.{◌&&◌, ◌⊎◌}
 use Rattle.std.specs.FinMap as finite
 use Rattle.std.proofs.lemmas.Option.{none-some}
+use Rattle.std.proofs.lemmas.Bool.{lt-ltb}
 use Rattle.proto.specs.declared.message.Request.{Request}
 use Rattle.proto.specs.declared.message.Reply.{Reply}
 use Rattle.proto.specs.declared.message.Reply.TheVariants.{NoMemory}
@@ -107,15 +108,21 @@ stored_there way found after done _ key e exact stored other is near (stays none
     absurd (none-some key (sym none ∙ stored))
 stored_there way found after done _ key e exact stored other is near (refuses same) = absurd (other refl)
 
+-- a deadline below 2^48 can be kept, and so can none
+storable : (asked : Option ℕ) → ((deadline : ℕ) → asked ≡ Some deadline → deadline < 2 ^ 48)
+    → is_storable_deadline asked ≡ true
+storable None low = refl
+storable (Some deadline) low = lt-ltb deadline (2 ^ 48) (low deadline refl)
+
 -- by what a request does to the segments, what it stores is there as it asks to be
 stores_as_asked : (before : Engine SegmentMap) (t : ℕ) (q : Request) (reply : Reply) (after : Engine SegmentMap)
     → after.map.moment ≡ t → HandlesSegments before t q reply after → before.map.pool.exact ≡ true
     → StoresAsAsked (sizes_in before) (segmented_cache before) t q reply (segmented_cache after)
-stores_as_asked before t q reply after moment h exact key e stored other is near =
+stores_as_asked before t q reply after moment h exact other key e stored is low =
     let found = h.found in
     let done = outcome_at (sizes_in before) (segmented_cache before) t q in
     let at = stored_there (way_of q before.in_place) found after.map done reply key e
-    (ap (λ (p : PoolState). p.exact) h.is_found.pool ∙ exact) stored other is near h.leaves in
+    (ap (λ (p : PoolState). p.exact) h.is_found.pool ∙ exact) stored other is (storable e.deadline low) h.leaves in
     subst (λ (u : ℕ). finite.get (shown_entries after.map.pool after.map.index u) key ≡ Some e)
     (h.is_found.moment ∙ sym moment) at
 

@@ -9,10 +9,12 @@ use Rattle.proto.specs.declared.message.Reply.TheVariants.{NoMemory}
 use Rattle.proto.specs.Sizes.{Sizes, item_limit}
 use Rattle.proto.specs.Cache.{Cache, empty_cache}
 use Rattle.proto.specs.History.{Chain}
-use Rattle.proto.specs.Steps.{Step}
-use Rattle.proto.specs.Commands.{SetsNoDeadline}
+use Rattle.proto.specs.Steps.{Step, IsExecuted, IsDated, without_keys}
+use Rattle.proto.specs.Commands.{Outcome, SetsNoDeadline}
+use Rattle.proto.proofs.CacheLemmas.{without-nil}
+use Rattle.std.proofs.lemmas.Option.{none-some}
 use Rattle.proto.specs.Stored.{StoredItem, is_no_memory, written}
-use Rattle.std.proofs.Common.{◌∙◌, ℕ, ◌≢◌, Bool, true, false, inl, inr}
+use Rattle.std.proofs.Common.{ℕ, ◌≢◌, Bool, true, false, Option, None}
 use Rattle.std.specs.Prelude.{if◌then◌else◌}
 use Rattle.proto.specs.declared.message.Request.{Request}
 use Rattle.proto.specs.declared.message.Request.TheVariants.{Stats}
@@ -22,10 +24,11 @@ use Rattle.proto.proofs.Outcomes.{IsGet}
 use Rattle.engine.specs.Outcomes.{outcome_at}
 use Rattle.engine.specs.Keeping.{IsWithinBound, stored_in, ForgetsNone}
 use Rattle.engine.specs.Reaching.{last_cache}
-use Rattle.storage_thread.specs.Keeping.{stored_bytes, ForgetsNothing, KeepsSoFar, LeadsKeeping}
-use Rattle.storage_thread.specs.Keeping.{MayAlwaysForgetNothing}
+use Rattle.storage_thread.specs.Keeping.{stored_bytes, IsFullStep, KeepsSoFar, LeadsKeeping}
+use Rattle.storage_thread.specs.Keeping.{MayAlwaysForgetNothing, MayLeave}
 use Rattle.exchange.specs.Beginnings.{StartsWith}
-use Rattle.engine.proofs.ReachingLemmas.{IsStepOf, chain_more, last_more}
+use Rattle.engine.proofs.ReachingLemmas.{IsDoneBy, IsStepOf, chain_more, last_more}
+use Rattle.engine.proofs.CarryingLemmas.{carried_alone, one_step, touched_undated}
 use Rattle.storage_thread.proofs.Undated.{NoneDated, undated_empty, undated_outcome, undated_chain, all_left}
 use Rattle.storage_thread.proofs.Undated.{undated_append, undated_in, stored_size, written_in, within_bound}
 
@@ -44,18 +47,41 @@ bytes_more sizes before (b ∷ h) (x ∷ caches) e after c =
     let more = bytes_more sizes x h caches e after c.3 in
     omega (arith, more)
 
--- it forgets nothing
-forgets_more : (sizes : Sizes) (before : Cache) (h : List Answered) (caches : List Cache) (e : Answered) (after : Cache)
-    → Chain (Step sizes) before h caches
-    → ForgetsNothing sizes before h caches
-    → (e.reply ≡ NoMemory)
-    ⊎ (after.entries ≡ (outcome_at sizes (last_cache before caches) e.moment e.request).entries)
-    → ForgetsNothing sizes before (h ++ e ∷ []) (caches ++ after ∷ [])
-forgets_more sizes before [] [] e after c none one = (one, tt)
-forgets_more sizes before [] (x ∷ caches) e after c none one = absurd c
-forgets_more sizes before (b ∷ h) [] e after c none one = absurd c
-forgets_more sizes before (b ∷ h) (x ∷ caches) e after c none one =
-    (none.0, forgets_more sizes x h caches e after c.3 none.1 one)
+-- a step that stores nothing leaves what it found
+stores_none : (sizes : Sizes) (t : ℕ) (done : Outcome) (reply : Reply) (after : Cache) → done.stored ≡ None
+    → IsExecuted sizes t done reply after → after.entries ≡ done.entries
+stores_none sizes t done reply after none x =
+    let none_forgotten : x.forgotten ≡ [] = elim x.may_forget [ inl is ↦ is | inr s ↦ absurd (none-some s.0 (sym none ∙ s.1)) ] in
+    x.entries ∙ ap (without_keys x.dated) none_forgotten ∙ without-nil x.dated
+    ∙ subst (λ (s : Option (List ℕ)). IsDated t done.reply done.entries s x.dated) none x.is_dated
+
+-- so does one for a `stats`, which isn't refused memory
+stats_step : (sizes : Sizes) (t : ℕ) (before : Cache) (q : Request) (reply : Reply) (after : Cache) → q ≡ Stats
+    → Step sizes t before q reply after → reply ≢ NoMemory → after.entries ≡ (outcome_at sizes before t q).entries
+stats_step sizes t before q reply after is step other =
+    let done = outcome_at sizes before t q in
+    let none : done.stored ≡ None = subst (λ (r : Request). (outcome_at sizes before t r).stored ≡ None) (sym is) refl in
+    elim step [ inl x ↦ stores_none sizes t done reply after none x | inr x ↦ absurd (other x.reply_is) ]
+
+-- the step of a request that sets no deadline, which forgets nothing, as its entry says
+full_step : (sizes : Sizes) (before : Cache) (e : Answered) (after : Cache) → SetsNoDeadline e.request
+    → IsStepOf sizes before e after
+    → (e.reply ≡ NoMemory) ⊎ (after.entries ≡ (outcome_at sizes before e.moment e.request).entries)
+    → IsDoneBy (IsFullStep sizes) before e after
+full_step sizes before e after sets (reply, told, carried) left =
+    let step = one_step sizes before e.moment e.request reply after sets carried in
+    let full : reply ≢ NoMemory → after.entries ≡ (outcome_at sizes before e.moment e.request).entries =
+    λ other. elim left [
+      | inl refused ↦ elim told [
+        | inl same ↦ absurd (other (same ∙ refused))
+        | inr is ↦ stats_step sizes e.moment before e.request reply after is step other
+      ]
+      | inr is ↦ is
+    ] in (
+      reply,
+      told,
+      carried_alone (IsFullStep sizes e.moment) before e.request reply after (step, full) (touched_undated e.request reply sets),
+    )
 
 -- no request sets a deadline
 abbrev SetNone : List Answered → Type 0
@@ -129,9 +155,10 @@ keeps_told sizes before e first after old new (inr stats) other keeps items kept
 keeps_more : (sizes : Sizes) (h : List Answered) (caches : List Cache) (e : Answered) (after : Cache)
     (old new : List StoredItem → Type 0)
     → Chain (Step sizes) (empty_cache 0) h caches → KeepsSoFar sizes h caches old
+    → IsStepOf sizes (last_cache (empty_cache 0) caches) e after
     → KeepsStep sizes (last_cache (empty_cache 0) caches) e after old new
     → KeepsSoFar sizes (h ++ e ∷ []) (caches ++ after ∷ []) new
-keeps_more sizes h caches e after old new chain so_far step undated within =
+keeps_more sizes h caches e after old new chain so_far done step undated within =
     let start = empty_cache 0 in
     let before = last_cache start caches in
     let sets : SetNone (h ++ e ∷ []) =
@@ -154,8 +181,8 @@ keeps_more sizes h caches e after old new chain so_far step undated within =
       now.1,
       same,
       items,
-      forgets_more sizes start h caches e after chain was.4
-          (all_left sizes before e.moment e.request e.reply after none now.0),
+      chain_more (IsFullStep sizes) start h caches e after was.4
+          (full_step sizes before e after last done (all_left sizes before e.moment e.request e.reply after none now.0)),
     )
 
 -- ---- beginnings
@@ -195,7 +222,7 @@ MayForgetNothing sizes h =
     All (λ e. SetsNoDeadline e.request) h
     → ((caches : List Cache) → Chain (Step sizes) start h caches
     → stored_bytes sizes start h caches ≤ (sizes.segments - 1) * (sizes.segment_size - item_limit sizes))
-    → (caches : List Cache) × Chain (Step sizes) start h caches × ForgetsNothing sizes start h caches
+    → MayLeave (λ done after. after.entries ≡ done.entries) sizes h
 
 always_more : (sizes : Sizes) (h : List Answered) (e : Answered) → MayAlwaysForgetNothing sizes h
     → MayForgetNothing sizes (h ++ e ∷ []) → MayAlwaysForgetNothing sizes (h ++ e ∷ [])
@@ -207,7 +234,7 @@ always_more sizes h e was now b (r, is) = pick (split_last h b r e is)
 
 always_first : (sizes : Sizes) → MayAlwaysForgetNothing sizes []
 always_first sizes b (r, is) =
-    subst (λ (z : List Answered). MayForgetNothing sizes z) (sym (none_front b r is)) (λ undated within. ([], tt, tt))
+    subst (λ (z : List Answered). MayForgetNothing sizes z) (sym (none_front b r is)) (λ undated within. ([], tt))
 
 -- before the first request
 pub leads_first : (sizes : Sizes) (h : List Answered) (cache : Cache) (keeps : List StoredItem → Type 0) → h ≡ []
@@ -224,13 +251,13 @@ pub leads_more : (sizes : Sizes) (h : List Answered) (c after : Cache) (e : Answ
     → LeadsKeeping sizes (h ++ e ∷ []) after new
 leads_more sizes h c after e old new l s step =
     let caches = l.caches ++ after ∷ [] in
-    let chain = chain_more (Step sizes) (empty_cache 0) h l.caches e after l.chain
-    (subst (λ (z : Cache). IsStepOf sizes z e after) (sym l.cache_is) s) in
-    let kept = keeps_more sizes h l.caches e after old new l.chain l.kept
+    let done = subst (λ (z : Cache). IsStepOf sizes z e after) (sym l.cache_is) s in
+    let chain = chain_more (Step sizes) (empty_cache 0) h l.caches e after l.chain done in
+    let kept = keeps_more sizes h l.caches e after old new l.chain l.kept done
     (subst (λ (z : Cache). KeepsStep sizes z e after old new) (sym l.cache_is) step) in record {
       caches = caches;
       chain = chain;
       cache_is = last_more (empty_cache 0) l.caches after;
       kept = kept;
-      always = always_more sizes h e l.always (λ undated within. (caches, chain, (kept undated (within caches chain)).4));
+      always = always_more sizes h e l.always (λ undated within. (caches, (kept undated (within caches chain)).4));
     }

@@ -12,8 +12,8 @@ use Rattle.engine.proofs.ReachingLemmas.{legal_of}
 use Rattle.storage_thread.specs.declared.side.SideState.{SideState}
 use Rattle.storage_thread.specs.declared.serving.StorageReport.{StorageReport}
 use Rattle.storage_thread.specs.Serving.{SaidBye}
-use Rattle.storage_thread.specs.Keeping.{MayAlwaysForgetNothing}
-use Rattle.storage_thread.specs.Deadlines.{MayStoreAsAsked}
+use Rattle.storage_thread.specs.Keeping.{MayAlwaysForgetNothing, MayLeave}
+use Rattle.engine.specs.Deadlines.{IsAsAsked}
 use Rattle.storage_thread.specs.Sides.{IsSideServing, IsLeftBySide}
 use Rattle.storage_thread.proofs.Turns.{all_said}
 
@@ -58,7 +58,7 @@ module _ {S C : Type 0} (cache : S → Cache) (moment : S → ℕ) (sizes : S �
     bounded = λ began. subst (λ (t : Terms). MayAlwaysForgetNothing t.geometry s.end.end.history) i.serving.same.2
         (i.kept began).always;
     dated = λ on. let l = i.dated on in
-        subst (λ (t : Terms). MayStoreAsAsked t.geometry s.end.end.history) i.serving.same.2 (l.caches, l.chain);
+        subst (λ (t : Terms). MayLeave IsAsAsked t.geometry s.end.end.history) i.serving.same.2 (l.caches, l.chain);
     executed = i.counted;
   }
 

@@ -7,11 +7,6 @@ use Rattle.proto.specs.History.{Chain}
 use Rattle.engine.specs.Deadlines.{IsExactStep}
 use Rattle.engine.specs.Reaching.{last_cache}
 
--- in some chain of the history each step stores its entry as the request asks, with the very
--- deadline
-abbrev pub MayStoreAsAsked : Sizes → List Answered → Type 0
-MayStoreAsAsked sizes history = (caches : List Cache) × Chain (IsExactStep sizes) (empty_cache 0) history caches
-
 -- A chain of steps that store entries as asked leads through the history to this cache, over a
 -- store that goes on so.
 pub record LeadsAsAsked (sizes : Sizes) (history : List Answered) (cache : Cache) (exact : Bool) : Type 0 where

@@ -1,13 +1,15 @@
 -- Histories in which nothing is forgotten, since little is stored.
-use Rattle.std.specs.Prelude.{◌≡◌, ℕ, ◌+◌, ◌-◌, ◌*◌, ◌≤◌, ◌⊎◌, ⊤, List, ◌∷◌, All, None, if◌then◌else◌}
+use Rattle.std.specs.Prelude.{◌≡◌, ℕ, ◌+◌, ◌-◌, ◌*◌, ◌≤◌, ◌≢◌, List, ◌∷◌, All, None, if◌then◌else◌}
 use Rattle.std.specs.List.{AllByRecursion}
 use Rattle.std.specs.Option.{option_map_or}
 use Rattle.proto.specs.declared.history.Answered.{Answered}
+use Rattle.proto.specs.declared.message.Request.{Request}
+use Rattle.proto.specs.declared.message.Reply.{Reply}
 use Rattle.proto.specs.declared.message.Reply.TheVariants.{NoMemory}
 use Rattle.proto.specs.Sizes.{Sizes, item_limit}
 use Rattle.proto.specs.Cache.{Cache, empty_cache}
 use Rattle.proto.specs.Buckets.{bucket_of}
-use Rattle.proto.specs.Commands.{SetsNoDeadline}
+use Rattle.proto.specs.Commands.{Outcome, SetsNoDeadline}
 use Rattle.proto.specs.Steps.{size_at, Step}
 use Rattle.proto.specs.History.{Chain}
 use Rattle.proto.specs.Stored.{StoredItem, is_no_memory, written}
@@ -23,11 +25,16 @@ stored_bytes sizes before (e ∷ history) (after ∷ caches) =
     + stored_bytes sizes after history caches
 stored_bytes _ _ _ _ = 0
 
-abbrev pub ForgetsNothing : Sizes → Cache → List Answered → List Cache → Type 0
-ForgetsNothing sizes before (e ∷ history) (after ∷ caches) =
-    ((e.reply ≡ NoMemory) ⊎ (after.entries ≡ (outcome_at sizes before e.moment e.request).entries))
-    × ForgetsNothing sizes after history caches
-ForgetsNothing _ _ _ _ = ⊤
+-- In some chain of the history, each step that isn't refused memory leaves of its outcome what
+-- `Leaves` says.
+abbrev pub MayLeave : (Outcome → Cache → Type 0) → Sizes → List Answered → Type 0
+MayLeave Leaves sizes history = (caches : List Cache) × Chain (λ t before q reply after. Step sizes t before q reply after
+    × (reply ≢ NoMemory → Leaves (outcome_at sizes before t q) after)) (empty_cache 0) history caches
+
+-- a step that forgets nothing
+abbrev pub IsFullStep : Sizes → ℕ → Cache → Request → Reply → Cache → Type 0
+IsFullStep sizes t before q reply after =
+    Step sizes t before q reply after × (reply ≢ NoMemory → after.entries ≡ (outcome_at sizes before t q).entries)
 
 -- Of each beginning of the history: if no request sets a deadline, and each chain stores no more
 -- than all segments but one hold, each less the size of a largest item, then some chain forgets
@@ -38,7 +45,7 @@ MayAlwaysForgetNothing sizes history =
     (beginning : List Answered) → StartsWith history beginning → All (λ e. SetsNoDeadline e.request) beginning
     → ((caches : List Cache) → Chain (Step sizes) start beginning caches
     → stored_bytes sizes start beginning caches ≤ (sizes.segments - 1) * (sizes.segment_size - item_limit sizes))
-    → (caches : List Cache) × Chain (Step sizes) start beginning caches × ForgetsNothing sizes start beginning caches
+    → MayLeave (λ done after. after.entries ≡ done.entries) sizes beginning
 
 -- Where no request set a deadline, and what was stored is within the bound, nothing was forgotten
 -- so far, and a store keeps items of as many bytes, none of which has a deadline.
@@ -49,7 +56,7 @@ KeepsSoFar sizes history caches keeps =
     All (λ e. SetsNoDeadline e.request) history
     → bytes ≤ (sizes.segments - 1) * (sizes.segment_size - item_limit sizes)
     → (items : List StoredItem) × keeps items × (written items ≡ bytes)
-    × AllByRecursion (λ i. i.bucket ≡ bucket_of None) items × ForgetsNothing sizes start history caches
+    × AllByRecursion (λ i. i.bucket ≡ bucket_of None) items × Chain (IsFullStep sizes) start history caches
 
 -- A chain of steps leads through the history to this cache, and forgot nothing so far; nor need one
 -- of a beginning have.

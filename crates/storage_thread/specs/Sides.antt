@@ -12,8 +12,9 @@ use Rattle.storage_thread.specs.declared.side.Origin.{Origin}
 use Rattle.storage_thread.specs.declared.side.SideState.{SideState}
 use Rattle.storage_thread.specs.declared.serving.StorageReport.{StorageReport}
 use Rattle.storage_thread.specs.Serving.{IsReadSince, IsTimed, IsStorageServing, IsSameExchange, taken_as}
-use Rattle.storage_thread.specs.Keeping.{LeadsKeeping, MayAlwaysForgetNothing}
-use Rattle.storage_thread.specs.Deadlines.{LeadsAsAsked, MayStoreAsAsked}
+use Rattle.storage_thread.specs.Keeping.{LeadsKeeping, MayAlwaysForgetNothing, MayLeave}
+use Rattle.engine.specs.Deadlines.{IsAsAsked}
+use Rattle.storage_thread.specs.Deadlines.{LeadsAsAsked}
 
 -- two notes of what a side began with say the same
 abbrev pub IsSameOrigin : {S C : Type 0} → Origin S C → Origin S C → Type 0
@@ -52,5 +53,5 @@ pub record IsLeftBySide {C : Type 0} (told : C → Option (List ℕ)) (leads_to 
   pub leads : leads_to clock report.clock
   pub moments : IsTimed (told clock) (told report.clock) report.storage_end.history
   pub bounded : keeps → MayAlwaysForgetNothing end.terms.geometry report.storage_end.history
-  pub dated : exact ≡ true → MayStoreAsAsked end.terms.geometry report.storage_end.history
+  pub dated : exact ≡ true → MayLeave IsAsAsked end.terms.geometry report.storage_end.history
   pub executed : report.executed ≡ min (length report.storage_end.history) (2 ^ 64 - 1)

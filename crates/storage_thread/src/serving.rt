@@ -10,8 +10,9 @@ ghost use Rattle.engine.specs.Reaching.{Reaches};
 ghost use Rattle.storage_thread.specs.Serving.{AsksClock, IsReadSince, IsTimed, taken_as, SaidBye, IsUnused};
 ghost use Rattle.storage_thread.specs.Serving.{IsSameExchange, IsStorageServing};
 ghost use Rattle.storage_thread.specs.Serving.{GetsNone, GetsMessage, AnswersOpenRequest};
-ghost use Rattle.storage_thread.specs.Keeping.{LeadsKeeping, MayAlwaysForgetNothing};
-ghost use Rattle.storage_thread.specs.Deadlines.{LeadsAsAsked, MayStoreAsAsked};
+ghost use Rattle.storage_thread.specs.Keeping.{LeadsKeeping, MayAlwaysForgetNothing, MayLeave};
+ghost use Rattle.storage_thread.specs.Deadlines.{LeadsAsAsked};
+ghost use Rattle.engine.specs.Deadlines.{IsAsAsked};
 
 use crate::side::{Served, StorageSide};
 use crate::stats::StatsSource;
@@ -326,7 +327,7 @@ pub fn run_storage<R: Wait + time::Clock, S: StorageEngine + Drop, C: Clock>(
     ensures bounded { S.keeps store [] → MayAlwaysForgetNothing storage_end.terms.geometry result.storage_end.history }
 
     // over a store that keeps deadlines to the second, each entry has the deadline asked for
-    ensures dated { S.is_exact store ≡ true → MayStoreAsAsked storage_end.terms.geometry result.storage_end.history }
+    ensures dated { S.is_exact store ≡ true → MayLeave IsAsAsked storage_end.terms.geometry result.storage_end.history }
     ensures executed { result.executed ≡ min (length result.storage_end.history) (2 ^ 64 - 1) }
 {
     let mut side = StorageSide::new(rt, store, clock, storage_end);

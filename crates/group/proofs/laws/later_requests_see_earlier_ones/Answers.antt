@@ -7,9 +7,12 @@ use Rattle.group.proofs.Precedence.{later_sees}
 use Rattle.group.proofs.laws.later_requests_see_earlier_ones.Goals as goal
 
 pub returns-clause-sees : goal.returns-clause-sees
-returns-clause-sees c = λ sizes answering sending later one other told asked joined legal p.
-    let at = subst (λ h. get_elem? h p.place ≡ some one) told p.answered in
-    let sent = asked.asked p.session p.messages p.rest p.came in
-    let found = subst (λ w. get_elem? (session_share later w p.session) p.further ≡ some other) (sym asked.worker) p.stands in
-    let more = c.order_in_real_time.ensures.behind p.session p.further (asks p.messages) later other sent joined found p.unsent in
-    later_sees sizes c.args.earlier.items more.0 later p.place more.1 one other more.2 at more.3 legal
+returns-clause-sees c =
+    λ sizes sending later one other asked joined legal p.
+    let s = other.session in
+    let place = p.0 in
+    let further = p.1 in
+    let sent = asked.asked s p.2 p.3 p.5 in
+    let found = subst (λ w. get_elem? (session_share later w s) further ≡ some other) (sym asked.worker) p.7 in
+    let more = c.order_in_real_time.ensures.behind s further (asks p.2) later other sent joined found p.6 in
+    later_sees sizes c.args.earlier.items more.0 later place more.1 one other more.2 p.4 more.3 legal

@@ -11,14 +11,12 @@ docs/OPERATIONS.md that tells it; --show prints what failed in that file's form.
 'N passed, M failed as the documents say, K otherwise'.
 """
 import argparse
-import contextlib
 import glob
 import itertools
 import os
 import pathlib
 import re
 import shutil
-import signal
 import subprocess
 import sys
 import tempfile
@@ -43,26 +41,18 @@ OF_FAST = """big-value commands flush-all magic malformed namespace noreply nowa
     utf8""".split()
 # The most seconds that one file of tests may take, the test of a limit of a minute, and a monitor.
 SECONDS, LIMIT_SECONDS, MONITOR_SECONDS = 120, 150, 20
+# The status of a command whose time was over.
+ENDED = 124
 
 
 def run(words, seconds=MONITOR_SECONDS, cwd=None, **environment):
-    """The status of a command, None if it was ended after so many seconds, and what it said. What
-    it didn't end itself is ended with it."""
-    process = subprocess.Popen(
-        words, stdout=subprocess.PIPE, stderr=subprocess.DEVNULL, text=True, errors="replace",
-        start_new_session=True, cwd=cwd, env={**os.environ, **environment})
-    try:
-        said, _ = process.communicate(timeout=seconds)
-        return process.returncode, said
-    except subprocess.TimeoutExpired:
-        os.killpg(process.pid, signal.SIGTERM)
-        with contextlib.suppress(subprocess.TimeoutExpired):
-            return None, process.communicate(timeout=10)[0]
-        os.killpg(process.pid, signal.SIGKILL)
-        return None, process.communicate()[0]
-    finally:
-        with contextlib.suppress(ProcessLookupError):
-            os.killpg(process.pid, signal.SIGKILL)
+    """The status of a command, or ENDED after so many seconds, and what it said. What it leaves is
+    ended with it, since it has process numbers of its own."""
+    alone = ["timeout", "-k", "10", str(seconds), "unshare", "--pid", "--fork", "--kill-child"]
+    ran = subprocess.run(
+        [*alone, *words], stdout=subprocess.PIPE, stderr=subprocess.DEVNULL, text=True, cwd=cwd,
+        errors="replace", env={**os.environ, **environment}, check=False)
+    return ran.returncode, ran.stdout
 
 
 def fetch():
@@ -104,62 +94,54 @@ def of_perl(source, name, tests, **environment):
     passed = dict.fromkeys(range(1, int(plan[1]) + 1 if plan else 1), False)
     for bad, number in re.findall(r"^(not )?ok (\d+)", said, re.MULTILINE):
         passed[int(number)] = not bad
-    passed["end"] = plan is not None and status is not None
+    passed["end"] = plan is not None and status != ENDED
     return {f"{source}/{name}.t {number}": holds for number, holds in passed.items()}
 
 
-def memcached(program):
+def memcached(program, _):
     tests, results = unpack("memcached"), {}
     shutil.copy(f"{HERE}/MemcachedTest.pm", f"{tests}/lib")
     for name in OF_MEMCACHED:
-        results.update(of_perl("memcached", name, tests, SEGCACHED=program))
+        results |= of_perl("memcached", name, tests, SEGCACHED=program)
     return results
 
 
-def fast(program):
+def fast(program, _):
     tests, results = unpack("libcache-memcached-fast-perl"), {}
     shutil.copy(f"{HERE}/Memd.pm", tests)
     for name in OF_FAST:
         with Server(program, *OF_THE_PACKAGE) as server:
-            results.update(of_perl("fast", name, tests, PORT=str(server.port)))
+            results |= of_perl("fast", name, tests, PORT=str(server.port))
     return results
 
 
-def pymemcache(program):
+def pymemcache(_, server):
     """Its integration tests, as the package has them; one with several clients passes if it does
     with each."""
-    results = {}
-    with Server(program, *OF_THE_PACKAGE) as server:
-        words = ["/usr/bin/python3", "-B", "-m", "pytest", "-p", "no:cacheprovider", "--tb=no"]
-        # (the package lacks the certificates of the one over TLS)
-        words += ["-rA", OF_PYMEMCACHE, "-k", "not tls", "--server", "127.0.0.1"]
-        words += ["--port", str(server.port)]
-        _, said = run(words, SECONDS, cwd=WORK)
-    for verdict, name in re.findall(r"^(PASSED|FAILED|ERROR) \S+::(\w+)", said, re.MULTILINE):
-        name = f"pymemcache/{name}"
-        results[name] = results.get(name, True) and verdict == "PASSED"
+    # (the package lacks the certificates of the one over TLS)
+    words = ["/usr/bin/python3", "-B", "-m", "pytest", "-p", "no:cacheprovider", "--tb=no", "-rA",
+             OF_PYMEMCACHE, "-k", "not tls", "--server", "127.0.0.1", "--port", str(server.port)]
+    verdicts = re.findall(r"^(PASSED|FAILED|ERROR) \S+::(\w+)", run(words, SECONDS, WORK)[1], re.M)
+    results = {f"pymemcache/{name}": True for _, name in verdicts}
+    results.update({f"pymemcache/{name}": False for word, name in verdicts if word != "PASSED"})
     return results
 
 
-def memccapable(program):
+def memccapable(_, server):
     """Its text part: each line begins with a test; what went wrong may precede the verdict."""
     results, name = {}, None
-    with Server(program, *OF_THE_PACKAGE) as server:
-        words = ["sh", "-c", 'memccapable -h 127.0.0.1 -p "$0" -a -t 5 2>&1', str(server.port)]
-        for line in run(words, SECONDS)[1].splitlines():
-            name = line[6:40].strip().replace(" ", "_") if line.startswith("ascii ") else name
-            verdict = re.search(r"\[(pass|FAIL)\]", line)
-            if verdict:
-                results[f"memccapable/{name}"] = verdict[1] == "pass"
+    words = ["sh", "-c", 'memccapable -h 127.0.0.1 -p "$0" -a -t 5 2>&1', str(server.port)]
+    for line in run(words, SECONDS)[1].splitlines():
+        name = line[6:40].strip().replace(" ", "_") if line.startswith("ascii ") else name
+        if verdict := re.search(r"\[(pass|FAIL)\]", line):
+            results[f"memccapable/{name}"] = verdict[1] == "pass"
     return results
 
 
-def limits(program):
+def limits(_, server):
     """A limit of 100 requests a minute holds, and a TTL ends when it should."""
-    with Server(program, *OF_THE_PACKAGE) as server:
-        words = ["/usr/bin/python3", "-B", f"{TOP}/tools/clients/ttl_calls.py", str(server.port)]
-        _, said = run(words, LIMIT_SECONDS)
-    works = dict(re.findall(r"^(\S+) works:(.*)$", said, re.MULTILINE))
+    words = ["/usr/bin/python3", "-B", f"{TOP}/tools/clients/ttl_calls.py", str(server.port)]
+    works = dict(re.findall(r"^(\S+) works:(.*)$", run(words, LIMIT_SECONDS)[1], re.MULTILINE))
     return {f"limits/{it}": bool(works.get(it, "").strip()) for it in ("Flask-Limiter", "Postfix")}
 
 
@@ -266,18 +248,17 @@ def tools(server, _):
         yield f"memcached-tool {mode}", status == 0 and wanted in said, said
 
 
-def monitors(program):
+def monitors(_, server):
     """Of each thing that a monitor has to show whether it does; what it said where it doesn't is
     printed."""
     results = {}
-    with Server(program, *OF_THE_PACKAGE) as server:
-        use(server)
-        for monitor in (munin, collectd, netdata, nagios, tools):
-            with tempfile.TemporaryDirectory() as folder:
-                for name, holds, said in monitor(server, folder):
-                    results[f"monitors/{name.replace(' ', '_')}"] = holds
-                    if not holds:
-                        print(f"{name}:\n{said}", file=sys.stderr)
+    use(server)
+    for monitor in (munin, collectd, netdata, nagios, tools):
+        with tempfile.TemporaryDirectory() as folder:
+            for name, holds, said in monitor(server, folder):
+                results[f"monitors/{name.replace(' ', '_')}"] = holds
+                if not holds:
+                    print(f"{name}:\n{said}", file=sys.stderr)
     return results
 
 
@@ -287,11 +268,10 @@ SUITES = {it.__name__: it for it in (memcached, fast, pymemcache, memccapable, l
 
 
 def read_expected():
-    """By test its sentence; each has to stand in its page."""
-    expected, sentence = {}, None
+    """The tests that are to fail. The sentence above each has to stand in its page."""
+    expected = set()
     for line in read(f"{HERE}/expected").splitlines():
         if found := re.match(r"(CLIENTS|OPERATIONS): (.+)", line):
-            sentence = found[0]
             if found[2] not in " ".join(read(f"{TOP}/docs/{found[1]}.md").split()):
                 raise Trouble(f"docs/{found[1]}.md doesn't say: {found[2]}")
         elif line.strip() and not line.startswith("#"):
@@ -299,8 +279,8 @@ def read_expected():
             name, _, numbers = line.partition(" ")
             for part in numbers.split(","):
                 first, _, last = part.partition("-")
-                for it in range(int(first), int(last) + 1) if last else [first]:
-                    expected[f"{name} {it}".rstrip()] = sentence
+                each = range(int(first), int(last) + 1) if last else [first]
+                expected.update(f"{name} {it}".rstrip() for it in each)
     return expected
 
 
@@ -327,27 +307,30 @@ def main():
         subprocess.run(["python3", f"{TOP}/tools/prove.py"], check=True)
     names, results = [words.only] if words.only else SUITES, {}
     try:
+        told = {it for it in read_expected() if it.partition("/")[0] in names}
         os.makedirs(WORK, exist_ok=True)
         install(*PACKAGES)
         fetch()
         for name in names:
-            found = SUITES[name](os.path.abspath(words.program or PROGRAM))
+            program = os.path.abspath(words.program or PROGRAM)
+            with Server(program, *OF_THE_PACKAGE) as server:
+                found = SUITES[name](program, server)
             print(f"{name}: {len(found)} tests", flush=True)
             results |= found
-        told = {it for it in read_expected() if it.partition("/")[0] in names}
     except Trouble as trouble:
         sys.exit(f"peers: {trouble}")
-    failed = {name: None for name, holds in results.items() if not holds}
+    failed = [name for name, holds in results.items() if not holds]
     if words.show:
         print("\n".join(in_ranges(failed)))
-    untold = [it for it in failed if it not in told]
-    passing = [it for it in told if results.get(it, True)]
-    for line in in_ranges(untold):
-        print(f"failed, and no document says so: {line}")
-    for line in in_ranges(passing):
-        print(f"passed, or wasn't run, though it is expected to fail: {line}")
-    print(f"{len(results) - len(failed)} passed, {len(failed) - len(untold)} failed as the"
-          f" documents say, {len(untold) + len(passing)} otherwise")
+    amiss = {"failed, and no document says so": [it for it in failed if it not in told],
+             "passed, or wasn't run, though it is expected to fail":
+             [it for it in sorted(told) if results.get(it, True)]}
+    for what, tests in amiss.items():
+        for line in in_ranges(tests):
+            print(f"{what}: {line}")
+    untold, passing = map(len, amiss.values())
+    print(f"{len(results) - len(failed)} passed, {len(failed) - untold} failed as the documents"
+          f" say, {untold + passing} otherwise")
     return 1 if untold or passing or not results else 0
 
 

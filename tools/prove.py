@@ -104,19 +104,16 @@ def lacks_kit():
     ran = subprocess.run(["rt", "version"], stdin=subprocess.DEVNULL, capture_output=True,
                          text=True, errors="replace", check=False)
     found = ran.stdout.strip().partition("\n")[0]
-    if not f" {found}".endswith(f" {wanted}"):
-        return (f"the rt on the path has another logic, '{found}': segcached is proved with"
-                f" '{wanted}'")
-    return None
+    said = f"the rt on the path has another logic, '{found}': segcached is proved with '{wanted}'"
+    return None if f" {found}".endswith(f" {wanted}") else said
 
 
 def lacks_memory(free=None):
     """What is wrong with the memory here, in one line, or None."""
     free = free_gigabytes() if free is None else free
     wanted = 2 * GIGABYTES_A_PROOF
-    if free < wanted:
-        return f"{free:.1f} GB of memory are free, and proving needs {wanted:.0f} GB"
-    return None
+    said = f"{free:.1f} GB of memory are free, and proving needs {wanted:.0f} GB"
+    return said if free < wanted else None
 
 
 def at_once():
@@ -199,10 +196,10 @@ def package_version(number, commit, folder=None):
     Behind the number stand the commit's date, in UTC, and its short hash; with changes that aren't
     committed the date is now."""
     form, name = "%Y%m%d.%H%M%S", commit.removesuffix(CHANGED)
-    words = ["git", "show", "-s", "--format=%cd.g%h", f"--date=format-local:{form}", name]
-    date, _, short = output_of(*words, folder=folder, TZ="UTC").rpartition(".")
+    words = ["git", "show", "-s", "--format=%cd g%h", f"--date=format-local:{form}", name]
+    date, short = output_of(*words, folder=folder, TZ="UTC").split()
     if name != commit:
-        return f"{number}+{time.strftime(form, time.gmtime())}.{short}.changed"
+        date, short = time.strftime(form, time.gmtime()), f"{short}.changed"
     return f"{number}+{date}.{short}"
 
 
@@ -278,23 +275,23 @@ def minutes_and_seconds(seconds):
     return f"{int(seconds) // 60}:{int(seconds) % 60:02}"
 
 
-def run_ci(copy, said):
-    """Runs `rt ci` over a copy, and gives its status, and whether a signal ended it. Each line of
-    what it says is given to `said`."""
+def run_ci(copy, note):
+    """Runs `rt ci` over a copy, and gives its status, or INTERRUPTED. Each line of what it says is
+    noted."""
     to = {"stdin": subprocess.DEVNULL, "stdout": subprocess.PIPE, "stderr": subprocess.STDOUT}
     with subprocess.Popen(["rt", "ci"], cwd=copy, process_group=0, text=True, **to) as ran:
-        signals = []
-
-        def end(number, _):
-            signals.append(number)
+        for number in ENDS:
+            signal.signal(number, signal.default_int_handler)
+        try:
+            for line in ran.stdout:
+                note(line.replace(copy, TOP))
+        except KeyboardInterrupt:
+            for number in ENDS:
+                signal.signal(number, signal.SIG_IGN)
             with contextlib.suppress(ProcessLookupError):
                 os.killpg(ran.pid, signal.SIGTERM)
-
-        for number in ENDS:
-            signal.signal(number, end)
-        for line in ran.stdout:
-            said(line.replace(copy, TOP))
-    return ran.returncode, bool(signals)
+            return INTERRUPTED
+    return ran.returncode
 
 
 def prove():
@@ -312,13 +309,11 @@ def prove():
 
     with tempfile.TemporaryDirectory(prefix="segcached-") as copy:
         copy_crates(names, copy)
-        status, was_ended = run_ci(copy, note)
-        if was_ended:
-            print(f"Interrupted: {len(proved)} of {len(names)} crates are proved and kept; the next"
-                  " run goes on from there.", flush=True)
-            return INTERRUPTED
+        status = run_ci(copy, note)
         if status:
-            print("".join(lines)[-SHOWN:], end="", flush=True)
+            print(f"Interrupted: {len(proved)} of {len(names)} crates are proved and kept; the next"
+                  " run goes on from there." if status == INTERRUPTED else
+                  "".join(lines)[-SHOWN:].rstrip("\n"), flush=True)
             return status
         os.makedirs(os.path.dirname(PROGRAM), exist_ok=True)
         # (the old one may be running)
@@ -333,26 +328,15 @@ def prove():
     return 0
 
 
-def alone_here():
-    """Waits until no other run proves in this repository, and keeps others out until it closes."""
-    held = os.open(TOP, os.O_RDONLY)
-    try:
-        fcntl.flock(held, fcntl.LOCK_EX | fcntl.LOCK_NB)
-    except BlockingIOError:
-        print("Waiting for another run of tools/prove.py to end", flush=True)
-        fcntl.flock(held, fcntl.LOCK_EX)
-    return held
-
-
 def run():
     """Proves and builds the program, unless that was done and nothing has changed since."""
     if is_kept():
         return 0
     stop_where_lacking(lacks_kit())
-    held = alone_here()
-    status = prove()
-    os.close(held)
-    return status
+    # (a second run in this repository waits for the first one to end)
+    with open(__file__, "rb") as held:
+        fcntl.flock(held, fcntl.LOCK_EX)
+        return prove()
 
 
 def main():

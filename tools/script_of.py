@@ -81,6 +81,10 @@ def read_file(name):
     return sys.stdin.buffer.read() if name == "-" else pathlib.Path(name).read_bytes()
 
 
+def shown(data):
+    return data.decode("latin-1").encode("unicode_escape").decode("ascii")
+
+
 def run_text(words):
     script = Script(words.workers)
     for name in words.files:
@@ -98,22 +102,12 @@ def address(text):
     return host.strip("[]"), int(port)
 
 
-class Recording:
-    """One session's part of a recording: what it sends goes into the script; answers are kept."""
-
-    def __init__(self, script, answers):
-        self.script, self.session = script, script.open()
-        self.answer = answers.setdefault(self.session, bytearray()).extend
-
-    def send(self, data):
-        self.script.send(self.session, data)
-
-
 class Proxy:
-    """A proxy in front of a server, which gives what goes through to an observer a session."""
+    """A proxy in front of a server. `observe` gives, for each session, what is called with the
+    bytes that its client sends, and with those that it is answered."""
 
-    def __init__(self, words, observer):
-        self.words, self.observer, self.begun, self.ended = words, observer, 0, 0
+    def __init__(self, words, observe):
+        self.words, self.observe, self.begun, self.ended = words, observe, 0, 0
 
     async def run(self):
         """Ends when it is interrupted, when all sessions have come and gone, or with a fault."""
@@ -134,11 +128,11 @@ class Proxy:
         if self.begun == self.words.sessions:
             self.listener.close()
         try:
-            observer = self.observer()
+            sent, answered = self.observe()
             opening = asyncio.open_connection(*self.words.to)
             answers, server = await asyncio.wait_for(opening, 10)
-            await asyncio.gather(self.pass_on(requests, server, observer.send),
-                                 self.pass_on(answers, client, observer.answer))
+            await asyncio.gather(self.pass_on(requests, server, sent),
+                                 self.pass_on(answers, client, answered))
             server.close()
         except (Trouble, OSError) as trouble:
             self.trouble = trouble
@@ -157,6 +151,24 @@ class Proxy:
             target.write_eof()
 
 
+def run_record(words):
+    script, answers = Script(words.workers), {}
+
+    def observe():
+        session = script.open()
+        answers[session] = bytearray()
+        return lambda data: script.send(session, data), answers[session].extend
+
+    asyncio.run(Proxy(words, observe).run())
+    sys.stdout.write(script.text())
+    if words.answers:
+        # (by worker and then session, as `segcached replay` prints them)
+        rows = sorted((script.worker_of(it), it, answers[it].hex() or "-") for it in answers)
+        pathlib.Path(words.answers).write_text("".join("%d %d %s\n" % it for it in rows))
+
+
+# ---- what is refused
+
 # Of each command with a data block, at which place of the line the block's length stands.
 LENGTHS = dict.fromkeys((b"set", b"add", b"replace", b"append", b"prepend", b"cas"), 4) | {b"ms": 2}
 # memcached closes a session whose line is longer.
@@ -174,11 +186,9 @@ OF_VALUES = (b"CLIENT_ERROR cannot increment or decrement non-numeric value",
 
 def block_length(line):
     """How many bytes of data memcached reads after a line, with the end of the data."""
-    words = line.split()
-    place = LENGTHS.get(words[0]) if words else None
-    if place is None or len(words) <= place or not words[place].isdigit():
-        return 0
-    return int(words[place]) + 2
+    words = line.split() or [b""]
+    length = dict(enumerate(words)).get(LENGTHS.get(words[0]), b"")
+    return int(length) + 2 if length.isdigit() else 0
 
 
 class Cutter:
@@ -191,9 +201,6 @@ class Cutter:
         self.unread += data
         while self.is_open and self.unread and self.take():
             self.is_new = False
-
-    def answer(self, data):
-        """What it is answered says nothing here."""
 
     def take(self):
         """Takes a line with its block, if it is there whole."""
@@ -254,7 +261,7 @@ class Refusals:
         """Keeps a line to be asked about, or counts one for which the program isn't asked."""
         self.lines += 1
         if why:
-            self.count_later([line], [why])
+            self.counted.append(self.pool.submit(self.count, line, why))
             return
         self.asked.append((line, length, has_end))
         self.size += len(line) + min(length, MOST_BLOCK)
@@ -262,19 +269,18 @@ class Refusals:
             self.ask()
 
     def ask(self):
-        found = refusals(self.program, self.words, self.asked)
-        self.count_later([line for line, *_ in self.asked], found)
+        self.counted.append(self.pool.submit(self.count_refused, self.asked))
         self.asked, self.size = [], 0
 
-    def count_later(self, lines, found):
-        self.counted.append(self.pool.submit(self.count, lines, found))
-
-    def count(self, lines, found):
-        for line, why in zip(lines, found):
+    def count_refused(self, asked):
+        for (line, *_), why in zip(asked, refusals(self.program, self.words, asked)):
             if why:
-                kind = line.split(b" ")[0].strip()[:20].decode("latin-1"), why.decode()
-                self.counts[kind] += 1
-                self.firsts.setdefault(kind, line)
+                self.count(line, why)
+
+    def count(self, line, why):
+        kind = line.split(b" ")[0].strip()[:20].decode("latin-1"), why.decode()
+        self.counts[kind] += 1
+        self.firsts.setdefault(kind, line)
 
     def text(self):
         self.ask()
@@ -282,36 +288,25 @@ class Refusals:
             it.result()
         rows = [f"{sum(self.counts.values()):,} refused of {self.lines:,} lines\n"]
         for (word, why), count in self.counts.most_common():
-            first = self.firsts[word, why][:60].decode("latin-1")
-            first = first.encode("unicode_escape").decode("ascii")
+            first = shown(self.firsts[word, why][:60])
             rows.append(f"{count:10,}  {word:10} {why}; the first: {first}\n")
         return "".join(rows)
 
 
-def found_program():
-    """That of the repository or of the installation to which this tool belongs, or of the path."""
+def run_refused(words):
+    # (the program of the repository or of the installation to which this tool belongs, or of the
+    # path)
     here = pathlib.Path(__file__).resolve().parent
     places = here / "../crates/segcached/out/segcached", here / "../../../../bin/segcached"
-    return str(next(filter(pathlib.Path.exists, places), "segcached"))
-
-
-def run_record(words):
-    script, answers = Script(words.workers), {}
-    asyncio.run(Proxy(words, lambda: Recording(script, answers)).run())
-    sys.stdout.write(script.text())
-    if words.answers:
-        # (by worker and then session, as `segcached replay` prints them)
-        rows = sorted((script.worker_of(it), it, answers[it].hex() or "-") for it in answers)
-        pathlib.Path(words.answers).write_text("".join("%d %d %s\n" % it for it in rows))
-
-
-def run_refused(words):
+    program = words.program or str(next(filter(pathlib.Path.exists, places), "segcached"))
     options = ["--segment-size", str(words.segment_size), *["--lenient"] * words.lenient]
     if words.max_item_size:
         options += ["--max-item-size", str(words.max_item_size)]
-    refused = Refusals(words.program or found_program(), options)
+    refused = Refusals(program, options)
     if words.to:
-        asyncio.run(Proxy(words, lambda: Cutter(refused.keep)).run())
+        # (what a client is answered says nothing here)
+        observe = lambda: (Cutter(refused.keep).send, lambda _: None)
+        asyncio.run(Proxy(words, observe).run())
     for name in words.files:
         Cutter(refused.keep).send(read_file(name))
     sys.stdout.write(refused.text())
@@ -326,7 +321,7 @@ def run_show(words):
             raise Trouble(f"not a line of `segcached replay`: {line[:60]}") from None
         print(f"worker {worker}, session {session}:")
         for piece in data.splitlines(keepends=True):
-            print("    " + piece.decode("latin-1").encode("unicode_escape").decode("ascii"))
+            print(f"    {shown(piece)}")
 
 
 def read_words():

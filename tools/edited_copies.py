@@ -146,18 +146,13 @@ class Edit(NamedTuple):
 def pairs_of(text):
     """What an edit replaces: files, and in each a text by another."""
     file = old = None
-    for line in text.split("\n"):
-        word, _, rest = line.partition(":")
-        rest = rest.removeprefix(" ")
-        if word == "file":
-            file = rest.strip()
-        elif word == "old":
-            old = rest
-        elif word == "new":
-            if not file or not old:
-                raise Misplaced("a line 'new:' has no 'file:' and 'old:' before it")
+    for word, rest in re.findall(r"^(file|old|new): ?(.*)$", text, re.MULTILINE):
+        if word == "new" and not (file and old):
+            raise Misplaced("a line 'new:' has no 'file:' and 'old:' before it")
+        if word == "new":
             yield file, old, rest
-            old = None
+        file = rest.strip() if word == "file" else file
+        old = rest if word == "old" else None
 
 
 def edited(text, pairs, file):

@@ -1,7 +1,6 @@
 #!/usr/bin/python3
-"""Other people's suites against the proved program: memcached's own tests, pymemcache's,
-memccapable, those of Cache::Memcached::Fast; a limit of requests a minute by Flask-Limiter, and
-Postfix's tables; and Debian's monitors of memcached.
+"""Other people's suites against the proved program: memcached's own tests, pymemcache's, those of
+Cache::Memcached::Fast, and Debian's monitors of memcached.
 
     tools/peers.py [--program PROGRAM] [--only SUITE] [--show]
 
@@ -28,10 +27,9 @@ from served import (
 HERE = f"{TOP}/tools/peers"
 WORK = f"{TOP}/out/peers"
 SOURCES = ["memcached", "libcache-memcached-fast-perl"]
-PACKAGES = """libmemcached-tools python3-pymemcache python3-pytest python3-flask-limiter postfix
-    libcache-memcached-fast-perl libtest2-suite-perl perl memcached munin-plugins-extra
-    libcache-memcached-perl collectd-core netdata-plugins-python netdata-core
-    monitoring-plugins-contrib""".split()
+PACKAGES = """libmemcached-tools python3-pymemcache python3-pytest perl memcached
+    libcache-memcached-fast-perl libtest2-suite-perl munin-plugins-extra libcache-memcached-perl
+    collectd-core netdata-plugins-python netdata-core monitoring-plugins-contrib""".split()
 # Those of memcached's tests that speak of the commands that there are.
 OF_MEMCACHED = """bogus-commands cas evictions expirations flags flush-all getandtouch getset
     incrdecr issue_104 issue_108 issue_14 issue_152 issue_163 issue_183 issue_192 issue_22 issue_29
@@ -39,8 +37,8 @@ OF_MEMCACHED = """bogus-commands cas evictions expirations flags flush-all getan
 OF_PYMEMCACHE = "/usr/lib/python3/dist-packages/pymemcache/test/test_integration.py"
 OF_FAST = """big-value commands flush-all magic malformed namespace noreply nowait serialize
     utf8""".split()
-# The most seconds that one file of tests may take, the test of a limit of a minute, and a monitor.
-SECONDS, LIMIT_SECONDS, MONITOR_SECONDS = 120, 150, 20
+# The most seconds that one file of tests may take, and a monitor.
+SECONDS, MONITOR_SECONDS = 120, 20
 # The status of a command whose time was over.
 ENDED = 124
 
@@ -127,34 +125,31 @@ def pymemcache(_, server):
     return results
 
 
-def memccapable(_, server):
-    """Its text part: each line begins with a test; what went wrong may precede the verdict."""
-    results, name = {}, None
-    words = ["sh", "-c", 'memccapable -h 127.0.0.1 -p "$0" -a -t 5 2>&1', str(server.port)]
-    for line in run(words, SECONDS)[1].splitlines():
-        name = line[6:40].strip().replace(" ", "_") if line.startswith("ascii ") else name
-        if verdict := re.search(r"\[(pass|FAIL)\]", line):
-            results[f"memccapable/{name}"] = verdict[1] == "pass"
-    return results
-
-
-def limits(_, server):
-    """A limit of 100 requests a minute holds, and a TTL ends when it should."""
-    words = ["/usr/bin/python3", "-B", f"{TOP}/tools/clients/ttl_calls.py", str(server.port)]
-    works = dict(re.findall(r"^(\S+) works:(.*)$", run(words, LIMIT_SECONDS)[1], re.MULTILINE))
-    return {f"limits/{it}": bool(works.get(it, "").strip()) for it in ("Flask-Limiter", "Postfix")}
-
-
 # ---- Debian's monitors of memcached
 
-# Each has to show what it shows of memcached, but for what docs/OPERATIONS.md names.
-# Of each plugin of munin, how many values it shows.
-OF_MUNIN = {"bytes": 2, "counters": 3, "rates": 6}
+# Each has to show what it shows of memcached, but for what docs/OPERATIONS.md names. Of those that
+# are commands, what they print; a plugin of munin shows one of its graphs by its name, and U for a
+# value that it doesn't know.
+MUNIN = ("ln -s /usr/share/munin/plugins/memcached_ {folder}/memcached_%s"
+         " && host=127.0.0.1 port={port} perl {folder}/memcached_%s")
+TOOL = "perl /usr/share/memcached/scripts/memcached-tool 127.0.0.1:{port} "
+COMMANDS = {
+    **{f"munin's {graph}": (MUNIN % (graph, graph), rf"(\w+\.value \d+\n){{{count}}}")
+       for graph, count in (("bytes", 2), ("counters", 3), ("rates", 6))},
+    "check_memcached": ("/usr/lib/nagios/plugins/check_memcached -H 127.0.0.1 -p {port}", "OK.*"),
+    # (in the cache itself)
+    "check_memcached keeps its history": (
+        "memccat --servers=127.0.0.1:{port} check_memcached", ".+"),
+    "memcstat": ("memcstat --servers=127.0.0.1:{port}", r"(?=.*get_hits).*bytes_written.*"),
+    # (`dump` shows keys, of which it is told none)
+    **{f"memcached-tool {mode}": (TOOL + mode, wanted) for mode, wanted in (
+        ("stats", ".*get_hits.*"), ("display", ".*#.*"), ("settings", ".*"), ("sizes", ".*"),
+        ("dump", ".*"))},
+}
 # How many series collectd shows of memcached, and those that have no field here.
 SERIES, MISSING = 24, {"memcached_command-meta"}
 # How many charts netdata shows, beside the one of its own time.
 CHARTS = 14
-TOOL = "/usr/share/memcached/scripts/memcached-tool"
 COLLECTD = """
 Hostname "here"
 BaseDir "{folder}"
@@ -172,11 +167,6 @@ LoadPlugin memcached
   </Instance>
 </Plugin>
 """
-NETDATA = """
-here:
-  host: '127.0.0.1'
-  port: {port}
-"""
 
 
 def use(server):
@@ -185,18 +175,6 @@ def use(server):
     client.set(b"a", b"x")
     for key in (b"a", b"b"):
         client.get(key)
-
-
-def munin(server, folder):
-    """A symbolic link says which of its three graphs the plugin shows; one value that it doesn't
-    know is U."""
-    for graph, count in OF_MUNIN.items():
-        plugin = f"{folder}/memcached_{graph}"
-        os.symlink("/usr/share/munin/plugins/memcached_", plugin)
-        status, said = run(["perl", plugin], host="127.0.0.1", port=str(server.port))
-        values = re.findall(r"^\w+\.value (\d+)$", said, re.MULTILINE)
-        is_whole = len(values) == said.count(".value ") == count
-        yield f"munin's {graph}", status == 0 and is_whole, said
 
 
 def collectd(server, folder):
@@ -211,60 +189,38 @@ def collectd(server, folder):
         it.process.wait(MONITOR_SECONDS)
     files = map(os.path.basename, glob.glob(f"{folder}/here/memcached-cache/*"))
     found = {re.sub(r"-\d{4}-\d\d-\d\d$", "", it) for it in files}
-    holds = len(found | MISSING) == SERIES and not found & MISSING
-    yield f"collectd: {len(found)} of {SERIES} series", holds, " ".join(sorted(found))
+    return len(found | MISSING) == SERIES and not found & MISSING, " ".join(sorted(found))
 
 
 def netdata(server, folder):
     path = pathlib.Path(f"{folder}/python.d/memcached.conf")
     path.parent.mkdir()
-    path.write_text(NETDATA.format(port=server.port), encoding="ascii")
+    path.write_text(f"here:\n  host: '127.0.0.1'\n  port: {server.port}\n", encoding="ascii")
     folders = {f"NETDATA_{it}_DIR": folder for it in ("USER_CONFIG", "LOCK", "LIB")}
     _, said = run(["/usr/lib/netdata/plugins.d/python.d.plugin", "1", "memcached"], 8, **folders)
     charts = set(re.findall(r"^CHART memcached_here\.(\w+)", said, re.MULTILINE))
     values = re.findall(r"^SET '?(\w+)'? = '?(\d+)", said, re.MULTILINE)
-    holds = len(charts) == CHARTS and len(values) >= CHARTS
-    yield f"netdata: {len(charts)} of {CHARTS} charts", holds, said
-
-
-def nagios(server, _):
-    """It keeps what it was told in the cache itself, and compares it with what it is told half a
-    minute later at least."""
-    words = ["/usr/lib/nagios/plugins/check_memcached", "-H", "127.0.0.1", "-p", str(server.port)]
-    status, said = run(words)
-    yield "check_memcached", status == 0 and said.startswith("OK"), said
-    kept = Client(server).get(b"check_memcached")
-    yield "check_memcached keeps its history", kept is not None, "there is none"
-
-
-def tools(server, _):
-    """memcached-tool reads until `END`; `dump` shows keys, of which it is told none."""
-    where = f"127.0.0.1:{server.port}"
-    status, said = run(["memcstat", f"--servers={where}"])
-    yield "memcstat", status == 0 and "get_hits" in said and "bytes_written" in said, said
-    for mode, wanted in {"stats": "get_hits", "display": "#", "settings": "", "sizes": "",
-                         "dump": ""}.items():
-        status, said = run(["perl", TOOL, where, mode])
-        yield f"memcached-tool {mode}", status == 0 and wanted in said, said
+    return len(charts) == CHARTS and len(values) >= CHARTS, said
 
 
 def monitors(_, server):
     """Of each thing that a monitor has to show whether it does; what it said where it doesn't is
     printed."""
-    results = {}
     use(server)
-    for monitor in (munin, collectd, netdata, nagios, tools):
-        with tempfile.TemporaryDirectory() as folder:
-            for name, holds, said in monitor(server, folder):
-                results[f"monitors/{name.replace(' ', '_')}"] = holds
-                if not holds:
-                    print(f"{name}:\n{said}", file=sys.stderr)
-    return results
+    with tempfile.TemporaryDirectory() as folder:
+        found = {it.__name__: it(server, folder) for it in (collectd, netdata)}
+        for name, (command, wanted) in COMMANDS.items():
+            status, said = run(["sh", "-c", command.format(folder=folder, port=server.port)])
+            found[name] = status == 0 and re.fullmatch(wanted, said, re.DOTALL), said
+    for name, (holds, said) in found.items():
+        if not holds:
+            print(f"{name}:\n{said}", file=sys.stderr)
+    return {f"monitors/{name.replace(' ', '_')}": bool(holds) for name, (holds, _) in found.items()}
 
 
 # ---- all of them
 
-SUITES = {it.__name__: it for it in (memcached, fast, pymemcache, memccapable, limits, monitors)}
+SUITES = {it.__name__: it for it in (memcached, fast, pymemcache, monitors)}
 
 
 def read_expected():

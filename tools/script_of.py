@@ -11,23 +11,18 @@ segcached would refuse.
 
 `text` prints a script in which each FILE is a session (`-` is standard input). A line feed of a
 file is sent as the end of a line of the protocol, CR LF, unless a CR stands before it already; with
---bytes the bytes are sent as they are.
+--bytes the bytes are sent as they are. Sessions are numbered from 1, and go to the workers in turn.
 
 `record` is a proxy: what its clients send goes to the server at --to, and the answers back. When it
-is interrupted or ended, or when --sessions have come and gone, it prints the script of what was
-sent, in the order in which it came. --answers writes what each session was answered, in the form in
-which `segcached replay` prints it, to be compared with it.
-
-`show` reads what `segcached replay` printed, and prints each session's answers as text.
+is interrupted, or when --sessions have come and gone, it prints the script of what was sent, in the
+order in which it came. --answers writes what each session was answered, as `segcached replay`
+prints it. `show` reads what that printed, and prints each session's answers as text.
 
 `refused` is the same proxy, in front of memcached: it keeps no script, but has a segcached
 (--program, or the one to which this tool belongs) answer each line, and at its end prints those
 that were refused, by command and reply, with their count and the first of each. Of a FILE, which
 has the bytes that a client sent, it says the same. Its OPTIONs are those of the server to be:
---lenient; and on which depends whether an item is too large, --segment-size B, 1048576 unless it is
-given, and --max-item-size I.
-
-Sessions are numbered from 1, and go to the workers in turn (one, unless --workers says more).
+--lenient, --segment-size B and --max-item-size I.
 """
 import argparse
 import asyncio
@@ -326,27 +321,24 @@ def run_show(words):
 
 def read_words():
     parser = argparse.ArgumentParser(
-        description="Makes scripts for `segcached replay`, and shows what it printed.")
+        description=__doc__, formatter_class=argparse.RawDescriptionHelpFormatter)
     kinds = parser.add_subparsers(dest="kind", required=True)
-    text = kinds.add_parser("text", help="a script of files of requests, one a session")
+    text, record, show, refused = map(kinds.add_parser, ("text", "record", "show", "refused"))
     text.add_argument("files", nargs="+", metavar="FILE")
-    text.add_argument("--bytes", action="store_true", help="send the bytes as they are")
-    record = kinds.add_parser("record", help="a proxy that prints a script of what went through")
+    text.add_argument("--bytes", action="store_true")
     record.add_argument("--answers", metavar="FILE")
-    refused = kinds.add_parser("refused", help="a proxy that counts what segcached would refuse")
-    refused.add_argument("files", nargs="*", metavar="FILE", help="what a client sent")
+    show.add_argument("file", nargs="?", default="-", metavar="FILE")
+    refused.add_argument("files", nargs="*", metavar="FILE")
     refused.add_argument("--segment-size", type=int, default=1_048_576, metavar="B")
     refused.add_argument("--max-item-size", type=int, metavar="I")
-    refused.add_argument("--lenient", action="store_true", help="as `segcached serve --lenient`")
-    refused.add_argument("--program", help="the segcached that is asked")
+    refused.add_argument("--lenient", action="store_true")
+    refused.add_argument("--program")
     for kind in (record, refused):
         kind.add_argument("--to", type=address, required=kind is record)
         kind.add_argument("--listen", type=address, default=("127.0.0.1", 0))
         kind.add_argument("--sessions", type=int)
     for kind in (text, record):
         kind.add_argument("--workers", type=int, default=1, choices=range(1, 9))
-    show = kinds.add_parser("show", help="what replay printed, as text")
-    show.add_argument("file", nargs="?", default="-", metavar="FILE")
     words = parser.parse_args()
     if words.kind == "refused" and bool(words.to) == bool(words.files):
         refused.error("give --to, or files")

@@ -216,16 +216,15 @@ class OnPort(Process):
     def __init__(self, port, words, environment=None):
         super().__init__(words, environment)
         self.port = port
-        if not comes_true(self.listens, 20):
+
+        def listens():
+            with contextlib.suppress(OSError):
+                self.connect(1).close()
+                return True
+
+        if not comes_true(listens, 20):
             self.stop()
             raise Trouble(f"{words[0]} doesn't listen on port {port}")
-
-    def listens(self):
-        """Whether it takes a connection."""
-        with contextlib.suppress(OSError):
-            self.connect(1).close()
-            return True
-        return False
 
 
 class Memcached(OnPort):
@@ -233,9 +232,8 @@ class Memcached(OnPort):
 
     def __init__(self, threads=4, megabytes=64, environment=None):
         port = free_port()
-        words = ["-u", "nobody", "-l", "127.0.0.1", "-c", 4096]
-        words += ["-p", port, "-t", threads, "-m", megabytes]
-        super().__init__(port, ["memcached", *map(str, words)], environment)
+        words = f"memcached -u nobody -l 127.0.0.1 -c 4096 -p {port} -t {threads} -m {megabytes}"
+        super().__init__(port, words.split(), environment)
 
 
 def ended(*words, seconds=60, **how):

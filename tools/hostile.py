@@ -82,7 +82,7 @@ def canary(server):
         took, still = ended - began, standstills.seconds_in(began, ended)
         must(took - still <= LATE, f"a round of the canary took {took:.2f} s, and the machine stood"
              f" still for {still:.2f}")
-    longest = max(ended - began for began, ended in rounds)
+    longest = max((ended - began for began, ended in rounds), default=0)
     words.append(f"canary: {len(rounds)} rounds, the longest {longest * 1000:.0f} ms")
 
 

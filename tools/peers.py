@@ -21,8 +21,8 @@ import sys
 import tempfile
 import time
 
-from served import (
-    OF_THE_PACKAGE, PROGRAM, TOP, Client, Process, Server, Trouble, install, read)
+from asking import END, STORED, ask, hit, put
+from served import OF_THE_PACKAGE, PROGRAM, TOP, Process, Server, Trouble, install, read
 
 HERE = f"{TOP}/tools/peers"
 WORK = f"{TOP}/out/peers"
@@ -171,24 +171,23 @@ LoadPlugin memcached
 
 def use(server):
     """A hit and a miss."""
-    client = Client(server)
-    client.set(b"a", b"x")
-    for key in (b"a", b"b"):
-        client.get(key)
+    with server.connect() as stream:
+        ask(stream, put(b"a", b"x") + b"get a\r\nget b\r\n", STORED + hit(b"a", b"x") + END)
 
 
 def collectd(server, folder):
     """It reads each second, and writes a file for each series."""
     path = pathlib.Path(f"{folder}/collectd.conf")
     path.write_text(COLLECTD.format(folder=folder, port=server.port), encoding="ascii")
-    with Process(["/usr/sbin/collectd", "-f", "-C", path], stderr=subprocess.DEVNULL) as it:
-        for _ in range(5):
+    found = set()
+    with Process(["/usr/sbin/collectd", "-f", "-C", path], stderr=subprocess.DEVNULL):
+        for _ in range(MONITOR_SECONDS):
             use(server)
             time.sleep(1)
-        it.process.terminate()
-        it.process.wait(MONITOR_SECONDS)
-    files = map(os.path.basename, glob.glob(f"{folder}/here/memcached-cache/*"))
-    found = {re.sub(r"-\d{4}-\d\d-\d\d$", "", it) for it in files}
+            files = map(os.path.basename, glob.glob(f"{folder}/here/memcached-cache/*"))
+            known, found = found, {re.sub(r"-\d{4}-\d\d-\d\d$", "", it) for it in files}
+            if len(found) >= SERIES - len(MISSING) and known == found:
+                break
     return len(found | MISSING) == SERIES and not found & MISSING, " ".join(sorted(found))
 
 

@@ -83,44 +83,34 @@ class Others:
 
 
 class Waited(NamedTuple):
-    """What 99 of 100 requests, and each one, waited at most, in seconds, and what others took."""
+    """What 99 of 100 requests, and each one, waited at most, in seconds; what others took; beside
+    what; and what a client of memcached waited there, if that was asked."""
 
     longest: tuple
-    others: float = 0.0
+    others: float
+    load: object = ""
+    memcached: object = None
 
     def __str__(self):
-        most, longest = (it * 1000 for it in self.longest)
-        return (f"{most:.0f} ms (99 of 100) and {longest:.0f} ms (all) where others took"
-                f" {self.others:.0%} of the processors")
+        of_most, of_all = (it * 1000 for it in self.longest)
+        beside = f"; memcached's {self.memcached}" if self.memcached else ""
+        return (f"beside {self.load}: {of_most:.0f} ms (99 of 100) and {of_all:.0f} ms (all) where"
+                f" others took {self.others:.0%} of the processors{beside}")
 
     def is_within(self, most):
         return all(it <= much for it, much in zip(self.longest, most))
 
 
 def judged(here, most, beside):
-    """Whether clients waited no longer than they may, and what is said of it. `beside` measures
+    """Whether clients waited no longer than they may, and what they waited. `beside` measures
     memcached's in the same load."""
     if here.is_within(most):
-        return True, str(here)
-    same = beside()
+        return True, here
+    here = here._replace(memcached=beside())
     if here.others > QUIET:
-        longer = zip(most, same.longest)
+        longer = zip(most, here.memcached.longest)
         most = [max(ROOM * it, TIMES_MEMCACHED * waited) for it, waited in longer]
-    return here.is_within(most), f"{here}, memcached's {same}"
-
-
-def in_two_of_three(measure, most, beside, said):
-    """What `measure` gives in the last try. Trouble, behind these words, where others waited too
-    long in two of three tries."""
-    seen = []
-
-    def attempt():
-        seen.append(measure())
-        is_fine, words = judged(seen[-1], most, beside)
-        return is_fine, f"{said} {words}"
-
-    tries.in_two_of_three(attempt)
-    return seen[-1]
+    return here.is_within(most), here
 
 
 def must_hold_little(server, before, said):
@@ -274,7 +264,7 @@ def waited(server, load):
         time.sleep(BEFORE)
         with Beside(waits_beside, server, True) as waits:
             time.sleep(BEFORE + load.seconds())
-    return Waited(waits.noted, others.share)
+    return Waited(waits.noted, others.share, load)
 
 
 def fairness_of(program, words):
@@ -285,12 +275,12 @@ def fairness_of(program, words):
           Memcached(int(words[-1]), environment=tuned) as memcached):
         before = server.kilobytes("VmRSS")
         for load in LOADS[words]:
-            found.append(in_two_of_three(lambda: waited(server, load), load.most,
-                                         lambda: waited(memcached, load), f"beside {load}:"))
+            found.append(tries.in_two_of_three(lambda: judged(
+                waited(server, load), load.most, lambda: waited(memcached, load))))
         server.must_run()
         if is_packaged:
             must_hold_little(server, before, f"beside {load}: the server takes")
-    within = sum(it.is_within(load.most) for it, load in zip(found, LOADS[words]))
+    within = sum(it.is_within(it.load.most) for it in found)
     worst = [max(times) * 1000 for times in zip(*(it.longest for it in found))]
     return (f"{' '.join(words)}: {len(found)} loads of fast clients, {within} as on a quiet"
             f" machine; in the worst others waited {worst[0]:.0f} ms (99 of 100) and"
@@ -334,7 +324,8 @@ def waited_unread(server, meanwhile):
         for _ in range(CLIENTS):
             server.connect(receive_buffer=4096).sendall(get(b"large", KEYS))
         meanwhile(server)
-    return Waited(waits.noted, others.share)
+    asked = f"clients that ask for {KEYS * len(VALUE) / 1e6:.0f} MB each and read nothing"
+    return Waited(waits.noted, others.share, asked)
 
 
 def unread_here(program):
@@ -367,6 +358,5 @@ def unread_beside():
 def unread(program):
     """What it says; Trouble where they held too much, or others waited too long in two of three."""
     install("memcached")
-    asked = f"beside clients that ask for {KEYS * len(VALUE) / 1e6:.0f} MB each and read nothing"
-    here = in_two_of_three(lambda: unread_here(program), MOST, unread_beside, f"{asked}:")
-    return f"{asked} others waited {here}"
+    tried = lambda: judged(unread_here(program), MOST, unread_beside)
+    return f"others waited {tries.in_two_of_three(tried)}"

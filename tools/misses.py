@@ -271,14 +271,14 @@ def draw(results, picture):
     figure, axes = pyplot.subplots(2, len(EXPONENTS), figsize=(11, 9), layout="constrained")
     for zipf, (above, below) in zip(EXPONENTS, axes.T):
         for value, colour in zip(VALUES, ("#1b6ca8", "#2e8b57", "#c0504d")):
+            theirs = [results[Point(memory, value, zipf)][0].missed for memory in MEMORIES]
+            above.plot(MEMORIES, theirs, "o--", color=colour, label=f"{value} bytes, memcached")
             for style, setting in zip(("o-", "o-."), SETTINGS):
                 sides = [results[Point(memory, value, zipf, setting=setting)]
                          for memory in MEMORIES]
                 line = {"color": colour, "label": f"{value} bytes, {setting}"}
                 above.plot(MEMORIES, [ours.missed for _, ours in sides], style, **line)
                 below.plot(MEMORIES, [ratio(it) for it in sides], style, **line)
-            above.plot(MEMORIES, [theirs.missed for theirs, _ in sides], "o--", color=colour,
-                       label=f"{value} bytes, memcached")
         below.axhline(1, color="black", linestyle=":")
         for axis, what in ((above, "missed of 100 reads"),
                            (below, "segcached's misses, times memcached's")):

@@ -10,11 +10,11 @@ these have 1 between them.
 import contextlib
 import os
 import random
-import statistics
 import subprocess
 import time
 from typing import NamedTuple
 
+import numpy
 from matplotlib import pyplot
 
 from misses import MIB, markdown
@@ -129,11 +129,7 @@ class LoadProgram:
 
 
 def quartiles(numbers):
-    """The lower quartile, the median and the upper quartile."""
-    numbers = list(numbers)
-    if len(numbers) == 1:
-        return numbers * 3
-    return statistics.quantiles(numbers, n=4, method="inclusive")
+    return numpy.quantile(numbers, (0.25, 0.5, 0.75))
 
 
 def ratios(pairs, figure):
@@ -267,12 +263,12 @@ class Speed:
         """The cells of a load with one number of workers."""
         pairs, main = self.pairs(rounds), "p50" if load.has_rate() else "rate"
         unit = 1000 if main == "rate" else 1
-        both = (statistics.median(it[main] for it in side) / unit for side in zip(*pairs))
+        both = numpy.median([[it[main] for it in pair] for pair in pairs], axis=0) / unit
         cells = ["/".join(f"{it:,.0f}" for it in both)]
         for figure in FIGURES:
             found = ratios(pairs, figure)
             is_main = figure in (main, "processor")
-            cells.append(shown(found) if is_main else f"{statistics.median(found):.2f}")
+            cells.append(shown(found) if is_main else f"{numpy.median(found):.2f}")
         if load.has_rate():
             cells[1] = ""
         pairs = self.pairs(rounds, BY_DEFAULT)
@@ -317,13 +313,12 @@ class Speed:
         sizes, (first, second) = list(next(iter(results.values()))), self.servers
         figure, axes = pyplot.subplots(figsize=(11, 5.6), layout="constrained")
         for at, size in enumerate(sizes):
-            found = [quartiles(ratios(self.pairs(it[size]), "rate")) for it in results.values()]
-            ends = [[middle - low for low, middle, _ in found],
-                    [high - middle for _, middle, high in found]]
-            width = 0.9 / (len(sizes) + 1)
-            places = [number + at / (len(sizes) + 1) for number in range(len(results))]
-            axes.bar(places, [it for _, it, _ in found], width, yerr=ends, capsize=2,
-                     label=f"{first} -t {THREADS[size]}, {size} worker{'s' * (size > 1)}")
+            low, middle, high = numpy.transpose([
+                quartiles(ratios(self.pairs(it[size]), "rate")) for it in results.values()])
+            places, width = numpy.arange(len(results)) + at / (len(sizes) + 1), 0.9
+            label = f"{first} -t {THREADS[size]}, {size} worker{'s' * (size > 1)}"
+            axes.bar(places, middle, width / (len(sizes) + 1), label=label, capsize=2,
+                     yerr=[middle - low, high - middle])
         axes.axhline(1, color="black", linestyle="--")
         axes.set_xticks(range(len(results)), [it.name for it in results], rotation=30, ha="right")
         axes.set(ylabel=f"times {first}", title=f"{second} beside {first}: requests a second, "

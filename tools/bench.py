@@ -64,7 +64,6 @@ def taken(measure):
 
 
 def write(mark, text):
-    """Puts the text between the marks of this name in docs/PERFORMANCE.md."""
     path, begin, end = PAGE, f"<!-- {mark}: begin -->", f"<!-- {mark}: end -->"
     before, found_begin, rest = read(path).partition(begin)
     _, found_end, after = rest.partition(end)
@@ -112,8 +111,6 @@ def miss_parts(load, words):
 
 
 def point_parts(points):
-    """A table of misses at these points."""
-
     def measured(load, words):
         found = points(words)
         results = misses.Misses(load, words.program, say).each(found)

@@ -96,7 +96,6 @@ def body_of(lines, at, indent):
 
 
 def functions_of(file, text):
-    """The functions of a file."""
     lines, owner, trait, until = text.split("\n"), "", "", -1
     for at, line in enumerate(lines):
         block, head = BLOCK.match(line), HEAD.match(line)
@@ -163,7 +162,6 @@ def edited(text, pairs, file):
 
 
 def names_of(crate):
-    """The names of a crate's edits."""
     paths = sorted(glob.glob(f"{prove.TOP}/crates/{crate}/wrong/*.edit"))
     return [os.path.basename(it).removesuffix(".edit") for it in paths]
 
@@ -209,7 +207,6 @@ class Crate:
         return Edit(name, text, pairs, *found, self.can_copy(*found))
 
     def around(self, file, row):
-        """The function whose body has this line; None if there is none."""
         return next((it for it in reversed(self.functions)
                      if it.file == file and it.first <= row <= it.last), None)
 
@@ -289,7 +286,6 @@ class Room:
         return function.path(name)
 
     def with_copies(self, file):
-        """A file with the copies of its functions behind them."""
         lines = enumerate(self.texts[file].split("\n"))
         return "\n".join(it for at, line in lines
                          for it in [line, *self.behind.get((file, at), [])])

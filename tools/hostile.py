@@ -127,7 +127,6 @@ def pester(peer, chance):
 
 
 def fuzz(is_long):
-    """Bad bytes on up to 1,000 connections, beside the canary."""
     seconds, most, chance = *((1800, 1000) if is_long else (60, 300)), random.Random(20260101)
     sent = opened = 0
     peers, settled, until = [], None, time.monotonic() + seconds
@@ -219,7 +218,6 @@ def check_refused(session, got):
 
 
 def one_refusal(environment):
-    """How a run of two sessions ended."""
     found, words = [], "--sessions 2 --workers 1 --segments 8 --segment-size 4096".split()
     try:
         with serve(*words, environment=environment) as server:

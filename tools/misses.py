@@ -85,7 +85,6 @@ class Point(NamedTuple):
         return Point(self.memory, self.value, 0, times, segment_size=self.segment_size)
 
     def words(self):
-        """The load's words."""
         asked = ["--through", "--zipf", self.zipf, "--threads", 1]
         asked += ["--keys", self.keys, "--value", self.value]
         if not self.timed:
@@ -186,7 +185,6 @@ class Misses:
         return segments
 
     def side(self, server, size, point):
-        """Warms a server, counts its misses, and ends it."""
         warmed, counted = point.reads()
         with server:
             self.asked(server, *point.words(), "--seed", 1, "--reads", warmed)
@@ -195,7 +193,6 @@ class Misses:
             return Side(size, resident, 100 * ran["misses"] / reads, reads / ran["seconds"])
 
     def both(self, point, segments):
-        """memcached and segcached, at the same time."""
         sides = together([
             lambda: self.side(memcached(point.memory), megabytes_in(point.memory), point),
             lambda: self.side(self.segcached(point, segments), segments, point)])
@@ -220,7 +217,6 @@ def ratio(sides):
 
 
 def markdown(heads, rows):
-    """The lines of a table."""
     lines = ["| " + " | ".join(it) + " |" for it in [heads, *rows]]
     return [lines[0], "|---" * len(heads) + "|", *lines[1:]]
 

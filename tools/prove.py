@@ -71,7 +71,6 @@ def write(path, text):
 # ---- what the machine has
 
 def logic():
-    """The logic that the repository is proved with."""
     return read(LOGIC).strip()
 
 
@@ -117,12 +116,10 @@ def lacks_memory(free=None):
 
 
 def at_once():
-    """How many crates may be proved side by side."""
     return max(1, min(processors(), int(free_gigabytes() / GIGABYTES_A_PROOF)))
 
 
 def stop_where_lacking(lacking):
-    """Ends the program with status 1 and one line if something is lacking."""
     if lacking:
         sys.exit(f"segcached: {lacking}")
 
@@ -217,7 +214,6 @@ def verdicts_of_log(path):
 
 
 def write_record(log, alone):
-    """Writes the record of what a run said."""
     crates = read_crates()
     names = [name for name in crates if name in with_those_below(crates, NAME)]
     verdicts, last = verdicts_of_log(log)
@@ -261,7 +257,6 @@ def is_kept():
 # ---- the proofs
 
 def copy_crates(names, to):
-    """Copies these crates alone, as a repository of their own."""
     for name in names:
         ignored = shutil.ignore_patterns(*IGNORED)
         shutil.copytree(f"{TOP}/crates/{name}", f"{to}/crates/{name}", ignore=ignored)

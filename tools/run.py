@@ -62,7 +62,6 @@ def show_answers(given):
 
 
 def show_replay(printed):
-    """Shows what a replay of the script printed, decoded."""
     say(f"{printed.rstrip()}\n\nWorker 0 gave session 1 these bytes:")
     show_answers(bytes.fromhex(printed.split()[-1]) if printed.split() else b"")
     say()
@@ -98,7 +97,6 @@ def try_and_prove():
 
 
 def serve():
-    """Serves on a free port, and talks to it."""
     say("$ segcached serve --listen 127.0.0.1:0")
     with Server(prove.PROGRAM, stderr=None) as server, server.connect() as client:
         say(server.first_line.rstrip())

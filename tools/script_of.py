@@ -45,8 +45,6 @@ class Trouble(Exception):
 
 
 class Script:
-    """The lines of a script."""
-
     def __init__(self, workers):
         self.workers, self.lines, self.length, self.newest = workers, [], 0, 0
 

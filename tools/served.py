@@ -30,7 +30,6 @@ def read(path):
 
 
 def version():
-    """The version of the sources."""
     text = read(f"{TOP}/crates/proto/src/version.rt")
     return re.search(r'"(\d+\.\d+\.\d+)"', text)[1]
 
@@ -180,8 +179,6 @@ class Server(Process):
 
 
 class Client:
-    """A client that waits for each answer."""
-
     def __init__(self, server, seconds=10):
         self.stream = server.connect(seconds)
         self.answers = self.stream.makefile("rb")
@@ -237,7 +234,6 @@ class Memcached(OnPort):
 
 
 def ended(*words, seconds=60, **how):
-    """A command's exit status, and what it wrote on both outputs."""
     how = {"stdout": subprocess.PIPE, "stderr": subprocess.PIPE, **how}
     done = subprocess.run(words, timeout=seconds, check=False, **how)
     return done.returncode, done.stdout, done.stderr
@@ -263,7 +259,6 @@ def refusals(kind, folder):
 
 
 def with_faketime(**variables):
-    """The environment of a program whose clocks libfaketime fakes."""
     library = glob.glob("/usr/lib/*/faketime/libfaketimeMT.so.1")[0]
     return {**os.environ, "LD_PRELOAD": library, **variables}
 
@@ -275,7 +270,6 @@ def free_port():
 
 
 def install(*packages):
-    """Has these packages of Debian."""
     if subprocess.run(["dpkg", "-s", *packages], capture_output=True, check=False).returncode:
         for words in (["update"], ["install", "-y", "--no-install-recommends", *packages]):
             quiet = {**os.environ, "DEBIAN_FRONTEND": "noninteractive"}

@@ -231,7 +231,6 @@ class Speed:
         return found
 
     def compared(self, sizes, loads):
-        """By load and workers, the figures of all rounds."""
         groups = {}
         for load in loads:
             groups.setdefault(load.group(), []).append(load)
@@ -260,7 +259,6 @@ class Speed:
         return [*markdown(heads, rows), "", *said]
 
     def cells(self, load, rounds):
-        """The cells of a load with one number of workers."""
         pairs, main = self.pairs(rounds), "p50" if load.has_rate() else "rate"
         unit = 1000 if main == "rate" else 1
         both = numpy.median([[it[main] for it in pair] for pair in pairs], axis=0) / unit
@@ -308,7 +306,6 @@ class Speed:
              *map(with_quartiles, shares.values())]])
 
     def draw(self, results, picture):
-        """A picture of the rates' ratios: medians as bars, quartiles as lines."""
         results = {load: by_size for load, by_size in results.items() if not load.has_rate()}
         sizes, (first, second) = list(next(iter(results.values()))), self.servers
         figure, axes = pyplot.subplots(figsize=(11, 5.6), layout="constrained")

@@ -259,7 +259,6 @@ def fast_clients(server, load):
 
 
 def waited(server, load):
-    """What others waited beside a load."""
     with Others(server) as others, fast_clients(server, load):
         time.sleep(BEFORE)
         with Beside(waits_beside, server, True) as waits:
@@ -268,7 +267,6 @@ def waited(server, load):
 
 
 def fairness_of(program, words):
-    """What it says of the loads for a server with these words."""
     found, is_packaged = [], words == OF_MEGABYTES
     sizes, tuned = (SEGMENTS, INSTALLED) if is_packaged else (OPTIONS, None)
     with (Server(program, *words, *sizes, environment=tuned) as server,
@@ -308,7 +306,6 @@ def read_whole(stream, key, value, times):
 
 
 def settle(server):
-    """Waits until no more memory is taken or given back."""
     before = -1
     for _ in range(100):
         time.sleep(0.2)

@@ -99,7 +99,6 @@ class Said(NamedTuple):
         return " ".join(re.findall(r".*\berror\b.*", self.text)[:2])
 
     def verdict(self, crate, path):
-        """The verdict on an edit of a function."""
         words, errors = self.of(crate, path), self.errors_in(path)
         if not words:
             return Verdict(UNTRIED, f"the check has no line for {path}")
@@ -118,7 +117,6 @@ def kit_folder():
 
 
 def libraries_below(name):
-    """The built library of each crate below this one."""
     below = sorted(prove.with_those_below(prove.read_crates(), name) - {name})
     found = {it: f"{prove.TOP}/crates/{it}/out/rlib/{it}.rlib" for it in below}
     if not all(map(os.path.isdir, found.values())):
@@ -128,7 +126,6 @@ def libraries_below(name):
 
 
 def words_of(crate, asked):
-    """The prover's words for a check of these functions past holes."""
     kit, below = kit_folder(), libraries_below(crate.name)
     words = [f"{kit}/bin/rattle", "check", "--crate-name", crate.name, crate.root, "--jobs", "1",
              "--antt-project", f"{kit}/rattle/logic/antt-project.json",
@@ -141,7 +138,6 @@ def words_of(crate, asked):
 
 
 def checked(room):
-    """What the check of an edited copy of a crate says."""
     with tempfile.TemporaryFile("w+", errors="replace") as out:
         to = {"stdin": subprocess.DEVNULL, "stdout": out, "stderr": subprocess.STDOUT}
         words = words_of(room.crate, room.asked)
@@ -219,7 +215,6 @@ def names_in(words):
 
 
 def workers():
-    """How many checks run side by side."""
     fitting = int(prove.free_gigabytes() / GIGABYTES)
     return max(1, min(prove.processors(), fitting, int(os.environ.get("JOBS", "99"))))
 

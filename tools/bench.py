@@ -64,12 +64,12 @@ def taken(measure):
 
 
 def write(mark, text):
-    path, begin, end = PAGE, f"<!-- {mark}: begin -->", f"<!-- {mark}: end -->"
-    before, found_begin, rest = read(path).partition(begin)
-    _, found_end, after = rest.partition(end)
-    if not (found_begin and found_end):
-        raise Trouble(f"{path} lacks the marks {begin} and {end}")
-    path.write_text(f"{before}{begin}\n{text}\n{end}{after}", encoding="utf-8")
+    begin, end = f"<!-- {mark}: begin -->", f"<!-- {mark}: end -->"
+    page, count = re.subn(f"{begin}.*?{end}", lambda _: f"{begin}\n{text}\n{end}", read(PAGE),
+                          flags=re.DOTALL)
+    if count != 1:
+        raise Trouble(f"{PAGE} lacks the marks {begin} and {end}")
+    PAGE.write_text(page, encoding="utf-8")
 
 
 def speed_parts(load, words):

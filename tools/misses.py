@@ -138,9 +138,9 @@ def memcached(memory):
     return Memcached(megabytes=megabytes_in(memory), environment=PLAIN)
 
 
-def segcached(program, setting, segment_size, segments):
-    sizes = ["--segment-size", str(segment_size), "--segments", str(segments)]
-    return Server(program, *sizes, *SETTINGS[setting], environment=PLAIN)
+def segcached(program, point, segments):
+    sizes = ["--segment-size", str(point.segment_size), "--segments", str(segments)]
+    return Server(program, *sizes, *SETTINGS[point.setting], environment=PLAIN)
 
 
 class Misses:
@@ -148,9 +148,6 @@ class Misses:
 
     def __init__(self, load, program, say):
         self.load, self.program, self.say = load, program, say
-
-    def segcached(self, point, segments):
-        return segcached(self.program, point.setting, point.segment_size, segments)
 
     def asked(self, server, *words):
         """One run of the load: the figures of its last line."""
@@ -173,7 +170,7 @@ class Misses:
         taken = segment * (1 + 1 / 256 + 12 / (HEAD_BYTES + KEY_BYTES + point.value))
         segments, most = int(0.85 * budget / taken), math.inf
         for _ in range(6):
-            over = self.filled(self.segcached(point, segments), point) - budget
+            over = self.filled(segcached(self.program, point, segments), point) - budget
             if over > 0:
                 most = segments
                 segments -= math.ceil(over / taken)
@@ -195,7 +192,7 @@ class Misses:
     def both(self, point, segments):
         sides = together([
             lambda: self.side(memcached(point.memory), megabytes_in(point.memory), point),
-            lambda: self.side(self.segcached(point, segments), segments, point)])
+            lambda: self.side(segcached(self.program, point, segments), segments, point)])
         self.say(f"{point}: {ratio(sides):.2f}")
         return sides
 
@@ -297,15 +294,14 @@ RATE, TICKS_A_SECOND, SECONDS, NEW = 1_500, 10, 75, b"v" * 1_000
 # by default segcached rounds a TTL down by less than this.
 TTLS, EARLY = (60, 60, 600, 0), 16
 
-# MiB of memory, bytes of a segment, and the TTLs of the new keys in turn.
-Flood = collections.namedtuple("Flood", "memory segment_size ttls")
-FLOODS = (
-    Flood(16, 256 << 10, (0,)),
-    Flood(16, 256 << 10, (0, 60, 600)),
-    Flood(16, 256 << 10, (600,)),
-    Flood(16, MIB, (600,)),
-    Flood(64, MIB, (3_600, 3_600, 3_600, 86_400)),
-)
+# What there is of memory, and the TTLs of the new keys in turn.
+FLOODS = [(Point(memory, len(NEW), 0, segment_size=size), ttls) for memory, size, ttls in (
+    (16, 256 << 10, (0,)),
+    (16, 256 << 10, (0, 60, 600)),
+    (16, 256 << 10, (600,)),
+    (16, MIB, (600,)),
+    (64, MIB, (3_600, 3_600, 3_600, 86_400)),
+)]
 
 
 def lost(server, ttls, seconds):
@@ -341,19 +337,18 @@ def lost(server, ttls, seconds):
 
 def table_of_losses(program, seconds=SECONDS, floods=FLOODS):
     """A row for each flood, of how often each key was lost with each server: all at once."""
-    def times_lost(flood, setting):
-        segments = flood.memory * MIB // flood.segment_size
-        with (segcached(program, setting, flood.segment_size, segments) if setting
-              else memcached(flood.memory)) as server:
-            return " ".join(map(str, lost(server, flood.ttls, seconds)))
+    def times_lost(point, ttls, setting):
+        segments = point.memory * MIB // point.segment_size
+        with (segcached(program, point._replace(setting=setting), segments) if setting
+              else memcached(point.memory)) as server:
+            return " ".join(map(str, lost(server, ttls, seconds)))
 
-    sides = None, *SETTINGS
-    found = together(lambda flood=flood, side=side: times_lost(flood, side)
-                     for flood in floods for side in sides)
-    rows = []
-    for flood in floods:
-        ttls = ", ".join(f"{it:,}" if it else "none" for it in flood.ttls)
-        sizes = f"{flood.memory} MiB, segments of {flood.segment_size >> 10} KiB, TTLs {ttls}"
+    rows, sides = [], (None, *SETTINGS)
+    found = together(lambda it=it, side=side: times_lost(*it, side)
+                     for it in floods for side in sides)
+    for point, ttls in floods:
+        said = ", ".join(f"{it:,}" if it else "none" for it in ttls)
+        sizes = f"{point.memory} MiB, segments of {point.segment_size >> 10} KiB, TTLs {said}"
         rows.append([sizes, *(found.pop(0) for _ in sides)])
     heads = f"{RATE:,} new keys a second, {seconds} seconds", "memcached", *SETTINGS
     return markdown(heads, rows)

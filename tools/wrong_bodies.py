@@ -198,12 +198,6 @@ class Kept:
                 prove.write(self.place(it), "")
 
 
-def forget():
-    """Removes what was kept and isn't used any more."""
-    os.makedirs(KEPT, exist_ok=True)
-    subprocess.run(["find", KEPT, "-type", "f", "-mtime", f"+{DAYS}", "-delete"], check=True)
-
-
 def names_in(words):
     """The crates that these words of the command name, or all that have edits, and of each the
     edits that are named."""
@@ -325,7 +319,9 @@ def main(words):
     parser.add_argument("--anew", action="store_true", help="try what a run has passed, too")
     parser.add_argument("edits", nargs="*", metavar="NAME[/EDIT]")
     given = parser.parse_args(words)
-    forget()
+    # (what was kept and isn't used any more is removed)
+    os.makedirs(KEPT, exist_ok=True)
+    subprocess.run(["find", KEPT, "-type", "f", "-mtime", f"+{DAYS}", "-delete"], check=True)
     run = Run(given.anew)
     run.try_all(names_in(given.edits))
     print(f"{run.seconds / 60:.1f} processor minutes of the prover\n"

@@ -38,28 +38,24 @@ PLAIN = {name: value for name, value in os.environ.items() if name != "GLIBC_TUN
 
 
 class Timed(NamedTuple):
-    """What keys with TTLs are asked for: the load's word for their TTLs, requests a second, the
-    seconds of warming and of counting, and how many of 100 requests are writes and deletes beside
-    the writes of keys that were missed."""
+    """What keys with TTLs are asked for: the load's words, reads a second, and the seconds of
+    warming and of counting."""
 
     name: str
-    ttls: str
-    rate: int
+    words: tuple
+    reads: int
     warm: int
     count: int
-    sets: int = 0
-    deletes: int = 0
-    pipeline: int = 256
-
-    @property
-    def reads(self):
-        """Reads a second."""
-        return self.rate * (100 - self.sets - self.deletes) // 100
 
 
-SHORT = Timed("with TTLs", "--ttls", 60_000, 100, 40)
-# Pages, sessions and settings of a site: two hours, of which the last half hour counts.
-SITE = Timed("a site", "--long-ttls", 3_000, 5_400, 1_800, sets=10, deletes=1, pipeline=16)
+SHORT = Timed("with TTLs", ("--ttls", "--rate", 60_000, "--pipeline", 256), 60_000, 100, 40)
+
+
+def site(rate, warm, count):
+    """Pages, sessions and settings of a site: of 100 requests ten are writes, beside those of keys
+    that were missed, and one is a delete."""
+    words = "--long-ttls", "--rate", rate, "--pipeline", 16, "--sets", 10, "--deletes", 1
+    return Timed("a site", words, rate * 89 // 100, warm, count)
 
 
 class Point(NamedTuple):
@@ -87,11 +83,9 @@ class Point(NamedTuple):
     def words(self):
         asked = ["--through", "--zipf", self.zipf, "--threads", 1]
         asked += ["--keys", self.keys, "--value", self.value]
-        if not self.timed:
-            return [*asked, "--pipeline", 256, "--sets", self.sets, "--connections", 1]
-        it = self.timed
-        asked += ["--pipeline", it.pipeline, "--sets", it.sets, "--deletes", it.deletes]
-        return [*asked, "--connections", 4, it.ttls, "--rate", it.rate]
+        if self.timed:
+            return [*asked, "--connections", 4, *self.timed.words]
+        return [*asked, "--connections", 1, "--pipeline", 256, "--sets", self.sets]
 
     def reads(self):
         """How many reads warm, and how many are counted."""
@@ -119,10 +113,9 @@ def curve():
     return [by_settings(it) for it in (plain, others, timed)]
 
 
-# A site, and a minute of a small one.
-SITES = by_settings([Point(64, 600, 1.0, timed=SITE, segment_size=MIB)])
-BRIEF_SITES = by_settings([Point(16, 600, 1.0, segment_size=256 << 10, timed=SITE._replace(
-    rate=30_000, warm=45, count=15))])
+# A site in two hours, of which the last half hour counts; and a minute of a small one.
+SITES = by_settings([Point(64, 600, 1.0, timed=site(3_000, 5_400, 1_800), segment_size=MIB)])
+BRIEF_SITES = by_settings([Point(16, 600, 1.0, timed=site(30_000, 45, 15), segment_size=256 << 10)])
 # The points that tell which size of a segment misses least.
 SEGMENTS = [Point(value=value, zipf=0.99, **kind, segment_size=size, setting="package")
             for kind in ({"memory": 32}, {"memory": 32, "sets": 30}, {"memory": 64, "timed": SHORT})

@@ -223,7 +223,7 @@ def one_refusal(environment):
         with serve(*words, environment=environment) as server:
             for session in map(refused_session, (b"a", b"b")):
                 got = b""
-                with contextlib.suppress(OSError):
+                with contextlib.suppress(ConnectionError):
                     peer = server.connect(30)
                     peer.sendall(b"".join(request for request, _ in session))
                     got = read_till_closed(peer)

@@ -280,13 +280,14 @@ def run_ci(copy, note):
         try:
             for line in ran.stdout:
                 note(line.replace(copy, TOP))
+            return ran.wait()
         except KeyboardInterrupt:
-            for number in ENDS:
-                signal.signal(number, signal.SIG_IGN)
             with contextlib.suppress(ProcessLookupError):
                 os.killpg(ran.pid, signal.SIGTERM)
             return INTERRUPTED
-    return ran.returncode
+        finally:
+            for number in ENDS:
+                signal.signal(number, signal.SIG_IGN)
 
 
 def prove():
@@ -328,9 +329,12 @@ def run():
     if is_kept():
         return 0
     stop_where_lacking(lacks_kit())
-    # (a second run in this repository waits for the first one to end)
     with open(__file__, "rb") as held:
-        fcntl.flock(held, fcntl.LOCK_EX)
+        try:
+            fcntl.flock(held, fcntl.LOCK_EX | fcntl.LOCK_NB)
+        except BlockingIOError:
+            print("Waiting for another run of tools/prove.py to end", flush=True)
+            fcntl.flock(held, fcntl.LOCK_EX)
         return prove()
 
 

@@ -233,6 +233,8 @@ def run_client(server, key, load):
         for ready, _ in selector.select():
             try:
                 go_on(ready.fileobj, ready.data)
+            except BlockingIOError:
+                continue
             except ConnectionError:
                 if load.verb != MALFORMED:
                     raise
@@ -244,8 +246,9 @@ def run_client(server, key, load):
 @contextlib.contextmanager
 def fast_clients(server, load):
     """The clients of a load, which run beside the block."""
-    fast = [multiprocessing.Process(target=run_client, args=(server, b"%c" % (65 + it), load))
-            for it in range(load.clients)]
+    fast = [multiprocessing.Process(
+        target=run_client, args=(server, b"%c" % (65 + it), load), daemon=True)
+        for it in range(load.clients)]
     try:
         for process in fast:
             process.start()

@@ -2,11 +2,11 @@
 """Other people's suites against the proved program: memcached's own tests, pymemcache's, those of
 Cache::Memcached::Fast, and Debian's monitors of memcached.
 
-    tools/peers.py [--program PROGRAM] [--only SUITE] [--show]
+    tools/peers.py [--program PROGRAM] [--only SUITE]
 
 The program serves them with the package's options. Their sources come by apt-get into out/peers.
 What fails has to be what tools/peers/expected lists, each below the sentence of docs/CLIENTS.md or
-docs/OPERATIONS.md that tells it; --show prints what failed in that file's form. The last line is
+docs/OPERATIONS.md that tells it; what else failed is printed in that file's form. The last line is
 'N passed, M failed as the documents say, K otherwise'.
 """
 import argparse
@@ -256,7 +256,6 @@ def main():
     parser = argparse.ArgumentParser(description="Other people's suites against segcached.")
     parser.add_argument("--program", help="another build than the proved one")
     parser.add_argument("--only", choices=SUITES)
-    parser.add_argument("--show", action="store_true", help="prints what failed")
     words = parser.parse_args()
     if not words.program:
         subprocess.run(["python3", f"{TOP}/tools/prove.py"], check=True)
@@ -275,8 +274,6 @@ def main():
     except Trouble as trouble:
         sys.exit(f"peers: {trouble}")
     failed = [name for name, holds in results.items() if not holds]
-    if words.show:
-        print("\n".join(in_ranges(failed)))
     amiss = {"failed, and no document says so": [it for it in failed if it not in told],
              "passed, or wasn't run, though it is expected to fail":
              [it for it in sorted(told) if results.get(it, True)]}

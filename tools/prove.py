@@ -165,19 +165,14 @@ def output_of(*words, folder=None, **variables):
         raise Trouble(f"{words[0]} can't be run: {fault.strerror}") from None
 
 
-def sum_of_files():
-    """The sum that git gives the repository's files as they stand, with what isn't committed."""
-    with tempfile.TemporaryDirectory() as folder:
+def sum_or_none():
+    """The sum that git gives the repository's files as they stand, with what isn't committed; None
+    where there is no git or no commit."""
+    with contextlib.suppress(Trouble), tempfile.TemporaryDirectory() as folder:
         index = {"GIT_INDEX_FILE": f"{folder}/index"}
         output_of("git", "read-tree", "HEAD", **index)
         output_of("git", "add", "--all", **index)
         return output_of("git", "write-tree", **index)
-
-
-def sum_or_none():
-    """As above, or None where there is no git or no commit."""
-    with contextlib.suppress(Trouble):
-        return sum_of_files()
     return None
 
 
@@ -219,7 +214,7 @@ def write_record(log, alone):
     verdicts, last = verdicts_of_log(log)
     if unproved := [name for name in names if name not in verdicts]:
         raise Trouble(f"{unproved[0]} isn't proved")
-    files, at = sum_of_files(), output_of("git", "rev-parse", "HEAD")
+    files, at = sum_or_none(), output_of("git", "rev-parse", "HEAD")
     changed = "" if files == output_of("git", "rev-parse", "HEAD^{tree}") else CHANGED
     record = [
         output_of(PROGRAM, "--version").splitlines()[0],
@@ -242,7 +237,7 @@ def check(program):
         raise Trouble(f"no program was {built}")
     if record["program"] != sum_of_file(program):
         raise Trouble(f"the program isn't the one that was {built}")
-    if record["files"] != sum_of_files():
+    if record["files"] != sum_or_none():
         raise Trouble(f"files have changed since the program was {built}")
 
 

@@ -24,7 +24,7 @@ import traceback
 import histories
 import served
 import waits
-from asking import DELETED, END, ERROR, NOT_FOUND, OUT_OF_MEMORY, STORED, ask, hit, put
+from asking import DELETED, END, ERROR, NOT_FOUND, OUT_OF_MEMORY, STORED, ask, get, hit, put
 from served import (
     OF_THE_PACKAGE, Client, NotServing, Trouble, comes_true, read_till_closed, read_to_end,
     reset)
@@ -345,19 +345,13 @@ def press(server, chance):
 def pressed_session(server, number):
     """Whether a session was served to its end; a wrong answer is trouble, out of memory isn't."""
     key, value, got = b"key-%d" % number, b"value-%d" % number, b""
-    try:
-        client = Client(server)
-        with client.stream:
-            stored = client.set(key, value) + b"\r\n"
-            must(stored in (STORED, OUT_OF_MEMORY), f"a write was answered {stored!r}")
-            client.stream.sendall(b"get %s\r\n" % key)
-            while not got.endswith((END, OUT_OF_MEMORY)):
-                got += client.line() + b"\r\n"
-            wanted = hit(key, value) if stored == STORED else END
-            must(got in (OUT_OF_MEMORY, wanted), f"a read was answered {got!r}")
-            return OUT_OF_MEMORY not in (stored, got)
-    except (OSError, EOFError):
-        return False
+    with contextlib.suppress(OSError), server.connect(10) as peer:
+        peer.sendall(put(key, value) + get(key) + b"quit\r\n")
+        got = read_till_closed(peer)
+    answers = [STORED + hit(key, value), STORED + OUT_OF_MEMORY, OUT_OF_MEMORY + END,
+               OUT_OF_MEMORY * 2]
+    must(any(it.startswith(got) for it in answers), f"a write and a read were answered {got!r}")
+    return got == answers[0]
 
 
 def little_memory(is_long):

@@ -13,7 +13,8 @@ import time
 from typing import NamedTuple
 
 import tries
-from asking import END, ERROR, STORED, ask, get, hit, is_same, put, seconds_to
+from asking import (
+    END, ERROR, LARGE, STORED, ask, asks_for, get, hit, is_same, put, seconds_to, write_large)
 from served import (
     OF_THE_PACKAGE, TUNABLES, Memcached, Server, Trouble, install, read, read_exactly)
 from tries import Beside
@@ -297,7 +298,7 @@ def fairness(program):
 # ---- clients that ask for the longest answers and read nothing
 
 # So many clients ask for so many values, of 33 MB.
-CLIENTS, KEYS, VALUE = 40, 255, b"v" * 131_000
+CLIENTS, KEYS = 40, 255
 # Each client asks for this much and reads it, beside them: the value's bytes and how often.
 READ_BESIDE = [(100, 1), (1_000, 100), (100_000, 10)]
 
@@ -322,18 +323,18 @@ def waited_unread(server, meanwhile):
     with Others(server) as others, Beside(waits_beside, server, False) as waits:
         time.sleep(BEFORE)
         for _ in range(CLIENTS):
-            server.connect(receive_buffer=4096).sendall(get(b"large", KEYS))
+            asks_for(server, KEYS, 4096)
         meanwhile(server)
-    asked = f"clients that ask for {KEYS * len(VALUE) / 1e6:.0f} MB each and read nothing"
+    asked = f"clients that ask for {KEYS * len(LARGE) / 1e6:.0f} MB each and read nothing"
     return Waited(waits.noted, others.share, asked)
 
 
 def unread_here(program):
     """How others waited; Trouble if it held too much."""
     with Server(program, "--workers", "1", *OPTIONS) as server, server.connect() as reader:
-        write(server, b"large", VALUE)
+        write_large(server)
         with server.connect() as first:
-            read_whole(first, b"large", VALUE, KEYS)
+            read_whole(first, b"large", LARGE, KEYS)
         for size, _ in READ_BESIDE:
             write(server, b"read-%d" % size, b"v" * size)
         before = server.kilobytes("VmRSS")
@@ -351,7 +352,7 @@ def unread_here(program):
 def unread_beside():
     """How a client of memcached waited in the same load."""
     with Memcached(1) as server:
-        write(server, b"large", VALUE)
+        write_large(server)
         return waited_unread(server, lambda _: time.sleep(1))
 
 

@@ -15,7 +15,6 @@ The record, PROVED, stands there too. It holds for one program, by its sha256, a
 the repository's files, by the sum that git gives them. Of a crate it has the prover's line, or that
 an earlier run proved it.
 """
-import argparse
 import contextlib
 import fcntl
 import hashlib
@@ -334,22 +333,21 @@ def run():
 
 
 def main():
-    parser = argparse.ArgumentParser(description="Proves and builds segcached.")
-    kinds = parser.add_subparsers(dest="kind")
-    kinds.add_parser("record").add_argument("--log", metavar="FILE", required=True)
-    kinds.add_parser("check").add_argument("program", nargs="?", default=PROGRAM)
-    kinds.add_parser("package")
-    words = parser.parse_args()
-    if not words.kind:
-        return run()
     try:
-        if words.kind == "record":
-            write_record(words.log, False)
-        elif words.kind == "check":
-            check(words.program)
-        else:
-            number = output_of(PROGRAM, "--version").split()[1]
-            print(package_version(number, read_record(PROGRAM)["commit"]))
+        match sys.argv[1:]:
+            case []:
+                return run()
+            case ["record", "--log", log]:
+                write_record(log, False)
+            case ["check"]:
+                check(PROGRAM)
+            case ["check", program]:
+                check(program)
+            case ["package"]:
+                number = output_of(PROGRAM, "--version").split()[1]
+                print(package_version(number, read_record(PROGRAM)["commit"]))
+            case _:
+                sys.exit(__doc__)
     except Trouble as trouble:
         sys.exit(f"segcached: {trouble}")
     return 0

@@ -12,7 +12,6 @@ import contextlib
 import glob
 import itertools
 import os
-import pathlib
 import re
 import resource
 import signal
@@ -21,12 +20,7 @@ import struct
 import subprocess
 import time
 
-TOP = os.path.dirname(os.path.dirname(os.path.abspath(__file__)))
-PROGRAM = f"{TOP}/crates/segcached/out/segcached"
-
-
-def read(path):
-    return pathlib.Path(path).read_text(encoding="utf-8")
+from prove import PROGRAM, TOP, read  # (the tests have the program from here)
 
 
 def version():

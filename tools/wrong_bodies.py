@@ -26,7 +26,6 @@ Each check has one function's unedited copy as its control, which must be proved
 known of the edits. A fault of the copying that the control doesn't meet is a name that some proof
 file doesn't find. A check that the compiler refuses is halved until the bad edit stands alone.
 """
-import argparse
 import concurrent.futures
 import functools
 import hashlib
@@ -112,8 +111,7 @@ class Said(NamedTuple):
 
 @functools.cache
 def kit_folder():
-    ran = subprocess.run(["rt", "doc"], stdout=subprocess.PIPE, text=True, check=True)
-    return os.path.dirname(ran.stdout.strip())
+    return os.path.dirname(prove.output_of("rt", "doc"))
 
 
 def libraries_below(name):
@@ -152,9 +150,8 @@ def checked(room):
 def sum_of_tools():
     """A sum of what tries an edit: these programs and the kit."""
     kit, here = kit_folder(), os.path.dirname(os.path.abspath(__file__))
-    ran = subprocess.run(["rt", "version"], stdout=subprocess.PIPE, check=True)
     paths = [*(f"{here}/{it}.py" for it in TOOLS), f"{kit}/bin/rattle"]
-    return f"{ran.stdout} {[prove.sum_of_file(it) for it in paths]}"
+    return f"{prove.output_of('rt', 'version')} {[prove.sum_of_file(it) for it in paths]}"
 
 
 def sum_of_crate(name):
@@ -314,16 +311,13 @@ class Run:
 
 
 def main(words):
-    parser = argparse.ArgumentParser(
-        description=__doc__, formatter_class=argparse.RawDescriptionHelpFormatter)
-    parser.add_argument("--anew", action="store_true", help="try what a run has passed, too")
-    parser.add_argument("edits", nargs="*", metavar="NAME[/EDIT]")
-    given = parser.parse_args(words)
+    if {"-h", "--help"} & set(words):
+        sys.exit(__doc__)
     # (what was kept and isn't used any more is removed)
     os.makedirs(KEPT, exist_ok=True)
     subprocess.run(["find", KEPT, "-type", "f", "-mtime", f"+{DAYS}", "-delete"], check=True)
-    run = Run(given.anew)
-    run.try_all(names_in(given.edits))
+    run = Run("--anew" in words)
+    run.try_all(names_in([it for it in words if it != "--anew"]))
     print(f"{run.seconds / 60:.1f} processor minutes of the prover\n"
           f"{run.passed} passed, {run.failed} failed")
     return int(run.failed > 0)

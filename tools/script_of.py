@@ -180,8 +180,9 @@ OF_VALUES = (b"CLIENT_ERROR cannot increment or decrement non-numeric value",
 def block_length(line):
     """How many bytes of data memcached reads after a line, with the end of the data."""
     words = line.split() or [b""]
-    length = dict(enumerate(words)).get(LENGTHS.get(words[0]), b"")
-    return int(length) + 2 if length.isdigit() else 0
+    place = LENGTHS.get(words[0], 0)
+    is_given = 0 < place < len(words) and words[place].isdigit()
+    return int(words[place]) + 2 if is_given else 0
 
 
 class Cutter:

@@ -99,8 +99,9 @@ def of_perl(source, name, tests, **environment):
 def memcached(program, _):
     tests, results = unpack("memcached"), {}
     shutil.copy(f"{HERE}/MemcachedTest.pm", f"{tests}/lib")
+    words = program, "serve", "--listen", "127.0.0.1:0", *OF_THE_PACKAGE
     for name in OF_MEMCACHED:
-        results |= of_perl("memcached", name, tests, SEGCACHED=program)
+        results |= of_perl("memcached", name, tests, SEGCACHED=" ".join(words))
     return results
 
 

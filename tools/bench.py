@@ -79,9 +79,11 @@ def speed_parts(load, words):
         servers = {"before": words.against, "now": words.program}
     seconds = 0.5 if words.quick else 0.8
     runs = speed.Speed(load, servers, words.rounds, seconds, say)
-    # (an option of a load's own that the other build lacks would be measured against none)
-    loads = [it for it in speed.LOADS if any(word in it.name for word in words.only.split(","))
-             and (not words.against or speed.knows(words.against, it.options or ()))]
+    loads = [it for it in speed.LOADS if any(word in it.name for word in words.only.split(","))]
+    if words.against:
+        # (an option of a load's own that the other build lacks would be measured against none)
+        known = lambda options: speed.known_to(words.against, options) == list(options)
+        loads = [it for it in loads if known(it.options or ())]
     if not loads:
         raise Trouble(f"no load has a name with {words.only}")
     results = runs.compared((2,) if words.quick else (1, 2, 3), loads)

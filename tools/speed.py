@@ -100,10 +100,6 @@ def known_to(program, words):
     return kept
 
 
-def knows(program, words):
-    return known_to(program, words) == list(words)
-
-
 class LoadProgram:
     """tools/load.c, compiled into a folder."""
 

@@ -115,12 +115,10 @@ def judged(here, most, beside):
 
 
 def must_hold_little(server, before, said):
-    """How many MiB a worker held more than before at most; Trouble, behind these words, if it held
-    too much."""
+    """Trouble, behind these words, if a worker held too much more than before."""
     more = (server.kilobytes("VmHWM") - before) // 1024
     if more > MOST_MEMORY:
         raise Trouble(f"{said} {more} MiB")
-    return more
 
 
 # ---- clients that send or read as fast as they can

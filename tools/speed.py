@@ -154,9 +154,8 @@ MARKS = {
 
 
 class Speed:
-    """Two servers by their names in tables: each is memcached (None) or a program of segcached.
-    The figures of a round are by these names; what segcached has with default options stands
-    behind its name."""
+    """Two servers by their names in tables: each a program of segcached, or None for memcached. The
+    figures of a round are by these names; with default options BY_DEFAULT stands behind one."""
 
     def __init__(self, load, servers, rounds, seconds, say):
         self.load, self.servers, self.say = load, servers, say

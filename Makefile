@@ -21,7 +21,7 @@ bench: ## compares the packaged segcached with memcached; writes all figures and
 soak: ## hostile use of a served segcached, long: about 40 minutes
 	@python3 tools/hostile.py --long
 
-peers: ## other people's suites against the proved program: what fails is what the documents say (8 minutes)
+peers: ## other people's suites against the proved program: what fails is what the documents say (3 minutes)
 	@python3 tools/peers.py
 
 install: ## puts the proved program and what goes with it below PREFIX (/usr/local); DESTDIR goes before

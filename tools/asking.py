@@ -39,7 +39,6 @@ def ask_set_and_get(stream, key):
 
 
 def seconds_to(stream, request=MISS, answer=END):
-    """How long a request waits for its answer."""
     began = time.monotonic()
     ask(stream, request, answer)
     return time.monotonic() - began
@@ -55,7 +54,6 @@ def opened(server, count, request=b"", answer=b""):
 
 
 def put(key, value, verb=b"set", flags=0, exptime=0, words=b""):
-    """A request with a data block."""
     return b"%b %b %d %d %d%b\r\n%b\r\n" % (verb, key, flags, exptime, len(value), words, value)
 
 
@@ -70,7 +68,6 @@ def hits(key, value, flags=0, cas=None, times=1):
 
 
 def hit(key, value, flags=0, cas=None, times=1):
-    """A whole answer of such hits."""
     return hits(key, value, flags, cas, times) + END
 
 

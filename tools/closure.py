@@ -127,13 +127,6 @@ class Sources:
             elif name in defined and name not in bound:
                 yield name, defined[name]
 
-    def cited_by(self, definition):
-        if not definition.first:
-            return []
-        defined, _, imports = self.spec(definition.crate, definition.file)
-        found = self.cited(self.text_of(definition), imports, defined)
-        return [it for it in dict.fromkeys(found) if it[1] != definition]
-
     def head_and_clauses(self, contract):
         """The head of a contract's function, its clauses' texts, and the imports of its file."""
         file, _, function = contract.partition(":")
@@ -172,7 +165,9 @@ class Sources:
                 words[name] = None
             elif definition not in found:
                 found[definition] = None
-                waiting += self.cited_by(definition)
+                if definition.first:
+                    defined, _, imports = self.spec(definition.crate, definition.file)
+                    waiting += self.cited(self.text_of(definition), imports, defined)
         return [it for it in found if it.first], [it for it in found if not it.first], list(words)
 
     def seen_as_others(self, contracts, types):
@@ -199,11 +194,6 @@ def counts_of(definitions):
     return f"{len(definitions)} definitions in {files} files, {lines} lines"
 
 
-def contracts_of(page):
-    """The contracts that a page leads from."""
-    return re.findall(r"^<!-- contract ([\w/.]+:[\w:]+(?:#\w+)?) -->$", page, re.MULTILINE)
-
-
 # An entry of the page: the names that one paragraph explains, in a line of its own, and the texts
 # after it, without the comments of the sources.
 TEXT = r"```text\n(?:.*\n)*?```\n"
@@ -213,6 +203,10 @@ CONTRACT = re.compile(
     rf"^<!-- contract ([\w/.]+:[\w:]+(?:#\w+)?) -->\n(?:{TEXT})?", re.MULTILINE)
 COUNTS = re.compile(r"^<!-- counts -->\n(?:.+\n)+", re.MULTILINE)
 FIRST_CELL = re.compile(r"^\|([^|]*)\|", re.MULTILINE)
+
+
+def contracts_of(page):
+    return [it[1] for it in CONTRACT.finditer(page)]
 
 
 # The widest line of the page. A longer one of the sources is broken before one of these words, the

@@ -59,10 +59,6 @@ class Function(NamedTuple):
         return "::".join([*self.inside(), name or self.name])
 
 
-def last_word(text):
-    return (WORD.findall(text) or [""])[-1]
-
-
 def end_of(lines, at, indent):
     """The line with the brace that ends what begins at a line."""
     return next((it for it in range(at, len(lines)) if lines[it] == indent + "}"), at)
@@ -73,9 +69,9 @@ def owner_of(rest):
     rest = re.sub(r"\bFrom<(\w+)>", r"From\1", rest)
     while rest != (rest := re.sub(r"<[^<>]*>", "", rest)):
         pass
-    rest = rest.partition("{")[0].partition(" where ")[0]
-    before, has_trait, behind = rest.partition(" for ")
-    return (last_word(behind), last_word(before)) if has_trait else (last_word(before), "")
+    parts = re.split(r"\{| where ", rest)[0].split(" for ")
+    *trait, owner = ((WORD.findall(it) or [""])[-1] for it in parts)
+    return owner, "".join(trait)
 
 
 def body_of(lines, at, indent):
@@ -95,23 +91,6 @@ def body_of(lines, at, indent):
     return None
 
 
-def functions_of(file, text):
-    """The functions of a file."""
-    lines, owner, trait, until = text.split("\n"), "", "", -1
-    for at, line in enumerate(lines):
-        block, head = BLOCK.match(line), HEAD.match(line)
-        if block and at > until:
-            until = end_of(lines, at, block["indent"])
-            owner, trait = owner_of(block["rest"])
-        body = head and body_of(lines, at, head["indent"])
-        if body:
-            top = at
-            while top > 0 and re.match(r"\s*#\[", lines[top - 1]):
-                top -= 1
-            of = (owner, trait) if at < until else ("", "")
-            yield Function(file, file, *of, head["name"], top, at, *body)
-
-
 def functions_in(texts):
     """The functions of a crate's files, each with the file of its type: the one that declares it,
     its own if that does."""
@@ -120,10 +99,21 @@ def functions_in(texts):
         for name in TYPE.findall(text):
             homes[name].append(file)
     for file, text in texts.items():
-        for it in functions_of(file, text):
-            declared = homes.get(it.owner, [])
-            is_elsewhere = declared and file not in declared and not it.trait
-            yield it._replace(home=declared[0] if is_elsewhere else file)
+        lines, of, until = text.split("\n"), ("", ""), -1
+        for at, line in enumerate(lines):
+            block, head = BLOCK.match(line), HEAD.match(line)
+            if block and at > until:
+                until = end_of(lines, at, block["indent"])
+                of = owner_of(block["rest"])
+            body = head and body_of(lines, at, head["indent"])
+            if body:
+                top = at
+                while top > 0 and re.match(r"\s*#\[", lines[top - 1]):
+                    top -= 1
+                owner, trait = of if at < until else ("", "")
+                declared = homes.get(owner, [file])
+                home = file if file in declared or trait else declared[0]
+                yield Function(file, home, owner, trait, head["name"], top, at, *body)
 
 
 # ---- its wrong bodies
@@ -146,18 +136,13 @@ class Edit(NamedTuple):
 def pairs_of(text):
     """What an edit replaces: files, and in each a text by another."""
     file = old = None
-    for line in text.split("\n"):
-        word, _, rest = line.partition(":")
-        rest = rest.removeprefix(" ")
-        if word == "file":
-            file = rest.strip()
-        elif word == "old":
-            old = rest
-        elif word == "new":
-            if not file or not old:
-                raise Misplaced("a line 'new:' has no 'file:' and 'old:' before it")
+    for word, rest in re.findall(r"^(file|old|new): ?(.*)$", text, re.MULTILINE):
+        if word == "new" and not (file and old):
+            raise Misplaced("a line 'new:' has no 'file:' and 'old:' before it")
+        if word == "new":
             yield file, old, rest
-            old = None
+        file = rest.strip() if word == "file" else file
+        old = rest if word == "old" else None
 
 
 def edited(text, pairs, file):
@@ -168,7 +153,6 @@ def edited(text, pairs, file):
 
 
 def names_of(crate):
-    """The names of a crate's edits."""
     paths = sorted(glob.glob(f"{prove.TOP}/crates/{crate}/wrong/*.edit"))
     return [os.path.basename(it).removesuffix(".edit") for it in paths]
 
@@ -214,7 +198,6 @@ class Crate:
         return Edit(name, text, pairs, *found, self.can_copy(*found))
 
     def around(self, file, row):
-        """The function whose body has this line; None if there is none."""
         return next((it for it in reversed(self.functions)
                      if it.file == file and it.first <= row <= it.last), None)
 
@@ -275,8 +258,10 @@ class Room:
         for at, it in enumerate(edits):
             self.falls[it.name] = (self.copy(it.function, it.pairs, f"{it.function.name}_wrong{at}")
                                    if it.is_copied else it.function.path())
-        for file in self.texts:
-            write(f"{folder}/{file}", self.with_copies(file))
+        for file, text in self.texts.items():
+            lines = enumerate(text.split("\n"))
+            write(f"{folder}/{file}", "\n".join(
+                it for at, line in lines for it in [line, *self.behind.get((file, at), [])]))
         self.asked = {self.control, *self.falls.values()}
         self.write_holes()
 
@@ -292,12 +277,6 @@ class Room:
         for path in glob.glob(f"{self.crate.folder}/{self.crate.proofs_of(function)}/*.antt"):
             write(f"{proofs}/{os.path.basename(path)}", read(path).replace(module, to))
         return function.path(name)
-
-    def with_copies(self, file):
-        """A file with the copies of its functions behind them."""
-        lines = enumerate(self.texts[file].split("\n"))
-        return "\n".join(it for at, line in lines
-                         for it in [line, *self.behind.get((file, at), [])])
 
     def write_holes(self):
         for it in self.crate.functions:

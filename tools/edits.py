@@ -48,7 +48,6 @@ def amiss(found, page, proofs):
 
 
 def unplaced(crates):
-    """The edits of these crates that can't be placed, and why."""
     return [f"{crate.name}/{edit}: {why}" for crate in crates for edit, why in crate.bad.items()]
 
 

@@ -24,7 +24,7 @@ import traceback
 import histories
 import served
 import waits
-from asking import DELETED, END, ERROR, NOT_FOUND, OUT_OF_MEMORY, STORED, ask, hit, put
+from asking import DELETED, END, ERROR, NOT_FOUND, OUT_OF_MEMORY, STORED, ask, get, hit, put
 from served import (
     OF_THE_PACKAGE, Client, NotServing, Trouble, comes_true, read_till_closed, read_to_end,
     reset)
@@ -50,45 +50,40 @@ def must_store(client, key, value):
 
 
 def sing(is_over, server):
-    """What the canary does: its rounds, the longest in time, and when late ones began and ended."""
-    client, rounds, longest, late = Client(server), 0, 0.0, []
+    """What the canary does: when its rounds began and ended."""
+    client, rounds = Client(server), []
     while not is_over.is_set():
-        key, value = b"canary-%d" % (rounds % 50), b"value-%d" % rounds
-        began = time.monotonic()
+        number, began = len(rounds), time.monotonic()
+        key, value = b"canary-%d" % (number % 50), b"value-%d" % number
         for wanted, got in (
             (b"STORED", client.set(key, value)),
             (value, client.get(key)),
-            (b"STORED", client.set(b"canary-n", b"%d" % rounds)),
-            (b"%d" % (rounds + 7), client.ask(b"incr canary-n 7")),
+            (b"STORED", client.set(b"canary-n", b"%d" % number)),
+            (b"%d" % (number + 7), client.ask(b"incr canary-n 7")),
             (b"DELETED", client.ask(b"delete " + key)),
             (None, client.get(key)),
         ):
-            must(wanted == got, f"in round {rounds} wanted {wanted!r} and got {got!r}")
-        ended = time.monotonic()
-        if ended - began > LATE:
-            late.append((began, ended))
-        else:
-            longest = max(longest, ended - began)
-        rounds += 1
+            must(wanted == got, f"in round {number} wanted {wanted!r} and got {got!r}")
+        rounds.append((began, time.monotonic()))
         time.sleep(0.005)
-    return rounds, longest, late
+    return rounds
 
 
 @contextlib.contextmanager
 def canary(server):
     """A client beside the block that writes, reads, counts and deletes keys of its own. It gives a
-    list to which is added what is said of its longest wait. It has a process of its own: in a
+    list to which is added what is said of its longest round. It has a process of its own: in a
     thread beside the bad peers it would wait for them too, and that isn't the server's doing."""
     words = []
     with Standstills() as standstills, Beside(sing, server) as singing:
         yield words
-    rounds, longest, late = singing.noted
-    said = f"canary: {rounds} rounds, the longest {longest * 1000:.0f} ms"
-    for began, ended in late:
+    rounds = singing.noted
+    for began, ended in rounds:
         took, still = ended - began, standstills.seconds_in(began, ended)
-        said += f", once {took:.2f} s, of which the machine stood still for {still:.2f}"
-        must(took - still <= LATE, said)
-    words.append(said)
+        must(took - still <= LATE, f"a round of the canary took {took:.2f} s, and the machine stood"
+             f" still for {still:.2f}")
+    longest = max((ended - began for began, ended in rounds), default=0)
+    words.append(f"canary: {len(rounds)} rounds, the longest {longest * 1000:.0f} ms")
 
 
 GOOD = [it + b"\r\n" for it in (
@@ -132,7 +127,6 @@ def pester(peer, chance):
 
 
 def fuzz(is_long):
-    """Bad bytes on up to 1,000 connections, beside the canary."""
     seconds, most, chance = *((1800, 1000) if is_long else (60, 300)), random.Random(20260101)
     sent = opened = 0
     peers, settled, until = [], None, time.monotonic() + seconds
@@ -211,46 +205,29 @@ def check_refused(session, got):
     """Whether the session was served whole, told that memory is out, or cut; else Trouble."""
     was_told = False
     for request, answers in session:
-        whole = [it for it in [*answers, OUT_OF_MEMORY] if got.startswith(it)]
-        if not whole:
-            is_cut = any(it.startswith(got) for it in [*answers, OUT_OF_MEMORY])
-            must(is_cut, f"{request[:20]!r} was answered {got[:60]!r}")
+        allowed = [*answers, OUT_OF_MEMORY]
+        whole = next(filter(got.startswith, allowed), None)
+        if whole is None:
+            must(any(it.startswith(got) for it in allowed),
+                 f"{request[:20]!r} was answered {got[:60]!r}")
             return "a session cut"
-        was_told |= whole[0] not in answers[:1]
-        got = got[len(whole[0]) :]
+        was_told |= whole != answers[0]
+        got = got[len(whole) :]
     must(not got, f"after all answers came {got[:60]!r}")
     return "a session told" if was_told else "sessions whole"
 
 
-def refused_memory(_):
-    """Each request for memory refused in turn: sessions may be cut or told so, none is wrong."""
-    ways = collections.Counter()
-    with tempfile.TemporaryDirectory() as folder:
-        for refusal, environment in served.refusals("REFUSE_NTH", folder):
-            try:
-                ways[one_refusal(environment)] += 1
-            except Trouble as trouble:
-                raise Trouble(f"request {refusal} for memory refused: {trouble}") from None
-    said = ", ".join(f"{count} with {way}" for way, count in sorted(ways.items()))
-    return f"{refusal - 1} requests for memory refused in turn: {said}"
-
-
-def answers_to(server, session):
-    """What the session was given until it was closed or cut."""
-    with contextlib.suppress(ConnectionResetError, ConnectionRefusedError, BrokenPipeError):
-        peer = server.connect(30)
-        peer.sendall(b"".join(request for request, _ in session))
-        return read_till_closed(peer)
-    return b""
-
-
 def one_refusal(environment):
-    """How a run of two sessions ended."""
     found, words = [], "--sessions 2 --workers 1 --segments 8 --segment-size 4096".split()
     try:
         with serve(*words, environment=environment) as server:
             for session in map(refused_session, (b"a", b"b")):
-                found.append(check_refused(session, answers_to(server, session)))
+                got = b""
+                with contextlib.suppress(ConnectionError):
+                    peer = server.connect(30)
+                    peer.sendall(b"".join(request for request, _ in session))
+                    got = read_till_closed(peer)
+                found.append(check_refused(session, got))
             status, fault = server.process.wait(30), server.errors()
             # (it may have ended with a fault)
             server.stop()
@@ -266,6 +243,19 @@ def one_refusal(environment):
     if status != 0 or not is_told or len(others) > 1 and len(set(others)) == 1:
         raise Trouble(f"status {status}, standard error {fault!r}, {' and '.join(found)}")
     return [*others, "sessions whole"][0]
+
+
+def refused_memory(_):
+    """Each request for memory refused in turn: sessions may be cut or told so, none is wrong."""
+    ways = collections.Counter()
+    with tempfile.TemporaryDirectory() as folder:
+        for refusal, environment in served.refusals("REFUSE_NTH", folder):
+            try:
+                ways[one_refusal(environment)] += 1
+            except Trouble as trouble:
+                raise Trouble(f"request {refusal} for memory refused: {trouble}") from None
+    said = ", ".join(f"{count} with {way}" for way, count in sorted(ways.items()))
+    return f"{refusal - 1} requests for memory refused in turn: {said}"
 
 
 def eight_at_once(server, task):
@@ -355,19 +345,13 @@ def press(server, chance):
 def pressed_session(server, number):
     """Whether a session was served to its end; a wrong answer is trouble, out of memory isn't."""
     key, value, got = b"key-%d" % number, b"value-%d" % number, b""
-    try:
-        client = Client(server)
-        with client.stream:
-            stored = client.set(key, value) + b"\r\n"
-            must(stored in (STORED, OUT_OF_MEMORY), f"a write was answered {stored!r}")
-            client.stream.sendall(b"get %s\r\n" % key)
-            while not got.endswith((END, OUT_OF_MEMORY)):
-                got += client.line() + b"\r\n"
-            wanted = hit(key, value) if stored == STORED else END
-            must(got in (OUT_OF_MEMORY, wanted), f"a read was answered {got!r}")
-            return OUT_OF_MEMORY not in (stored, got)
-    except (OSError, EOFError):
-        return False
+    with contextlib.suppress(OSError), server.connect(10) as peer:
+        peer.sendall(put(key, value) + get(key) + b"quit\r\n")
+        got = read_till_closed(peer)
+    answers = [STORED + hit(key, value), STORED + OUT_OF_MEMORY, OUT_OF_MEMORY + END,
+               OUT_OF_MEMORY * 2]
+    must(any(it.startswith(got) for it in answers), f"a write and a read were answered {got!r}")
+    return got == answers[0]
 
 
 def little_memory(is_long):
@@ -437,9 +421,9 @@ def main():
         try:
             said = PARTS[name](words.long)
         except Exception as trouble:  # (whatever ended this part, the others are run)
-            lines = [str(it.lineno) for it in traceback.extract_tb(trouble.__traceback__)]
+            traceback.print_exc()
             failed += 1
-            said = f"FAILED: {type(trouble).__name__} {trouble}, at lines {', '.join(lines)}"
+            said = f"FAILED: {type(trouble).__name__} {trouble}"
         print(f"hostile {name}: {said} ({time.monotonic() - began:.0f} s)", flush=True)
     return 1 if failed else 0
 

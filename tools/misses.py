@@ -38,28 +38,24 @@ PLAIN = {name: value for name, value in os.environ.items() if name != "GLIBC_TUN
 
 
 class Timed(NamedTuple):
-    """What keys with TTLs are asked for: the load's word for their TTLs, requests a second, the
-    seconds of warming and of counting, and how many of 100 requests are writes and deletes beside
-    the writes of keys that were missed."""
+    """What keys with TTLs are asked for: the load's words, reads a second, and the seconds of
+    warming and of counting."""
 
     name: str
-    ttls: str
-    rate: int
+    words: tuple
+    reads: int
     warm: int
     count: int
-    sets: int = 0
-    deletes: int = 0
-    pipeline: int = 256
-
-    @property
-    def reads(self):
-        """Reads a second."""
-        return self.rate * (100 - self.sets - self.deletes) // 100
 
 
-SHORT = Timed("with TTLs", "--ttls", 60_000, 100, 40)
-# Pages, sessions and settings of a site: two hours, of which the last half hour counts.
-SITE = Timed("a site", "--long-ttls", 3_000, 5_400, 1_800, sets=10, deletes=1, pipeline=16)
+SHORT = Timed("with TTLs", ("--ttls", "--rate", 60_000, "--pipeline", 256), 60_000, 100, 40)
+
+
+def site(rate, warm, count):
+    """Pages, sessions and settings of a site: of 100 requests ten are writes, beside those of keys
+    that were missed, and one is a delete."""
+    words = "--long-ttls", "--rate", rate, "--pipeline", 16, "--sets", 10, "--deletes", 1
+    return Timed("a site", words, rate * 89 // 100, warm, count)
 
 
 class Point(NamedTuple):
@@ -85,21 +81,11 @@ class Point(NamedTuple):
         return Point(self.memory, self.value, 0, times, segment_size=self.segment_size)
 
     def words(self):
-        """The load's words."""
         asked = ["--through", "--zipf", self.zipf, "--threads", 1]
         asked += ["--keys", self.keys, "--value", self.value]
-        if not self.timed:
-            return [*asked, "--pipeline", 256, "--sets", self.sets, "--connections", 1]
-        it = self.timed
-        asked += ["--pipeline", it.pipeline, "--sets", it.sets, "--deletes", it.deletes]
-        return [*asked, "--connections", 4, it.ttls, "--rate", it.rate]
-
-    @property
-    def told(self):
-        """What a table says of its TTLs, its writes and its options."""
-        said = f", {self.timed.name}" if self.timed else ""
-        said += f", {self.sets} of 100 are writes" if self.sets else ""
-        return f"{said}, {self.setting}"
+        if self.timed:
+            return [*asked, "--connections", 4, *self.timed.words]
+        return [*asked, "--connections", 1, "--pipeline", 256, "--sets", self.sets]
 
     def reads(self):
         """How many reads warm, and how many are counted."""
@@ -127,19 +113,13 @@ def curve():
     return [by_settings(it) for it in (plain, others, timed)]
 
 
-def site(quick):
-    """The points of a site: or a minute of a small one."""
-    if quick:
-        brief = SITE._replace(rate=30_000, warm=45, count=15)
-        return by_settings([Point(16, 600, 1.0, timed=brief, segment_size=256 << 10)])
-    return by_settings([Point(64, 600, 1.0, timed=SITE, segment_size=MIB)])
-
-
-def segment_points():
-    """The points that tell which size of a segment misses least."""
-    kinds = ({"memory": 32}, {"memory": 32, "sets": 30}, {"memory": 64, "timed": SHORT})
-    return [Point(value=value, zipf=0.99, **kind, segment_size=size, setting="package")
-            for kind in kinds for value in (100, 1000) for size in SEGMENT_SIZES]
+# A site in two hours, of which the last half hour counts; and a minute of a small one.
+SITES = by_settings([Point(64, 600, 1.0, timed=site(3_000, 5_400, 1_800), segment_size=MIB)])
+BRIEF_SITES = by_settings([Point(16, 600, 1.0, timed=site(30_000, 45, 15), segment_size=256 << 10)])
+# The points that tell which size of a segment misses least.
+SEGMENTS = [Point(value=value, zipf=0.99, **kind, segment_size=size, setting="package")
+            for kind in ({"memory": 32}, {"memory": 32, "sets": 30}, {"memory": 64, "timed": SHORT})
+            for value in (100, 1000) for size in SEGMENT_SIZES]
 
 
 def megabytes_in(memory):
@@ -147,9 +127,13 @@ def megabytes_in(memory):
     return memory - 5 - memory // 32
 
 
-def segcached(program, setting, segment_size, segments):
-    sizes = ["--segment-size", str(segment_size), "--segments", str(segments)]
-    return Server(program, *sizes, *SETTINGS[setting], environment=PLAIN)
+def memcached(memory):
+    return Memcached(megabytes=megabytes_in(memory), environment=PLAIN)
+
+
+def segcached(program, point, segments):
+    sizes = ["--segment-size", str(point.segment_size), "--segments", str(segments)]
+    return Server(program, *sizes, *SETTINGS[point.setting], environment=PLAIN)
 
 
 class Misses:
@@ -157,9 +141,6 @@ class Misses:
 
     def __init__(self, load, program, say):
         self.load, self.program, self.say = load, program, say
-
-    def segcached(self, point, segments):
-        return segcached(self.program, point.setting, point.segment_size, segments)
 
     def asked(self, server, *words):
         """One run of the load: the figures of its last line."""
@@ -176,14 +157,13 @@ class Misses:
             return server.kilobytes("VmRSS") / 1024
 
     def fit(self, point):
-        """memcached's -m, and segcached's segments."""
-        megabytes = megabytes_in(point.memory)
-        budget = self.filled(Memcached(megabytes=megabytes, environment=PLAIN), point)
+        """The most segments with which segcached has no more resident than memcached."""
+        budget = self.filled(memcached(point.memory), point)
         segment = point.segment_size / MIB
         taken = segment * (1 + 1 / 256 + 12 / (HEAD_BYTES + KEY_BYTES + point.value))
         segments, most = int(0.85 * budget / taken), math.inf
         for _ in range(6):
-            over = self.filled(self.segcached(point, segments), point) - budget
+            over = self.filled(segcached(self.program, point, segments), point) - budget
             if over > 0:
                 most = segments
                 segments -= math.ceil(over / taken)
@@ -191,11 +171,10 @@ class Misses:
                 segments = min(segments + int(-over / taken), most - 1)
             else:
                 break
-        self.say(f"{point}: -m {megabytes}, {segments} segments")
-        return megabytes, segments
+        self.say(f"{point}: {segments} segments")
+        return segments
 
     def side(self, server, size, point):
-        """Warms a server, counts its misses, and ends it."""
         warmed, counted = point.reads()
         with server:
             self.asked(server, *point.words(), "--seed", 1, "--reads", warmed)
@@ -203,11 +182,10 @@ class Misses:
             reads, resident = ran["hits"] + ran["misses"], server.kilobytes("VmRSS") / 1024
             return Side(size, resident, 100 * ran["misses"] / reads, reads / ran["seconds"])
 
-    def both(self, point, sizes):
-        """memcached and segcached, at the same time."""
+    def both(self, point, segments):
         sides = together([
-            lambda: self.side(Memcached(megabytes=sizes[0], environment=PLAIN), sizes[0], point),
-            lambda: self.side(self.segcached(point, sizes[1]), sizes[1], point)])
+            lambda: self.side(memcached(point.memory), megabytes_in(point.memory), point),
+            lambda: self.side(segcached(self.program, point, segments), segments, point)])
         self.say(f"{point}: {ratio(sides):.2f}")
         return sides
 
@@ -229,7 +207,6 @@ def ratio(sides):
 
 
 def markdown(heads, rows):
-    """The lines of a table."""
     lines = ["| " + " | ".join(it) + " |" for it in [heads, *rows]]
     return [lines[0], "|---" * len(heads) + "|", *lines[1:]]
 
@@ -239,15 +216,16 @@ def table(points, results):
     rows = []
     for point in points:
         sides = results[point]
-        pair = lambda form: ", ".join(map(form, sides))
+        said = f", {point.timed.name}" if point.timed else ""
+        said += f", {point.sets} of 100 are writes" if point.sets else ""
         rows.append({
             "Memory (MiB), segments (KiB)": f"{point.memory}, {point.segment_size >> 10}",
             "values (bytes)": f"{point.value:,}",
-            "Zipf's exponent": f"{point.zipf:g}{point.told}",
+            "Zipf's exponent": f"{point.zipf:g}{said}, {point.setting}",
             "keys (times the memory)": f"{point.keys:,} ({point.times:g})",
-            "-m of memcached, segments": pair(lambda it: str(it.size)),
-            "resident (MiB)": pair(lambda it: f"{it.resident:.1f}"),
-            "missed of 100 reads": pair(lambda it: f"{it.missed:.2f}"),
+            "-m of memcached, segments": ", ".join(f"{it.size}" for it in sides),
+            "resident (MiB)": ", ".join(f"{it.resident:.1f}" for it in sides),
+            "missed of 100 reads": ", ".join(f"{it.missed:.2f}" for it in sides),
             "ratio": f"{ratio(sides):.2f}",
         })
     return markdown(rows[0], [it.values() for it in rows])
@@ -255,8 +233,8 @@ def table(points, results):
 
 def least_held(results):
     """The least share of its fixed rate that a server kept, of those whose keys have TTLs."""
-    timed = [(point, side) for point, sides in results.items() if point.timed for side in sides]
-    share = min(side.rate / point.timed.reads for point, side in timed)
+    share = min(side.rate / point.timed.reads
+                for point, sides in results.items() if point.timed for side in sides)
     return f"With TTLs each server kept at least {share:.1%} of the rate that it was asked at."
 
 
@@ -273,34 +251,29 @@ def ratios(results):
     return markdown(["segcached's misses beside memcached's", *SETTINGS], rows)
 
 
-COLOURS = "#1b6ca8", "#2e8b57", "#c0504d"
-
-
 def draw(results, picture):
     """A picture: above, what both missed; below, the ratio; a column for each exponent. For each
     size of values memcached has a line, and segcached one for each of its options."""
     figure, axes = pyplot.subplots(2, len(EXPONENTS), figsize=(11, 9), layout="constrained")
     for zipf, (above, below) in zip(EXPONENTS, axes.T):
-        for value, colour in zip(VALUES, COLOURS):
-            points = [Point(memory, value, zipf) for memory in MEMORIES]
-            each = {setting: [results[it._replace(setting=setting)] for it in points]
-                    for setting in SETTINGS}
-            missed = {"memcached": [theirs.missed for theirs, _ in each["default"]]}
-            missed |= {name: [ours.missed for _, ours in sides] for name, sides in each.items()}
-            for style, (name, numbers) in zip(("o--", "o-", "o-."), missed.items()):
-                line = {"color": colour, "label": f"{value} bytes, {name}"}
-                above.plot(MEMORIES, numbers, style, **line)
-                if name in each:
-                    below.plot(MEMORIES, [*map(ratio, each[name])], style, **line)
+        for value, colour in zip(VALUES, ("#1b6ca8", "#2e8b57", "#c0504d")):
+            theirs = [results[Point(memory, value, zipf)][0].missed for memory in MEMORIES]
+            above.plot(MEMORIES, theirs, "o--", color=colour, label=f"{value} bytes, memcached")
+            for style, setting in zip(("o-", "o-."), SETTINGS):
+                sides = [results[Point(memory, value, zipf, setting=setting)]
+                         for memory in MEMORIES]
+                line = {"color": colour, "label": f"{value} bytes, {setting}"}
+                above.plot(MEMORIES, [ours.missed for _, ours in sides], style, **line)
+                below.plot(MEMORIES, [ratio(it) for it in sides], style, **line)
         below.axhline(1, color="black", linestyle=":")
-        for axes_of, what in ((above, "missed of 100 reads"),
-                              (below, "segcached's misses, times memcached's")):
-            axes_of.set(title=f"keys by Zipf's law, {zipf:g}", ylabel=what, ylim=(0, None),
-                        xlabel="resident memory (MiB)", xscale="log")
-            axes_of.set_xticks(MEMORIES, MEMORIES)
-            axes_of.minorticks_off()
-            axes_of.grid(axis="y")
-            axes_of.legend(fontsize="small")
+        for axis, what in ((above, "missed of 100 reads"),
+                           (below, "segcached's misses, times memcached's")):
+            axis.set(title=f"keys by Zipf's law, {zipf:g}", ylabel=what, ylim=(0, None),
+                     xlabel="resident memory (MiB)", xscale="log")
+            axis.set_xticks(MEMORIES, MEMORIES)
+            axis.minorticks_off()
+            axis.grid(axis="y")
+            axis.legend(fontsize="small")
     figure.savefig(picture)
 
 
@@ -314,87 +287,61 @@ RATE, TICKS_A_SECOND, SECONDS, NEW = 1_500, 10, 75, b"v" * 1_000
 # by default segcached rounds a TTL down by less than this.
 TTLS, EARLY = (60, 60, 600, 0), 16
 
-
-# MiB of memory, bytes of a segment, and the TTLs of the new keys in turn.
-Flood = collections.namedtuple("Flood", "memory segment_size ttls")
-FLOODS = (
-    Flood(16, 256 << 10, (0,)),
-    Flood(16, 256 << 10, (0, 60, 600)),
-    Flood(16, 256 << 10, (600,)),
-    Flood(16, MIB, (600,)),
-    Flood(64, MIB, (3_600, 3_600, 3_600, 86_400)),
-)
+# What there is of memory, and the TTLs of the new keys in turn.
+FLOODS = [(Point(memory, len(NEW), 0, segment_size=size), ttls) for memory, size, ttls in (
+    (16, 256 << 10, (0,)),
+    (16, 256 << 10, (0, 60, 600)),
+    (16, 256 << 10, (600,)),
+    (16, MIB, (600,)),
+    (64, MIB, (3_600, 3_600, 3_600, 86_400)),
+)]
 
 
-def servers(flood, program):
-    """memcached, and segcached by its settings, whose segments have the memory's bytes."""
-    yield Memcached(megabytes=megabytes_in(flood.memory), environment=PLAIN)
-    for setting in SETTINGS:
-        segments = flood.memory * MIB // flood.segment_size
-        yield segcached(program, setting, flood.segment_size, segments)
+def lost(server, ttls, seconds):
+    """How often each key in use was lost."""
+    client, times, until = Client(server, 20), [0] * len(TTLS), [0.0] * len(TTLS)
 
-
-class Flooding(Client):
-    """Floods a server with new keys, and uses four keys beside them."""
-
-    def __init__(self, server):
-        super().__init__(server, 20)
-        self.written, self.lost, self.until = 0, [0] * len(TTLS), [0.0] * len(TTLS)
-
-    def use(self, number):
-        """Whether a key in use is there."""
-        if number == 0:
-            return self.ask(b"incr hot-0 1") != b"NOT_FOUND"
-        return self.get(b"hot-%d" % number) is not None
-
-    def write(self, number):
-        value = b"1000000" if number == 0 else NEW
-        if self.set(b"hot-%d" % number, value, exptime=TTLS[number]) != b"STORED":
+    def write(number):
+        value = NEW if number else b"1000000"
+        if client.set(b"hot-%d" % number, value, exptime=TTLS[number]) != b"STORED":
             raise Trouble("set: not stored")
-        lasts = TTLS[number] - EARLY if TTLS[number] else float("inf")
-        self.until[number] = time.monotonic() + lasts
+        lasts = TTLS[number] - EARLY if TTLS[number] else math.inf
+        until[number] = time.monotonic() + lasts
 
-    def flood(self, ttls, count):
-        """Writes new keys, and tells of none that wasn't stored."""
-        numbers = range(self.written, self.written + count)
-        sets = (put(b"new-%d" % it, NEW, exptime=ttls[it % len(ttls)]) for it in numbers)
-        self.stream.sendall(b"".join(sets))
-        for _ in numbers:
-            self.line()
-        self.written += count
-
-    def run(self, ttls, seconds):
-        """How often each key in use was lost."""
-        for number in range(len(TTLS)):
-            self.write(number)
-        began = time.monotonic()
-        for tick in range(seconds * TICKS_A_SECOND):
-            time.sleep(max(0, began + tick / TICKS_A_SECOND - time.monotonic()))
-            self.flood(ttls, RATE // TICKS_A_SECOND)
-            for number in range(len(TTLS)):
-                if not self.use(number):
-                    self.lost[number] += time.monotonic() < self.until[number]
-                    self.write(number)
-        return self.lost
+    for number in range(len(TTLS)):
+        write(number)
+    began = time.monotonic()
+    for tick in range(seconds * TICKS_A_SECOND):
+        time.sleep(max(0, began + tick / TICKS_A_SECOND - time.monotonic()))
+        first = tick * RATE // TICKS_A_SECOND
+        new = range(first, first + RATE // TICKS_A_SECOND)
+        client.stream.sendall(b"".join(
+            put(b"new-%d" % it, NEW, exptime=ttls[it % len(ttls)]) for it in new))
+        # (which of them wasn't stored isn't told)
+        for _ in new:
+            client.line()
+        there = [client.ask(b"incr hot-0 1") != b"NOT_FOUND"]
+        there += [client.get(b"hot-%d" % it) is not None for it in range(1, len(TTLS))]
+        for number in (it for it, is_there in enumerate(there) if not is_there):
+            times[number] += time.monotonic() < until[number]
+            write(number)
+    return times
 
 
-def losses(program, seconds=SECONDS, floods=FLOODS):
-    """By flood, how often each key was lost with each server: all floods at once."""
-    def lost(flood, server):
-        with server:
-            return Flooding(server).run(flood.ttls, seconds)
+def table_of_losses(program, seconds=SECONDS, floods=FLOODS):
+    """A row for each flood, of how often each key was lost with each server: all at once."""
+    def times_lost(point, ttls, setting):
+        segments = point.memory * MIB // point.segment_size
+        with (segcached(program, point._replace(setting=setting), segments) if setting
+              else memcached(point.memory)) as server:
+            return " ".join(map(str, lost(server, ttls, seconds)))
 
-    calls = [lambda it=it, server=server: lost(it, server)
-             for it in floods for server in servers(it, program)]
-    found = iter(together(calls))
-    return {it: [next(found) for _ in ("memcached", *SETTINGS)] for it in floods}
-
-
-def table_of_losses(results, seconds=SECONDS):
-    """A row for each flood."""
-    heads, rows = [f"{RATE:,} new keys a second, {seconds} seconds", "memcached", *SETTINGS], []
-    for flood, each in results.items():
-        ttls = ", ".join(f"{it:,}" if it else "none" for it in flood.ttls)
-        sizes = f"{flood.memory} MiB, segments of {flood.segment_size >> 10} KiB, TTLs {ttls}"
-        rows.append([sizes, *(" ".join(map(str, it)) for it in each)])
+    rows, sides = [], (None, *SETTINGS)
+    found = together(lambda it=it, side=side: times_lost(*it, side)
+                     for it in floods for side in sides)
+    for point, ttls in floods:
+        said = ", ".join(f"{it:,}" if it else "none" for it in ttls)
+        sizes = f"{point.memory} MiB, segments of {point.segment_size >> 10} KiB, TTLs {said}"
+        rows.append([sizes, *(found.pop(0) for _ in sides)])
+    heads = f"{RATE:,} new keys a second, {seconds} seconds", "memcached", *SETTINGS
     return markdown(heads, rows)

@@ -1,39 +1,35 @@
 #!/usr/bin/python3
-"""Other people's suites against the proved program: memcached's own tests, pymemcache's,
-memccapable, those of Cache::Memcached::Fast; a limit of requests a minute by Flask-Limiter, and
-Postfix's tables; and Debian's monitors of memcached.
+"""Other people's suites against the proved program: memcached's own tests, pymemcache's, those of
+Cache::Memcached::Fast, and Debian's monitors of memcached.
 
-    tools/peers.py [--program PROGRAM] [--only SUITE] [--show]
+    tools/peers.py [--program PROGRAM] [--only SUITE]
 
 The program serves them with the package's options. Their sources come by apt-get into out/peers.
 What fails has to be what tools/peers/expected lists, each below the sentence of docs/CLIENTS.md or
-docs/OPERATIONS.md that tells it; --show prints what failed in that file's form. The last line is
+docs/OPERATIONS.md that tells it; what else failed is printed in that file's form. The last line is
 'N passed, M failed as the documents say, K otherwise'.
 """
 import argparse
-import contextlib
 import glob
 import itertools
 import os
 import pathlib
 import re
 import shutil
-import signal
 import subprocess
 import sys
 import tempfile
 import time
 
-from served import (
-    OF_THE_PACKAGE, PROGRAM, TOP, Client, Process, Server, Trouble, install, read)
+from asking import END, STORED, ask, hit, put
+from served import OF_THE_PACKAGE, PROGRAM, TOP, Process, Server, Trouble, install, read
 
 HERE = f"{TOP}/tools/peers"
 WORK = f"{TOP}/out/peers"
 SOURCES = ["memcached", "libcache-memcached-fast-perl"]
-PACKAGES = """libmemcached-tools python3-pymemcache python3-pytest python3-flask-limiter postfix
-    libcache-memcached-fast-perl libtest2-suite-perl perl memcached munin-plugins-extra
-    libcache-memcached-perl collectd-core netdata-plugins-python netdata-core
-    monitoring-plugins-contrib""".split()
+PACKAGES = """libmemcached-tools python3-pymemcache python3-pytest perl memcached
+    libcache-memcached-fast-perl libtest2-suite-perl munin-plugins-extra libcache-memcached-perl
+    collectd-core netdata-plugins-python netdata-core monitoring-plugins-contrib""".split()
 # Those of memcached's tests that speak of the commands that there are.
 OF_MEMCACHED = """bogus-commands cas evictions expirations flags flush-all getandtouch getset
     incrdecr issue_104 issue_108 issue_14 issue_152 issue_163 issue_183 issue_192 issue_22 issue_29
@@ -41,28 +37,20 @@ OF_MEMCACHED = """bogus-commands cas evictions expirations flags flush-all getan
 OF_PYMEMCACHE = "/usr/lib/python3/dist-packages/pymemcache/test/test_integration.py"
 OF_FAST = """big-value commands flush-all magic malformed namespace noreply nowait serialize
     utf8""".split()
-# The most seconds that one file of tests may take, the test of a limit of a minute, and a monitor.
-SECONDS, LIMIT_SECONDS, MONITOR_SECONDS = 120, 150, 20
+# The most seconds that one file of tests may take, and a monitor.
+SECONDS, MONITOR_SECONDS = 120, 20
+# The status of a command whose time was over.
+ENDED = 124
 
 
 def run(words, seconds=MONITOR_SECONDS, cwd=None, **environment):
-    """The status of a command, None if it was ended after so many seconds, and what it said. What
-    it didn't end itself is ended with it."""
-    process = subprocess.Popen(
-        words, stdout=subprocess.PIPE, stderr=subprocess.DEVNULL, text=True, errors="replace",
-        start_new_session=True, cwd=cwd, env={**os.environ, **environment})
-    try:
-        said, _ = process.communicate(timeout=seconds)
-        return process.returncode, said
-    except subprocess.TimeoutExpired:
-        os.killpg(process.pid, signal.SIGTERM)
-        with contextlib.suppress(subprocess.TimeoutExpired):
-            return None, process.communicate(timeout=10)[0]
-        os.killpg(process.pid, signal.SIGKILL)
-        return None, process.communicate()[0]
-    finally:
-        with contextlib.suppress(ProcessLookupError):
-            os.killpg(process.pid, signal.SIGKILL)
+    """The status of a command, or ENDED after so many seconds, and what it said. What it leaves is
+    ended with it, since it has process numbers of its own."""
+    alone = ["timeout", "-k", "10", str(seconds), "unshare", "--pid", "--fork", "--kill-child"]
+    ran = subprocess.run(
+        [*alone, *words], stdout=subprocess.PIPE, stderr=subprocess.DEVNULL, text=True, cwd=cwd,
+        errors="replace", env={**os.environ, **environment}, check=False)
+    return ran.returncode, ran.stdout
 
 
 def fetch():
@@ -104,75 +92,65 @@ def of_perl(source, name, tests, **environment):
     passed = dict.fromkeys(range(1, int(plan[1]) + 1 if plan else 1), False)
     for bad, number in re.findall(r"^(not )?ok (\d+)", said, re.MULTILINE):
         passed[int(number)] = not bad
-    passed["end"] = plan is not None and status is not None
+    passed["end"] = plan is not None and status != ENDED
     return {f"{source}/{name}.t {number}": holds for number, holds in passed.items()}
 
 
-def memcached(program):
+def memcached(program, _):
     tests, results = unpack("memcached"), {}
     shutil.copy(f"{HERE}/MemcachedTest.pm", f"{tests}/lib")
+    words = program, "serve", "--listen", "127.0.0.1:0", *OF_THE_PACKAGE
     for name in OF_MEMCACHED:
-        results.update(of_perl("memcached", name, tests, SEGCACHED=program))
+        results |= of_perl("memcached", name, tests, SEGCACHED=" ".join(words))
     return results
 
 
-def fast(program):
+def fast(program, _):
     tests, results = unpack("libcache-memcached-fast-perl"), {}
     shutil.copy(f"{HERE}/Memd.pm", tests)
     for name in OF_FAST:
         with Server(program, *OF_THE_PACKAGE) as server:
-            results.update(of_perl("fast", name, tests, PORT=str(server.port)))
+            results |= of_perl("fast", name, tests, PORT=str(server.port))
     return results
 
 
-def pymemcache(program):
+def pymemcache(_, server):
     """Its integration tests, as the package has them; one with several clients passes if it does
     with each."""
-    results = {}
-    with Server(program, *OF_THE_PACKAGE) as server:
-        words = ["/usr/bin/python3", "-B", "-m", "pytest", "-p", "no:cacheprovider", "--tb=no"]
-        # (the package lacks the certificates of the one over TLS)
-        words += ["-rA", OF_PYMEMCACHE, "-k", "not tls", "--server", "127.0.0.1"]
-        words += ["--port", str(server.port)]
-        _, said = run(words, SECONDS, cwd=WORK)
-    for verdict, name in re.findall(r"^(PASSED|FAILED|ERROR) \S+::(\w+)", said, re.MULTILINE):
-        name = f"pymemcache/{name}"
-        results[name] = results.get(name, True) and verdict == "PASSED"
+    # (the package lacks the certificates of the one over TLS)
+    words = ["/usr/bin/python3", "-B", "-m", "pytest", "-p", "no:cacheprovider", "--tb=no", "-rA",
+             OF_PYMEMCACHE, "-k", "not tls", "--server", "127.0.0.1", "--port", str(server.port)]
+    verdicts = re.findall(r"^(PASSED|FAILED|ERROR) \S+::(\w+)", run(words, SECONDS, WORK)[1], re.M)
+    results = {f"pymemcache/{name}": True for _, name in verdicts}
+    results.update({f"pymemcache/{name}": False for word, name in verdicts if word != "PASSED"})
     return results
-
-
-def memccapable(program):
-    """Its text part: each line begins with a test; what went wrong may precede the verdict."""
-    results, name = {}, None
-    with Server(program, *OF_THE_PACKAGE) as server:
-        words = ["sh", "-c", 'memccapable -h 127.0.0.1 -p "$0" -a -t 5 2>&1', str(server.port)]
-        for line in run(words, SECONDS)[1].splitlines():
-            name = line[6:40].strip().replace(" ", "_") if line.startswith("ascii ") else name
-            verdict = re.search(r"\[(pass|FAIL)\]", line)
-            if verdict:
-                results[f"memccapable/{name}"] = verdict[1] == "pass"
-    return results
-
-
-def limits(program):
-    """A limit of 100 requests a minute holds, and a TTL ends when it should."""
-    with Server(program, *OF_THE_PACKAGE) as server:
-        words = ["/usr/bin/python3", "-B", f"{TOP}/tools/clients/ttl_calls.py", str(server.port)]
-        _, said = run(words, LIMIT_SECONDS)
-    works = dict(re.findall(r"^(\S+) works:(.*)$", said, re.MULTILINE))
-    return {f"limits/{it}": bool(works.get(it, "").strip()) for it in ("Flask-Limiter", "Postfix")}
 
 
 # ---- Debian's monitors of memcached
 
-# Each has to show what it shows of memcached, but for what docs/OPERATIONS.md names.
-# Of each plugin of munin, how many values it shows.
-OF_MUNIN = {"bytes": 2, "counters": 3, "rates": 6}
+# Each has to show what it shows of memcached, but for what docs/OPERATIONS.md names. Of those that
+# are commands, what they print; a plugin of munin shows one of its graphs by its name, and U for a
+# value that it doesn't know.
+MUNIN = ("ln -s /usr/share/munin/plugins/memcached_ {folder}/memcached_%s"
+         " && host=127.0.0.1 port={port} perl {folder}/memcached_%s")
+TOOL = "perl /usr/share/memcached/scripts/memcached-tool 127.0.0.1:{port} "
+COMMANDS = {
+    **{f"munin's {graph}": (MUNIN % (graph, graph), rf"(\w+\.value \d+\n){{{count}}}")
+       for graph, count in (("bytes", 2), ("counters", 3), ("rates", 6))},
+    "check_memcached": ("/usr/lib/nagios/plugins/check_memcached -H 127.0.0.1 -p {port}", "OK.*"),
+    # (in the cache itself)
+    "check_memcached keeps its history": (
+        "memccat --servers=127.0.0.1:{port} check_memcached", ".+"),
+    "memcstat": ("memcstat --servers=127.0.0.1:{port}", r"(?=.*get_hits).*bytes_written.*"),
+    # (`dump` shows keys, of which it is told none)
+    **{f"memcached-tool {mode}": (TOOL + mode, wanted) for mode, wanted in (
+        ("stats", ".*get_hits.*"), ("display", ".*#.*"), ("settings", ".*"), ("sizes", ".*"),
+        ("dump", ".*"))},
+}
 # How many series collectd shows of memcached, and those that have no field here.
 SERIES, MISSING = 24, {"memcached_command-meta"}
 # How many charts netdata shows, beside the one of its own time.
 CHARTS = 14
-TOOL = "/usr/share/memcached/scripts/memcached-tool"
 COLLECTD = """
 Hostname "here"
 BaseDir "{folder}"
@@ -190,108 +168,66 @@ LoadPlugin memcached
   </Instance>
 </Plugin>
 """
-NETDATA = """
-here:
-  host: '127.0.0.1'
-  port: {port}
-"""
 
 
 def use(server):
     """A hit and a miss."""
-    client = Client(server)
-    client.set(b"a", b"x")
-    for key in (b"a", b"b"):
-        client.get(key)
-
-
-def munin(server, folder):
-    """A symbolic link says which of its three graphs the plugin shows; one value that it doesn't
-    know is U."""
-    for graph, count in OF_MUNIN.items():
-        plugin = f"{folder}/memcached_{graph}"
-        os.symlink("/usr/share/munin/plugins/memcached_", plugin)
-        status, said = run(["perl", plugin], host="127.0.0.1", port=str(server.port))
-        values = re.findall(r"^\w+\.value (\d+)$", said, re.MULTILINE)
-        is_whole = len(values) == said.count(".value ") == count
-        yield f"munin's {graph}", status == 0 and is_whole, said
+    with server.connect() as stream:
+        ask(stream, put(b"a", b"x") + b"get a\r\nget b\r\n", STORED + hit(b"a", b"x") + END)
 
 
 def collectd(server, folder):
     """It reads each second, and writes a file for each series."""
     path = pathlib.Path(f"{folder}/collectd.conf")
     path.write_text(COLLECTD.format(folder=folder, port=server.port), encoding="ascii")
-    with Process(["/usr/sbin/collectd", "-f", "-C", path], stderr=subprocess.DEVNULL) as it:
-        for _ in range(5):
+    found = set()
+    with Process(["/usr/sbin/collectd", "-f", "-C", path], stderr=subprocess.DEVNULL):
+        for _ in range(MONITOR_SECONDS):
             use(server)
             time.sleep(1)
-        it.process.terminate()
-        it.process.wait(MONITOR_SECONDS)
-    files = map(os.path.basename, glob.glob(f"{folder}/here/memcached-cache/*"))
-    found = {re.sub(r"-\d{4}-\d\d-\d\d$", "", it) for it in files}
-    holds = len(found | MISSING) == SERIES and not found & MISSING
-    yield f"collectd: {len(found)} of {SERIES} series", holds, " ".join(sorted(found))
+            files = map(os.path.basename, glob.glob(f"{folder}/here/memcached-cache/*"))
+            known, found = found, {re.sub(r"-\d{4}-\d\d-\d\d$", "", it) for it in files}
+            if len(found) >= SERIES - len(MISSING) and known == found:
+                break
+    return len(found | MISSING) == SERIES and not found & MISSING, " ".join(sorted(found))
 
 
 def netdata(server, folder):
     path = pathlib.Path(f"{folder}/python.d/memcached.conf")
     path.parent.mkdir()
-    path.write_text(NETDATA.format(port=server.port), encoding="ascii")
+    path.write_text(f"here:\n  host: '127.0.0.1'\n  port: {server.port}\n", encoding="ascii")
     folders = {f"NETDATA_{it}_DIR": folder for it in ("USER_CONFIG", "LOCK", "LIB")}
     _, said = run(["/usr/lib/netdata/plugins.d/python.d.plugin", "1", "memcached"], 8, **folders)
     charts = set(re.findall(r"^CHART memcached_here\.(\w+)", said, re.MULTILINE))
     values = re.findall(r"^SET '?(\w+)'? = '?(\d+)", said, re.MULTILINE)
-    holds = len(charts) == CHARTS and len(values) >= CHARTS
-    yield f"netdata: {len(charts)} of {CHARTS} charts", holds, said
+    return len(charts) == CHARTS and len(values) >= CHARTS, said
 
 
-def nagios(server, _):
-    """It keeps what it was told in the cache itself, and compares it with what it is told half a
-    minute later at least."""
-    words = ["/usr/lib/nagios/plugins/check_memcached", "-H", "127.0.0.1", "-p", str(server.port)]
-    status, said = run(words)
-    yield "check_memcached", status == 0 and said.startswith("OK"), said
-    kept = Client(server).get(b"check_memcached")
-    yield "check_memcached keeps its history", kept is not None, "there is none"
-
-
-def tools(server, _):
-    """memcached-tool reads until `END`; `dump` shows keys, of which it is told none."""
-    where = f"127.0.0.1:{server.port}"
-    status, said = run(["memcstat", f"--servers={where}"])
-    yield "memcstat", status == 0 and "get_hits" in said and "bytes_written" in said, said
-    for mode, wanted in {"stats": "get_hits", "display": "#", "settings": "", "sizes": "",
-                         "dump": ""}.items():
-        status, said = run(["perl", TOOL, where, mode])
-        yield f"memcached-tool {mode}", status == 0 and wanted in said, said
-
-
-def monitors(program):
+def monitors(_, server):
     """Of each thing that a monitor has to show whether it does; what it said where it doesn't is
     printed."""
-    results = {}
-    with Server(program, *OF_THE_PACKAGE) as server:
-        use(server)
-        for monitor in (munin, collectd, netdata, nagios, tools):
-            with tempfile.TemporaryDirectory() as folder:
-                for name, holds, said in monitor(server, folder):
-                    results[f"monitors/{name.replace(' ', '_')}"] = holds
-                    if not holds:
-                        print(f"{name}:\n{said}", file=sys.stderr)
-    return results
+    use(server)
+    with tempfile.TemporaryDirectory() as folder:
+        found = {it.__name__: it(server, folder) for it in (collectd, netdata)}
+        for name, (command, wanted) in COMMANDS.items():
+            status, said = run(["sh", "-c", command.format(folder=folder, port=server.port)])
+            found[name] = status == 0 and re.fullmatch(wanted, said, re.DOTALL), said
+    for name, (holds, said) in found.items():
+        if not holds:
+            print(f"{name}:\n{said}", file=sys.stderr)
+    return {f"monitors/{name.replace(' ', '_')}": bool(holds) for name, (holds, _) in found.items()}
 
 
 # ---- all of them
 
-SUITES = {it.__name__: it for it in (memcached, fast, pymemcache, memccapable, limits, monitors)}
+SUITES = {it.__name__: it for it in (memcached, fast, pymemcache, monitors)}
 
 
 def read_expected():
-    """By test its sentence; each has to stand in its page."""
-    expected, sentence = {}, None
+    """The tests that are to fail. The sentence above each has to stand in its page."""
+    expected = set()
     for line in read(f"{HERE}/expected").splitlines():
         if found := re.match(r"(CLIENTS|OPERATIONS): (.+)", line):
-            sentence = found[0]
             if found[2] not in " ".join(read(f"{TOP}/docs/{found[1]}.md").split()):
                 raise Trouble(f"docs/{found[1]}.md doesn't say: {found[2]}")
         elif line.strip() and not line.startswith("#"):
@@ -299,8 +235,8 @@ def read_expected():
             name, _, numbers = line.partition(" ")
             for part in numbers.split(","):
                 first, _, last = part.partition("-")
-                for it in range(int(first), int(last) + 1) if last else [first]:
-                    expected[f"{name} {it}".rstrip()] = sentence
+                each = range(int(first), int(last) + 1) if last else [first]
+                expected.update(f"{name} {it}".rstrip() for it in each)
     return expected
 
 
@@ -321,33 +257,33 @@ def main():
     parser = argparse.ArgumentParser(description="Other people's suites against segcached.")
     parser.add_argument("--program", help="another build than the proved one")
     parser.add_argument("--only", choices=SUITES)
-    parser.add_argument("--show", action="store_true", help="prints what failed")
     words = parser.parse_args()
     if not words.program:
         subprocess.run(["python3", f"{TOP}/tools/prove.py"], check=True)
     names, results = [words.only] if words.only else SUITES, {}
     try:
+        told = {it for it in read_expected() if it.partition("/")[0] in names}
         os.makedirs(WORK, exist_ok=True)
         install(*PACKAGES)
         fetch()
         for name in names:
-            found = SUITES[name](os.path.abspath(words.program or PROGRAM))
+            program = os.path.abspath(words.program or PROGRAM)
+            with Server(program, *OF_THE_PACKAGE) as server:
+                found = SUITES[name](program, server)
             print(f"{name}: {len(found)} tests", flush=True)
             results |= found
-        told = {it for it in read_expected() if it.partition("/")[0] in names}
     except Trouble as trouble:
         sys.exit(f"peers: {trouble}")
-    failed = {name: None for name, holds in results.items() if not holds}
-    if words.show:
-        print("\n".join(in_ranges(failed)))
-    untold = [it for it in failed if it not in told]
-    passing = [it for it in told if results.get(it, True)]
-    for line in in_ranges(untold):
-        print(f"failed, and no document says so: {line}")
-    for line in in_ranges(passing):
-        print(f"passed, or wasn't run, though it is expected to fail: {line}")
-    print(f"{len(results) - len(failed)} passed, {len(failed) - len(untold)} failed as the"
-          f" documents say, {len(untold) + len(passing)} otherwise")
+    failed = [name for name, holds in results.items() if not holds]
+    amiss = {"failed, and no document says so": [it for it in failed if it not in told],
+             "passed, or wasn't run, though it is expected to fail":
+             [it for it in sorted(told) if results.get(it, True)]}
+    for what, tests in amiss.items():
+        for line in in_ranges(tests):
+            print(f"{what}: {line}")
+    untold, passing = map(len, amiss.values())
+    print(f"{len(results) - len(failed)} passed, {len(failed) - untold} failed as the documents"
+          f" say, {untold + passing} otherwise")
     return 1 if untold or passing or not results else 0
 
 

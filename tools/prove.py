@@ -15,7 +15,6 @@ The record, PROVED, stands there too. It holds for one program, by its sha256, a
 the repository's files, by the sum that git gives them. Of a crate it has the prover's line, or that
 an earlier run proved it.
 """
-import argparse
 import contextlib
 import fcntl
 import hashlib
@@ -71,7 +70,6 @@ def write(path, text):
 # ---- what the machine has
 
 def logic():
-    """The logic that the repository is proved with."""
     return read(LOGIC).strip()
 
 
@@ -104,28 +102,23 @@ def lacks_kit():
     ran = subprocess.run(["rt", "version"], stdin=subprocess.DEVNULL, capture_output=True,
                          text=True, errors="replace", check=False)
     found = ran.stdout.strip().partition("\n")[0]
-    if not f" {found}".endswith(f" {wanted}"):
-        return (f"the rt on the path has another logic, '{found}': segcached is proved with"
-                f" '{wanted}'")
-    return None
+    said = f"the rt on the path has another logic, '{found}': segcached is proved with '{wanted}'"
+    return None if f" {found}".endswith(f" {wanted}") else said
 
 
 def lacks_memory(free=None):
     """What is wrong with the memory here, in one line, or None."""
     free = free_gigabytes() if free is None else free
     wanted = 2 * GIGABYTES_A_PROOF
-    if free < wanted:
-        return f"{free:.1f} GB of memory are free, and proving needs {wanted:.0f} GB"
-    return None
+    said = f"{free:.1f} GB of memory are free, and proving needs {wanted:.0f} GB"
+    return said if free < wanted else None
 
 
 def at_once():
-    """How many crates may be proved side by side."""
     return max(1, min(processors(), int(free_gigabytes() / GIGABYTES_A_PROOF)))
 
 
 def stop_where_lacking(lacking):
-    """Ends the program with status 1 and one line if something is lacking."""
     if lacking:
         sys.exit(f"segcached: {lacking}")
 
@@ -171,19 +164,14 @@ def output_of(*words, folder=None, **variables):
         raise Trouble(f"{words[0]} can't be run: {fault.strerror}") from None
 
 
-def sum_of_files():
-    """The sum that git gives the repository's files as they stand, with what isn't committed."""
-    with tempfile.TemporaryDirectory() as folder:
+def sum_or_none():
+    """The sum that git gives the repository's files as they stand, with what isn't committed; None
+    where there is no git or no commit."""
+    with contextlib.suppress(Trouble), tempfile.TemporaryDirectory() as folder:
         index = {"GIT_INDEX_FILE": f"{folder}/index"}
         output_of("git", "read-tree", "HEAD", **index)
         output_of("git", "add", "--all", **index)
         return output_of("git", "write-tree", **index)
-
-
-def sum_or_none():
-    """As above, or None where there is no git or no commit."""
-    with contextlib.suppress(Trouble):
-        return sum_of_files()
     return None
 
 
@@ -199,10 +187,10 @@ def package_version(number, commit, folder=None):
     Behind the number stand the commit's date, in UTC, and its short hash; with changes that aren't
     committed the date is now."""
     form, name = "%Y%m%d.%H%M%S", commit.removesuffix(CHANGED)
-    words = ["git", "show", "-s", "--format=%cd.g%h", f"--date=format-local:{form}", name]
-    date, _, short = output_of(*words, folder=folder, TZ="UTC").rpartition(".")
+    words = ["git", "show", "-s", "--format=%cd g%h", f"--date=format-local:{form}", name]
+    date, short = output_of(*words, folder=folder, TZ="UTC").split()
     if name != commit:
-        return f"{number}+{time.strftime(form, time.gmtime())}.{short}.changed"
+        date, short = time.strftime(form, time.gmtime()), f"{short}.changed"
     return f"{number}+{date}.{short}"
 
 
@@ -220,13 +208,12 @@ def verdicts_of_log(path):
 
 
 def write_record(log, alone):
-    """Writes the record of what a run said."""
     crates = read_crates()
     names = [name for name in crates if name in with_those_below(crates, NAME)]
     verdicts, last = verdicts_of_log(log)
     if unproved := [name for name in names if name not in verdicts]:
         raise Trouble(f"{unproved[0]} isn't proved")
-    files, at = sum_of_files(), output_of("git", "rev-parse", "HEAD")
+    files, at = sum_or_none(), output_of("git", "rev-parse", "HEAD")
     changed = "" if files == output_of("git", "rev-parse", "HEAD^{tree}") else CHANGED
     record = [
         output_of(PROGRAM, "--version").splitlines()[0],
@@ -249,7 +236,7 @@ def check(program):
         raise Trouble(f"no program was {built}")
     if record["program"] != sum_of_file(program):
         raise Trouble(f"the program isn't the one that was {built}")
-    if record["files"] != sum_of_files():
+    if record["files"] != sum_or_none():
         raise Trouble(f"files have changed since the program was {built}")
 
 
@@ -264,7 +251,6 @@ def is_kept():
 # ---- the proofs
 
 def copy_crates(names, to):
-    """Copies these crates alone, as a repository of their own."""
     for name in names:
         ignored = shutil.ignore_patterns(*IGNORED)
         shutil.copytree(f"{TOP}/crates/{name}", f"{to}/crates/{name}", ignore=ignored)
@@ -278,23 +264,24 @@ def minutes_and_seconds(seconds):
     return f"{int(seconds) // 60}:{int(seconds) % 60:02}"
 
 
-def run_ci(copy, said):
-    """Runs `rt ci` over a copy, and gives its status, and whether a signal ended it. Each line of
-    what it says is given to `said`."""
+def run_ci(copy, note):
+    """Runs `rt ci` over a copy, and gives its status, or INTERRUPTED. Each line of what it says is
+    noted."""
     to = {"stdin": subprocess.DEVNULL, "stdout": subprocess.PIPE, "stderr": subprocess.STDOUT}
     with subprocess.Popen(["rt", "ci"], cwd=copy, process_group=0, text=True, **to) as ran:
-        signals = []
-
-        def end(number, _):
-            signals.append(number)
+        for number in ENDS:
+            signal.signal(number, signal.default_int_handler)
+        try:
+            for line in ran.stdout:
+                note(line.replace(copy, TOP))
+            return ran.wait()
+        except KeyboardInterrupt:
             with contextlib.suppress(ProcessLookupError):
                 os.killpg(ran.pid, signal.SIGTERM)
-
-        for number in ENDS:
-            signal.signal(number, end)
-        for line in ran.stdout:
-            said(line.replace(copy, TOP))
-    return ran.returncode, bool(signals)
+            return INTERRUPTED
+        finally:
+            for number in ENDS:
+                signal.signal(number, signal.SIG_IGN)
 
 
 def prove():
@@ -312,13 +299,11 @@ def prove():
 
     with tempfile.TemporaryDirectory(prefix="segcached-") as copy:
         copy_crates(names, copy)
-        status, was_ended = run_ci(copy, note)
-        if was_ended:
-            print(f"Interrupted: {len(proved)} of {len(names)} crates are proved and kept; the next"
-                  " run goes on from there.", flush=True)
-            return INTERRUPTED
+        status = run_ci(copy, note)
         if status:
-            print("".join(lines)[-SHOWN:], end="", flush=True)
+            print(f"Interrupted: {len(proved)} of {len(names)} crates are proved and kept; the next"
+                  " run goes on from there." if status == INTERRUPTED else
+                  "".join(lines)[-SHOWN:].rstrip("\n"), flush=True)
             return status
         os.makedirs(os.path.dirname(PROGRAM), exist_ok=True)
         # (the old one may be running)
@@ -333,45 +318,36 @@ def prove():
     return 0
 
 
-def alone_here():
-    """Waits until no other run proves in this repository, and keeps others out until it closes."""
-    held = os.open(TOP, os.O_RDONLY)
-    try:
-        fcntl.flock(held, fcntl.LOCK_EX | fcntl.LOCK_NB)
-    except BlockingIOError:
-        print("Waiting for another run of tools/prove.py to end", flush=True)
-        fcntl.flock(held, fcntl.LOCK_EX)
-    return held
-
-
 def run():
     """Proves and builds the program, unless that was done and nothing has changed since."""
     if is_kept():
         return 0
     stop_where_lacking(lacks_kit())
-    held = alone_here()
-    status = prove()
-    os.close(held)
-    return status
+    with open(__file__, "rb") as held:
+        try:
+            fcntl.flock(held, fcntl.LOCK_EX | fcntl.LOCK_NB)
+        except BlockingIOError:
+            print("Waiting for another run of tools/prove.py to end", flush=True)
+            fcntl.flock(held, fcntl.LOCK_EX)
+        return prove()
 
 
 def main():
-    parser = argparse.ArgumentParser(description="Proves and builds segcached.")
-    kinds = parser.add_subparsers(dest="kind")
-    kinds.add_parser("record").add_argument("--log", metavar="FILE", required=True)
-    kinds.add_parser("check").add_argument("program", nargs="?", default=PROGRAM)
-    kinds.add_parser("package")
-    words = parser.parse_args()
-    if not words.kind:
-        return run()
     try:
-        if words.kind == "record":
-            write_record(words.log, False)
-        elif words.kind == "check":
-            check(words.program)
-        else:
-            number = output_of(PROGRAM, "--version").split()[1]
-            print(package_version(number, read_record(PROGRAM)["commit"]))
+        match sys.argv[1:]:
+            case []:
+                return run()
+            case ["record", "--log", log]:
+                write_record(log, False)
+            case ["check"]:
+                check(PROGRAM)
+            case ["check", program]:
+                check(program)
+            case ["package"]:
+                number = output_of(PROGRAM, "--version").split()[1]
+                print(package_version(number, read_record(PROGRAM)["commit"]))
+            case _:
+                sys.exit(__doc__)
     except Trouble as trouble:
         sys.exit(f"segcached: {trouble}")
     return 0

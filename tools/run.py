@@ -28,8 +28,6 @@ QUIT = b"quit\r\n"
 ANSWERS = b"STORED\r\nVALUE a 0 1\r\nx\r\nEND\r\n"
 CRATE = "crates/segcached"
 TRY = ["rt", "try", "--data", f"first.script=../../{SCRIPT}", "--", "replay", "first.script"]
-# By these signals the run is ended.
-ENDS = (signal.SIGINT, signal.SIGTERM, signal.SIGHUP)
 # What a run from nothing took.
 TIMES = "out/run_times"
 
@@ -39,8 +37,7 @@ def say(text=""):
 
 
 def show(text):
-    for line in text.splitlines():
-        say(f"    {line}")
+    say("".join(f"    {line}\n" for line in text.splitlines())[:-1])
 
 
 def spelled(bytes_):
@@ -65,56 +62,41 @@ def show_answers(given):
 
 
 def show_replay(printed):
-    """Shows what a replay of the script printed, decoded."""
-    say(printed.rstrip("\n"))
-    say()
-    say("Worker 0 gave session 1 these bytes:")
+    say(f"{printed.rstrip()}\n\nWorker 0 gave session 1 these bytes:")
     show_answers(bytes.fromhex(printed.split()[-1]) if printed.split() else b"")
     say()
 
 
-def try_script():
-    """Runs the script on a build that is checked as it runs, and shows the answer."""
-    say("The first answer comes from a build that isn't proved yet and is checked as it runs; it"
-        " takes a minute to start.")
-    say(f"$ cd {CRATE} && {' '.join(TRY)}")
-    to = {"stdout": subprocess.PIPE, "stderr": subprocess.PIPE, "text": True}
-    with started(TRY, cwd=CRATE, **to) as tried:
-        printed, said = tried.communicate()
-    if tried.returncode:
-        sys.exit(f"{said}segcached: the script did not run")
-    show_replay(printed)
-    say("This build is checked as it runs, and not proved yet.")
-    say()
-
-
-def note_times(first, whole):
-    """Notes after how many seconds there was a first answer and the proved program, and the
-    processor time of all that ran below this process."""
-    used = resource.getrusage(resource.RUSAGE_CHILDREN)
-    minutes, spelled_out = (used.ru_utime + used.ru_stime) / 60, prove.minutes_and_seconds
-    line = (f"make run: the first reply after {spelled_out(first)}, the proved program after"
-            f" {spelled_out(whole)}, {minutes:.0f} processor minutes")
-    prove.write(TIMES, f"{time.strftime('%Y-%m-%d %H:%M UTC', time.gmtime())}, {line}\n")
-    say(f"{line}.")
-
-
 def try_and_prove():
-    """Shows the first answer, and how the proofs go on. (They begin beside it: all crates wait for
-    the first one.)"""
+    """Runs the script on a build that is checked as it runs, and shows how the proofs go on. (They
+    begin beside it: all crates wait for the first one.)"""
     began = time.monotonic()
     with started([sys.executable, "tools/prove.py"]) as proving:
-        try_script()
+        say("The first answer comes from a build that isn't proved yet and is checked as it runs;"
+            f" it takes a minute to start.\n$ cd {CRATE} && {' '.join(TRY)}")
+        to = {"stdout": subprocess.PIPE, "stderr": subprocess.PIPE, "text": True}
+        with started(TRY, cwd=CRATE, **to) as tried:
+            printed, said = tried.communicate()
+        if tried.returncode:
+            sys.exit(f"{said}segcached: the script did not run")
+        show_replay(printed)
+        say("This build is checked as it runs, and not proved yet.\n")
         first = time.monotonic() - began
         proving.wait()
     if proving.returncode:
         sys.exit("segcached: not all of it is proved")
-    if " is kept: " not in prove.read(f"{prove.PROGRAM}.log"):
-        note_times(first, time.monotonic() - began)
+    if " is kept: " in prove.read(f"{prove.PROGRAM}.log"):
+        return
+    # What a run from nothing took, with the processor time of all that ran below this process.
+    used, spelled_out = resource.getrusage(resource.RUSAGE_CHILDREN), prove.minutes_and_seconds
+    line = (f"make run: the first reply after {spelled_out(first)}, the proved program after"
+            f" {spelled_out(time.monotonic() - began)},"
+            f" {(used.ru_utime + used.ru_stime) / 60:.0f} processor minutes")
+    prove.write(TIMES, f"{time.strftime('%Y-%m-%d %H:%M UTC', time.gmtime())}, {line}\n")
+    say(f"{line}.")
 
 
 def serve():
-    """Serves on a free port, and talks to it."""
     say("$ segcached serve --listen 127.0.0.1:0")
     with Server(prove.PROGRAM, stderr=None) as server, server.connect() as client:
         say(server.first_line.rstrip())
@@ -124,13 +106,13 @@ def serve():
 
 
 def end(number, _):
-    for it in ENDS:
+    for it in prove.ENDS:
         signal.signal(it, signal.SIG_IGN)
     sys.exit(128 + number)
 
 
 def main():
-    for it in ENDS:
+    for it in prove.ENDS:
         signal.signal(it, end)
     os.chdir(prove.TOP)
     prove.stop_where_lacking(prove.lacks_kit())
@@ -139,8 +121,7 @@ def main():
         prove.stop_where_lacking(prove.lacks_memory())
     say(f"The script {SCRIPT}:")
     show(prove.read(SCRIPT))
-    say(f"It opens session 1 and sends: {spelled(REQUESTS)}")
-    say()
+    say(f"It opens session 1 and sends: {spelled(REQUESTS)}\n")
     if not is_kept:
         try_and_prove()
         say()

@@ -11,23 +11,18 @@ segcached would refuse.
 
 `text` prints a script in which each FILE is a session (`-` is standard input). A line feed of a
 file is sent as the end of a line of the protocol, CR LF, unless a CR stands before it already; with
---bytes the bytes are sent as they are.
+--bytes the bytes are sent as they are. Sessions are numbered from 1, and go to the workers in turn.
 
 `record` is a proxy: what its clients send goes to the server at --to, and the answers back. When it
-is interrupted or ended, or when --sessions have come and gone, it prints the script of what was
-sent, in the order in which it came. --answers writes what each session was answered, in the form in
-which `segcached replay` prints it, to be compared with it.
-
-`show` reads what `segcached replay` printed, and prints each session's answers as text.
+is interrupted, or when --sessions have come and gone, it prints the script of what was sent, in the
+order in which it came. --answers writes what each session was answered, as `segcached replay`
+prints it. `show` reads what that printed, and prints each session's answers as text.
 
 `refused` is the same proxy, in front of memcached: it keeps no script, but has a segcached
 (--program, or the one to which this tool belongs) answer each line, and at its end prints those
 that were refused, by command and reply, with their count and the first of each. Of a FILE, which
 has the bytes that a client sent, it says the same. Its OPTIONs are those of the server to be:
---lenient; and on which depends whether an item is too large, --segment-size B, 1048576 unless it is
-given, and --max-item-size I.
-
-Sessions are numbered from 1, and go to the workers in turn (one, unless --workers says more).
+--lenient, --segment-size B and --max-item-size I.
 """
 import argparse
 import asyncio
@@ -50,8 +45,6 @@ class Trouble(Exception):
 
 
 class Script:
-    """The lines of a script."""
-
     def __init__(self, workers):
         self.workers, self.lines, self.length, self.newest = workers, [], 0, 0
 
@@ -81,6 +74,10 @@ def read_file(name):
     return sys.stdin.buffer.read() if name == "-" else pathlib.Path(name).read_bytes()
 
 
+def shown(data):
+    return data.decode("latin-1").encode("unicode_escape").decode("ascii")
+
+
 def run_text(words):
     script = Script(words.workers)
     for name in words.files:
@@ -98,22 +95,12 @@ def address(text):
     return host.strip("[]"), int(port)
 
 
-class Recording:
-    """One session's part of a recording: what it sends goes into the script; answers are kept."""
-
-    def __init__(self, script, answers):
-        self.script, self.session = script, script.open()
-        self.answer = answers.setdefault(self.session, bytearray()).extend
-
-    def send(self, data):
-        self.script.send(self.session, data)
-
-
 class Proxy:
-    """A proxy in front of a server, which gives what goes through to an observer a session."""
+    """A proxy in front of a server. `observe` gives, for each session, what is called with the
+    bytes that its client sends, and with those that it is answered."""
 
-    def __init__(self, words, observer):
-        self.words, self.observer, self.begun, self.ended = words, observer, 0, 0
+    def __init__(self, words, observe):
+        self.words, self.observe, self.begun, self.ended = words, observe, 0, 0
 
     async def run(self):
         """Ends when it is interrupted, when all sessions have come and gone, or with a fault."""
@@ -134,11 +121,11 @@ class Proxy:
         if self.begun == self.words.sessions:
             self.listener.close()
         try:
-            observer = self.observer()
+            sent, answered = self.observe()
             opening = asyncio.open_connection(*self.words.to)
             answers, server = await asyncio.wait_for(opening, 10)
-            await asyncio.gather(self.pass_on(requests, server, observer.send),
-                                 self.pass_on(answers, client, observer.answer))
+            await asyncio.gather(self.pass_on(requests, server, sent),
+                                 self.pass_on(answers, client, answered))
             server.close()
         except (Trouble, OSError) as trouble:
             self.trouble = trouble
@@ -157,6 +144,24 @@ class Proxy:
             target.write_eof()
 
 
+def run_record(words):
+    script, answers = Script(words.workers), {}
+
+    def observe():
+        session = script.open()
+        answers[session] = bytearray()
+        return lambda data: script.send(session, data), answers[session].extend
+
+    asyncio.run(Proxy(words, observe).run())
+    sys.stdout.write(script.text())
+    if words.answers:
+        # (by worker and then session, as `segcached replay` prints them)
+        rows = sorted((script.worker_of(it), it, answers[it].hex() or "-") for it in answers)
+        pathlib.Path(words.answers).write_text("".join("%d %d %s\n" % it for it in rows))
+
+
+# ---- what is refused
+
 # Of each command with a data block, at which place of the line the block's length stands.
 LENGTHS = dict.fromkeys((b"set", b"add", b"replace", b"append", b"prepend", b"cas"), 4) | {b"ms": 2}
 # memcached closes a session whose line is longer.
@@ -174,11 +179,10 @@ OF_VALUES = (b"CLIENT_ERROR cannot increment or decrement non-numeric value",
 
 def block_length(line):
     """How many bytes of data memcached reads after a line, with the end of the data."""
-    words = line.split()
-    place = LENGTHS.get(words[0]) if words else None
-    if place is None or len(words) <= place or not words[place].isdigit():
-        return 0
-    return int(words[place]) + 2
+    words = line.split() or [b""]
+    place = LENGTHS.get(words[0], 0)
+    is_given = 0 < place < len(words) and words[place].isdigit()
+    return int(words[place]) + 2 if is_given else 0
 
 
 class Cutter:
@@ -191,9 +195,6 @@ class Cutter:
         self.unread += data
         while self.is_open and self.unread and self.take():
             self.is_new = False
-
-    def answer(self, data):
-        """What it is answered says nothing here."""
 
     def take(self):
         """Takes a line with its block, if it is there whole."""
@@ -254,7 +255,7 @@ class Refusals:
         """Keeps a line to be asked about, or counts one for which the program isn't asked."""
         self.lines += 1
         if why:
-            self.count_later([line], [why])
+            self.counted.append(self.pool.submit(self.count, line, why))
             return
         self.asked.append((line, length, has_end))
         self.size += len(line) + min(length, MOST_BLOCK)
@@ -262,19 +263,18 @@ class Refusals:
             self.ask()
 
     def ask(self):
-        found = refusals(self.program, self.words, self.asked)
-        self.count_later([line for line, *_ in self.asked], found)
+        self.counted.append(self.pool.submit(self.count_refused, self.asked))
         self.asked, self.size = [], 0
 
-    def count_later(self, lines, found):
-        self.counted.append(self.pool.submit(self.count, lines, found))
-
-    def count(self, lines, found):
-        for line, why in zip(lines, found):
+    def count_refused(self, asked):
+        for (line, *_), why in zip(asked, refusals(self.program, self.words, asked)):
             if why:
-                kind = line.split(b" ")[0].strip()[:20].decode("latin-1"), why.decode()
-                self.counts[kind] += 1
-                self.firsts.setdefault(kind, line)
+                self.count(line, why)
+
+    def count(self, line, why):
+        kind = line.split(b" ")[0].strip()[:20].decode("latin-1"), why.decode()
+        self.counts[kind] += 1
+        self.firsts.setdefault(kind, line)
 
     def text(self):
         self.ask()
@@ -282,36 +282,25 @@ class Refusals:
             it.result()
         rows = [f"{sum(self.counts.values()):,} refused of {self.lines:,} lines\n"]
         for (word, why), count in self.counts.most_common():
-            first = self.firsts[word, why][:60].decode("latin-1")
-            first = first.encode("unicode_escape").decode("ascii")
+            first = shown(self.firsts[word, why][:60])
             rows.append(f"{count:10,}  {word:10} {why}; the first: {first}\n")
         return "".join(rows)
 
 
-def found_program():
-    """That of the repository or of the installation to which this tool belongs, or of the path."""
+def run_refused(words):
+    # (the program of the repository or of the installation to which this tool belongs, or of the
+    # path)
     here = pathlib.Path(__file__).resolve().parent
     places = here / "../crates/segcached/out/segcached", here / "../../../../bin/segcached"
-    return str(next(filter(pathlib.Path.exists, places), "segcached"))
-
-
-def run_record(words):
-    script, answers = Script(words.workers), {}
-    asyncio.run(Proxy(words, lambda: Recording(script, answers)).run())
-    sys.stdout.write(script.text())
-    if words.answers:
-        # (by worker and then session, as `segcached replay` prints them)
-        rows = sorted((script.worker_of(it), it, answers[it].hex() or "-") for it in answers)
-        pathlib.Path(words.answers).write_text("".join("%d %d %s\n" % it for it in rows))
-
-
-def run_refused(words):
+    program = words.program or str(next(filter(pathlib.Path.exists, places), "segcached"))
     options = ["--segment-size", str(words.segment_size), *["--lenient"] * words.lenient]
     if words.max_item_size:
         options += ["--max-item-size", str(words.max_item_size)]
-    refused = Refusals(words.program or found_program(), options)
+    refused = Refusals(program, options)
     if words.to:
-        asyncio.run(Proxy(words, lambda: Cutter(refused.keep)).run())
+        # (what a client is answered says nothing here)
+        observe = lambda: (Cutter(refused.keep).send, lambda _: None)
+        asyncio.run(Proxy(words, observe).run())
     for name in words.files:
         Cutter(refused.keep).send(read_file(name))
     sys.stdout.write(refused.text())
@@ -326,32 +315,29 @@ def run_show(words):
             raise Trouble(f"not a line of `segcached replay`: {line[:60]}") from None
         print(f"worker {worker}, session {session}:")
         for piece in data.splitlines(keepends=True):
-            print("    " + piece.decode("latin-1").encode("unicode_escape").decode("ascii"))
+            print(f"    {shown(piece)}")
 
 
 def read_words():
     parser = argparse.ArgumentParser(
-        description="Makes scripts for `segcached replay`, and shows what it printed.")
+        description=__doc__, formatter_class=argparse.RawDescriptionHelpFormatter)
     kinds = parser.add_subparsers(dest="kind", required=True)
-    text = kinds.add_parser("text", help="a script of files of requests, one a session")
+    text, record, show, refused = map(kinds.add_parser, ("text", "record", "show", "refused"))
     text.add_argument("files", nargs="+", metavar="FILE")
-    text.add_argument("--bytes", action="store_true", help="send the bytes as they are")
-    record = kinds.add_parser("record", help="a proxy that prints a script of what went through")
+    text.add_argument("--bytes", action="store_true")
     record.add_argument("--answers", metavar="FILE")
-    refused = kinds.add_parser("refused", help="a proxy that counts what segcached would refuse")
-    refused.add_argument("files", nargs="*", metavar="FILE", help="what a client sent")
+    show.add_argument("file", nargs="?", default="-", metavar="FILE")
+    refused.add_argument("files", nargs="*", metavar="FILE")
     refused.add_argument("--segment-size", type=int, default=1_048_576, metavar="B")
     refused.add_argument("--max-item-size", type=int, metavar="I")
-    refused.add_argument("--lenient", action="store_true", help="as `segcached serve --lenient`")
-    refused.add_argument("--program", help="the segcached that is asked")
+    refused.add_argument("--lenient", action="store_true")
+    refused.add_argument("--program")
     for kind in (record, refused):
         kind.add_argument("--to", type=address, required=kind is record)
         kind.add_argument("--listen", type=address, default=("127.0.0.1", 0))
         kind.add_argument("--sessions", type=int)
     for kind in (text, record):
         kind.add_argument("--workers", type=int, default=1, choices=range(1, 9))
-    show = kinds.add_parser("show", help="what replay printed, as text")
-    show.add_argument("file", nargs="?", default="-", metavar="FILE")
     words = parser.parse_args()
     if words.kind == "refused" and bool(words.to) == bool(words.files):
         refused.error("give --to, or files")

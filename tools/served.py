@@ -12,7 +12,6 @@ import contextlib
 import glob
 import itertools
 import os
-import pathlib
 import re
 import resource
 import signal
@@ -21,16 +20,10 @@ import struct
 import subprocess
 import time
 
-TOP = os.path.dirname(os.path.dirname(os.path.abspath(__file__)))
-PROGRAM = f"{TOP}/crates/segcached/out/segcached"
-
-
-def read(path):
-    return pathlib.Path(path).read_text(encoding="utf-8")
+from prove import PROGRAM, TOP, read  # (the tests have the program from here)
 
 
 def version():
-    """The version of the sources."""
     text = read(f"{TOP}/crates/proto/src/version.rt")
     return re.search(r'"(\d+\.\d+\.\d+)"', text)[1]
 
@@ -180,8 +173,6 @@ class Server(Process):
 
 
 class Client:
-    """A client that waits for each answer."""
-
     def __init__(self, server, seconds=10):
         self.stream = server.connect(seconds)
         self.answers = self.stream.makefile("rb")
@@ -216,16 +207,15 @@ class OnPort(Process):
     def __init__(self, port, words, environment=None):
         super().__init__(words, environment)
         self.port = port
-        if not comes_true(self.listens, 20):
+
+        def listens():
+            with contextlib.suppress(OSError):
+                self.connect(1).close()
+                return True
+
+        if not comes_true(listens, 20):
             self.stop()
             raise Trouble(f"{words[0]} doesn't listen on port {port}")
-
-    def listens(self):
-        """Whether it takes a connection."""
-        with contextlib.suppress(OSError):
-            self.connect(1).close()
-            return True
-        return False
 
 
 class Memcached(OnPort):
@@ -233,13 +223,11 @@ class Memcached(OnPort):
 
     def __init__(self, threads=4, megabytes=64, environment=None):
         port = free_port()
-        words = ["-u", "nobody", "-l", "127.0.0.1", "-c", 4096]
-        words += ["-p", port, "-t", threads, "-m", megabytes]
-        super().__init__(port, ["memcached", *map(str, words)], environment)
+        words = f"memcached -u nobody -l 127.0.0.1 -c 4096 -p {port} -t {threads} -m {megabytes}"
+        super().__init__(port, words.split(), environment)
 
 
 def ended(*words, seconds=60, **how):
-    """A command's exit status, and what it wrote on both outputs."""
     how = {"stdout": subprocess.PIPE, "stderr": subprocess.PIPE, **how}
     done = subprocess.run(words, timeout=seconds, check=False, **how)
     return done.returncode, done.stdout, done.stderr
@@ -265,7 +253,6 @@ def refusals(kind, folder):
 
 
 def with_faketime(**variables):
-    """The environment of a program whose clocks libfaketime fakes."""
     library = glob.glob("/usr/lib/*/faketime/libfaketimeMT.so.1")[0]
     return {**os.environ, "LD_PRELOAD": library, **variables}
 
@@ -277,7 +264,6 @@ def free_port():
 
 
 def install(*packages):
-    """Has these packages of Debian."""
     if subprocess.run(["dpkg", "-s", *packages], capture_output=True, check=False).returncode:
         for words in (["update"], ["install", "-y", "--no-install-recommends", *packages]):
             quiet = {**os.environ, "DEBIAN_FRONTEND": "noninteractive"}

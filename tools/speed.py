@@ -10,11 +10,11 @@ these have 1 between them.
 import contextlib
 import os
 import random
-import statistics
 import subprocess
 import time
 from typing import NamedTuple
 
+import numpy
 from matplotlib import pyplot
 
 from misses import MIB, markdown
@@ -125,34 +125,41 @@ class LoadProgram:
 
 
 def quartiles(numbers):
-    """The lower quartile, the median and the upper quartile."""
-    numbers = list(numbers)
-    if len(numbers) < 2:
-        return numbers * 3
-    return statistics.quantiles(numbers, n=4, method="inclusive")
+    return numpy.quantile(numbers, (0.25, 0.5, 0.75))
 
 
-def ratio(pair, figure):
-    """Of one round: the second server's figure, as a share of the first one's."""
-    first, second = pair
-    return second[figure] / max(first[figure], 1e-9)
+def ratios(pairs, figure):
+    """By round, the second server's figure, as a share of the first one's."""
+    return [second[figure] / max(first[figure], 1e-9) for first, second in pairs]
 
 
-def shown(ratios):
+def shown(numbers):
     """The median with its quartiles, and '≈' before it if 1 is between these."""
-    low, middle, high = quartiles(ratios)
+    low, middle, high = quartiles(numbers)
     if low == high:
         return f"{middle:.2f}"
     return f"{'≈' if low <= 1 <= high else ''}{middle:.2f} ({low:.2f}–{high:.2f})"
 
 
-class Speed:
-    """Two kinds of servers: memcached, or a program of segcached by its path."""
+def with_quartiles(numbers):
+    low, middle, high = quartiles(numbers)
+    return f"{middle:.1f} ({low:.1f}–{high:.1f})"
 
-    def __init__(self, load, kinds, rounds, seconds, say):
-        self.load, self.kinds, self.say = load, kinds, say
+
+BY_DEFAULT = " by default"
+MARKS = {
+    "(1)": "(1) In one of these runs the load's own threads were busy for over 90% of the time.",
+    "(2)": "(2) In one of these runs more than one key in a thousand was missed.",
+}
+
+
+class Speed:
+    """Two servers by their names in tables: each a program of segcached, or None for memcached. The
+    figures of a round are by these names; with default options BY_DEFAULT stands behind one."""
+
+    def __init__(self, load, servers, rounds, seconds, say):
+        self.load, self.servers, self.say = load, servers, say
         self.rounds, self.seconds = rounds, seconds
-        self.options = {it: known_to(it, OPTIONS) for it in kinds if it != "memcached"}
         # (always the same turns)
         self.turns = random.Random(1)
 
@@ -161,15 +168,28 @@ class Speed:
         self.turns.shuffle(items)
         return items
 
-    def started(self, kind, workers, megabytes, segment_size=MIB, options=None):
+    def in_rounds(self, cases, measure):
+        """By case, what is measured of it in each round, in which the cases come in turn."""
+        found = {it: [] for it in cases}
+        for turn in range(self.rounds):
+            for it in self.shuffled(cases):
+                found[it].append(measure(*it))
+            self.say(f"round {turn + 1} of {self.rounds}")
+        return found
+
+    def program_of(self, name):
+        return self.servers[name.removesuffix(BY_DEFAULT)]
+
+    def started(self, name, workers, megabytes, segment_size=MIB, options=None):
         """A server with these options, or the package's."""
         tuned = {**os.environ, "GLIBC_TUNABLES": TUNABLES}
-        if kind == "memcached":
+        program = self.program_of(name)
+        if not program:
             return Memcached(THREADS[workers], megabytes, tuned)
+        options = known_to(program, OPTIONS) if options is None else options
         sizes = ["--segment-size", segment_size, "--segments", megabytes * MIB // segment_size]
-        options = self.options[kind] if options is None else options
-        words = ["--workers", workers, *sizes, *options]
-        return Server(kind, *map(str, words), environment=tuned)
+        words = ["--workers", workers, *sizes, *(() if name.endswith(BY_DEFAULT) else options)]
+        return Server(program, *map(str, words), environment=tuned)
 
     def run_load(self, server, load):
         """One run, for a second at least if it has a rate."""
@@ -185,167 +205,123 @@ class Speed:
                 raise Trouble(f"{load.name}: the large replies aren't read")
         return figures
 
-    def sides(self, loads):
-        """What is started for a group: each kind, and for default options, which are the name's
-        second part, each that is segcached."""
-        also = [(it, "default") for it in self.kinds if it != "memcached"]
-        return [(it, "") for it in self.kinds] + also * any(it.default for it in loads)
-
-    def run_round(self, workers, loads):
-        """All loads of a group: by name, the figures of each side."""
-        (value, options, beside), servers = loads[0].group(), {}
+    def run_group(self, workers, loads):
+        """A round of a group: by load, the figures of each server."""
+        found, servers, first = {}, {}, loads[0]
+        names = [*self.servers, *(it + BY_DEFAULT for it, program in self.servers.items()
+                                  if program and any(load.default for load in loads))]
         with contextlib.ExitStack() as until:
-            for kind, is_default in self.shuffled(self.sides(loads)):
-                megabytes = 1024 if kind == "memcached" else SEGMENTS[value]
-                chosen = () if is_default else options
-                server = until.enter_context(self.started(kind, workers, megabytes, options=chosen))
-                servers[kind, is_default] = server
-                self.load.run(server, "--fill", "--pipeline", 16, *loads[0].shape())
-                if beside:
-                    self.load.run(server, "--fill", *BESIDE_KEYS)
-            return {it.name: self.run_all(servers, it) for it in loads}
-
-    def run_all(self, servers, load):
-        sides = [it for it in servers if load.default or not it[1]]
-        figures = {it: self.run_load(servers[it], load) for it in self.shuffled(sides)}
-        refused = sum(it["refused"] for it in figures.values())
-        if refused:
-            raise Trouble(f"{load.name}: {refused:.0f} sets refused")
-        return figures
-
-    def pair(self, figures, is_default=""):
-        """Both kinds' figures of a round; memcached has no other options by default."""
-        return [figures.get((it, is_default), figures[it, ""]) for it in self.kinds]
+            for name in self.shuffled(names):
+                megabytes = SEGMENTS[first.value] if self.program_of(name) else 1024
+                servers[name] = until.enter_context(
+                    self.started(name, workers, megabytes, options=first.options))
+                self.load.run(servers[name], "--fill", "--pipeline", 16, *first.shape())
+                if first.beside:
+                    self.load.run(servers[name], "--fill", *BESIDE_KEYS)
+            for load in loads:
+                asked = [it for it in servers if load.default or not it.endswith(BY_DEFAULT)]
+                found[load] = {it: self.run_load(servers[it], load) for it in self.shuffled(asked)}
+                if refused := sum(it["refused"] for it in found[load].values()):
+                    raise Trouble(f"{load.name}: {refused:.0f} sets refused")
+        return found
 
     def compared(self, sizes, loads):
-        """By load and workers, the figures of all rounds."""
-        results = {it.name: {size: [] for size in sizes} for it in loads}
-        groups = dict.fromkeys(it.group() for it in loads)
-        parts = [(size, [it for it in loads if it.group() == group])
-                 for size in sizes for group in groups]
-        for turn in range(self.rounds):
-            for size, some in self.shuffled(parts):
-                for name, figures in self.run_round(size, some).items():
-                    results[name][size].append(figures)
-            self.say(f"round {turn + 1} of {self.rounds}")
-        return results
+        groups = {}
+        for load in loads:
+            groups.setdefault(load.group(), []).append(load)
+        cases = [(size, group) for size in sizes for group in groups]
+        found = self.in_rounds(cases, lambda size, group: self.run_group(size, groups[group]))
+        return {load: {size: [turn[load] for turn in found[size, load.group()]] for size in sizes}
+                for load in loads}
 
-    def pauses(self):
-        """By kind and size of a segment, of each round the longest answer to a set while segments
-        are merged, in milliseconds."""
-        sizes = {it: PAUSE_SEGMENT_SIZES if it != "memcached" else (MIB,) for it in self.kinds}
-        longest = {(kind, size): [] for kind in self.kinds for size in sizes[kind]}
-        shape, words = ["--keys", PAUSE_KEYS], ["--sets", 100, *ONE, "--seconds", 2 * self.seconds]
-        for _ in range(self.rounds):
-            for kind, size in self.shuffled(longest):
-                with self.started(kind, 1, PAUSE_MIB, size) as server:
-                    self.load.run(server, "--fill", "--pipeline", 16, *shape)
-                    longest[kind, size].append(self.load.run(server, *words, *shape)["most"] / 1000)
-        return longest
+    def pairs(self, rounds, behind=""):
+        """Both servers' figures of each round; memcached has no other options by default."""
+        return [[it.get(name + behind, it[name]) for name in self.servers] for it in rounds]
 
-    def idle(self):
-        """By kind, of each round the share of a processor that 50 idle connections take."""
-        shares = {kind: [] for kind in self.kinds}
-        for _ in range(self.rounds):
-            for kind in self.shuffled(self.kinds):
-                with self.started(kind, 2, SEGMENTS[100]) as server:
-                    shares[kind].append(idle_share(server))
-        return shares
-
-    def table(self, results, names):
+    def table(self, results):
         """A row for each load; in its cells a line for each number of workers."""
         sizes = list(next(iter(results.values())))
-        heads = ["Load", f"{names[0]}/{names[1]}: 1,000 requests a second, or p50 in us"]
+        heads = ["Load", f"{'/'.join(self.servers)}: 1,000 requests a second, or p50 in us"]
         heads += [*FIGURES.values(), "by default: rate or p50; processor time"]
         rows = []
-        for load in (it for it in LOADS if it.name in results):
-            rounds = results[load.name]
-            cells = zip(*(self.cells(load, rounds[size]) for size in sizes))
+        for load, by_size in results.items():
+            cells = zip(*(self.cells(load, by_size[size]) for size in sizes))
             lines = ("<br>".join(filter(None, it)) for it in cells)
-            rows.append([load.name + marks(rounds), *lines])
+            rows.append([load.name + marks(by_size), *lines])
         many = f"In each cell a line for {', '.join(map(str, sizes))} workers."
         said = [many if len(sizes) > 1 else f"{sizes[0]} workers."]
         said += [it for mark, it in MARKS.items() if any(mark in row[0] for row in rows)]
         return [*markdown(heads, rows), "", *said]
 
     def cells(self, load, rounds):
-        """The cells of a load with one number of workers."""
-        pairs, main = [self.pair(it) for it in rounds], "p50" if load.has_rate() else "rate"
-        found = []
+        pairs, main = self.pairs(rounds), "p50" if load.has_rate() else "rate"
+        unit = 1000 if main == "rate" else 1
+        both = numpy.median([[it[main] for it in pair] for pair in pairs], axis=0) / unit
+        cells = ["/".join(f"{it:,.0f}" for it in both)]
         for figure in FIGURES:
-            ratios = [ratio(it, figure) for it in pairs]
+            found = ratios(pairs, figure)
             is_main = figure in (main, "processor")
-            found.append(shown(ratios) if is_main else f"{statistics.median(ratios):.2f}")
-        found[0] = "" if load.has_rate() else found[0]
-        if load.default:
-            pairs = [self.pair(it, "default") for it in rounds]
-            ratios = (shown(ratio(it, name) for it in pairs) for name in (main, "processor"))
-            found.append("; ".join(ratios))
-        return [medians(map(self.pair, rounds), main), *found, ""][: 2 + len(FIGURES)]
+            cells.append(shown(found) if is_main else f"{numpy.median(found):.2f}")
+        if load.has_rate():
+            cells[1] = ""
+        pairs = self.pairs(rounds, BY_DEFAULT)
+        by_default = (shown(ratios(pairs, it)) for it in (main, "processor"))
+        return [*cells, "; ".join(by_default) if load.default else ""]
 
+    def other_table(self):
+        """The longest answers to a set while segments are merged, and the share of a processor that
+        50 idle connections take."""
+        def pause(name, size):
+            shape = ["--keys", PAUSE_KEYS]
+            with self.started(name, 1, PAUSE_MIB, size) as server:
+                self.load.run(server, "--fill", "--pipeline", 16, *shape)
+                words = ["--sets", 100, *ONE, "--seconds", 2 * self.seconds]
+                return self.load.run(server, *words, *shape)["most"] / 1000
 
-MARKS = {
-    "(1)": "(1) In one of these runs the load's own threads were busy for over 90% of the time.",
-    "(2)": "(2) In one of these runs more than one key in a thousand was missed.",
-}
+        def idle(name):
+            with self.started(name, 2, SEGMENTS[100]) as server:
+                for _ in range(50):
+                    server.connect()
+                time.sleep(0.3)
+                before = server.processor_seconds()
+                time.sleep(1)
+                return 100 * (server.processor_seconds() - before)
 
+        cases = [(name, size) for name, program in self.servers.items()
+                 for size in (PAUSE_SEGMENT_SIZES if program else (MIB,))]
+        pauses = {name: [] for name in self.servers}
+        for (name, size), times in self.in_rounds(cases, pause).items():
+            of = f" with segments of {size >> 10} KiB" if self.servers[name] else ""
+            pauses[name].append(with_quartiles(times) + of)
+        shares = self.in_rounds([(it,) for it in self.servers], idle)
+        return markdown(["Median, with quartiles", *self.servers], [
+            ["longest time to a reply in a run of `set`s on one connection, with "
+             f"{PAUSE_MIB} MiB in use, ms", *map("<br>".join, pauses.values())],
+            ["idle with 50 connections, hundredths of a processor",
+             *map(with_quartiles, shares.values())]])
 
-def idle_share(server):
-    for _ in range(50):
-        server.connect()
-    time.sleep(0.3)
-    before = server.processor_seconds()
-    time.sleep(1)
-    return server.processor_seconds() - before
-
-
-def medians(pairs, figure):
-    """The median of both servers' rate in thousands, or of another figure."""
-    unit, sides = 1000 if figure == "rate" else 1, zip(*pairs)
-    return "/".join(f"{statistics.median(it[figure] for it in side) / unit:,.0f}" for side in sides)
+    def draw(self, results, picture):
+        results = {load: by_size for load, by_size in results.items() if not load.has_rate()}
+        sizes, (first, second) = list(next(iter(results.values()))), self.servers
+        figure, axes = pyplot.subplots(figsize=(11, 5.6), layout="constrained")
+        for at, size in enumerate(sizes):
+            low, middle, high = numpy.transpose([
+                quartiles(ratios(self.pairs(it[size]), "rate")) for it in results.values()])
+            places, width = numpy.arange(len(results)) + at / (len(sizes) + 1), 0.9
+            label = f"{first} -t {THREADS[size]}, {size} worker{'s' * (size > 1)}"
+            axes.bar(places, middle, width / (len(sizes) + 1), label=label, capsize=2,
+                     yerr=[middle - low, high - middle])
+        axes.axhline(1, color="black", linestyle="--")
+        axes.set_xticks(range(len(results)), [it.name for it in results], rotation=30, ha="right")
+        axes.set(ylabel=f"times {first}", title=f"{second} beside {first}: requests a second, "
+                 f"as a ratio (above 1, {second} is ahead)")
+        axes.grid(axis="y")
+        axes.legend(loc="upper left", bbox_to_anchor=(1, 1))
+        figure.savefig(picture)
 
 
 def marks(by_size):
-    runs = [run for rounds in by_size.values() for sides in rounds for run in sides.values()]
+    runs = [run for rounds in by_size.values() for figures in rounds for run in figures.values()]
     busy = any(it["busy"] > 0.9 for it in runs)
     missed = any(it["misses"] > 0.001 * max(it["hits"] + it["misses"], 1) for it in runs)
     return (" (1)" if busy else "") + (" (2)" if missed else "")
-
-
-def with_quartiles(numbers):
-    low, middle, high = quartiles(numbers)
-    return f"{middle:.1f} ({low:.1f}–{high:.1f})"
-
-
-def other_table(longest, shares, name_of):
-    """The longest replies, and what idle servers take."""
-    pauses = {kind: [] for kind in shares}
-    for (kind, size), times in longest.items():
-        of = "" if kind == "memcached" else f" with segments of {size >> 10} KiB"
-        pauses[kind].append(with_quartiles(times) + of)
-    idle = (with_quartiles(100 * it for it in each) for each in shares.values())
-    return markdown(["Median, with quartiles", *(name_of[it] for it in shares)], [
-        ["longest time to a reply in a run of `set`s on one connection, with "
-         f"{PAUSE_MIB} MiB in use, ms", *map("<br>".join, pauses.values())],
-        ["idle with 50 connections, hundredths of a processor", *idle]])
-
-
-def draw(runs, results, names, picture):
-    """A picture of the rates' ratios: medians as bars, quartiles as lines."""
-    sizes = list(next(iter(results.values())))
-    loads = [it for it in LOADS if it.name in results and not it.has_rate()]
-    figure, axes = pyplot.subplots(figsize=(11, 5.6), layout="constrained")
-    for at, size in enumerate(sizes):
-        found = [quartiles(ratio(runs.pair(it), "rate") for it in results[load.name][size])
-                 for load in loads]
-        ends = [[middle - low for low, middle, _ in found], [high - it for _, it, high in found]]
-        places, width = [number + at / (len(sizes) + 1) for number in range(len(loads))], 0.9
-        axes.bar(places, [it for _, it, _ in found], width / (len(sizes) + 1), yerr=ends, capsize=2,
-                 label=f"{names[0]} -t {THREADS[size]}, {size} worker{'s' * (size > 1)}")
-    axes.axhline(1, color="black", linestyle="--")
-    axes.set_xticks(range(len(loads)), [it.name for it in loads], rotation=30, ha="right")
-    axes.set(ylabel=f"times {names[0]}", title=f"{names[1]} beside {names[0]}: requests a second, "
-             f"as a ratio (above 1, {names[1]} is ahead)")
-    axes.grid(axis="y")
-    axes.legend(loc="upper left", bbox_to_anchor=(1, 1))
-    figure.savefig(picture)

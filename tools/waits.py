@@ -5,6 +5,7 @@ these take: for tools/hostile.py, which says the words.
 On a machine that is busy otherwise memcached (of Debian), with as many threads as workers, shows
 how long the same load makes others wait.
 """
+import contextlib
 import multiprocessing
 import os
 import selectors
@@ -12,7 +13,8 @@ import time
 from typing import NamedTuple
 
 import tries
-from asking import END, ERROR, STORED, ask, get, hit, is_same, put, seconds_to
+from asking import (
+    END, ERROR, LARGE, STORED, ask, asks_for, get, hit, is_same, put, seconds_to, write_large)
 from served import (
     OF_THE_PACKAGE, TUNABLES, Memcached, Server, Trouble, install, read, read_exactly)
 from tries import Beside
@@ -59,10 +61,6 @@ def waits_beside(is_over, server, newcomers):
     return waits[len(waits) * 99 // 100], waits[-1]
 
 
-def is_within(waited, most):
-    return all(it <= much for it, much in zip(waited, most))
-
-
 class Others:
     """The share of the machine's processors that others took beside the block, in which this
     process, those that it started and waited for, and a server run."""
@@ -86,49 +84,53 @@ class Others:
 
 
 class Waited(NamedTuple):
-    """What 99 of 100 requests, and each one, waited at most, in seconds; what others took; and what
-    is said first."""
+    """What 99 of 100 requests, and each one, waited at most, in seconds; what others took; beside
+    what; and what a client of memcached waited there, if that was asked."""
 
     longest: tuple
     others: float
-    first: str = ""
+    load: object = ""
+    memcached: object = None
 
     def __str__(self):
-        busy = f"where others took {self.others:.0%} of the processors"
-        return f"{self.first}{said(self.longest)} {busy}"
+        of_most, of_all = (it * 1000 for it in self.longest)
+        beside = f"; memcached's {self.memcached}" if self.memcached else ""
+        return (f"beside {self.load}: {of_most:.0f} ms (99 of 100) and {of_all:.0f} ms (all) where"
+                f" others took {self.others:.0%} of the processors{beside}")
+
+    def is_within(self, most):
+        return all(it <= much for it, much in zip(self.longest, most))
 
 
 def judged(here, most, beside):
-    """Whether clients waited no longer than they may, and what is said of it. `beside` measures
+    """Whether clients waited no longer than they may, and what they waited. `beside` measures
     memcached's in the same load."""
-    if is_within(here.longest, most):
-        return True, str(here)
-    same = beside()
-    words = f"{here}, memcached's {same}"
-    if here.others <= QUIET:
-        return False, words
-    most = [max(ROOM * it, TIMES_MEMCACHED * waited) for it, waited in zip(most, same.longest)]
-    return is_within(here.longest, most), words
-
-
-def said(waits):
-    return f"{waits[0] * 1000:.0f} ms (99 of 100) and {waits[1] * 1000:.0f} ms (all)"
+    if here.is_within(most):
+        return True, here
+    here = here._replace(memcached=beside())
+    if here.others > QUIET:
+        longer = zip(most, here.memcached.longest)
+        most = [max(ROOM * it, TIMES_MEMCACHED * waited) for it, waited in longer]
+    return here.is_within(most), here
 
 
 def must_hold_little(server, before, said):
-    """How many MiB a worker held more than before at most; Trouble, behind these words, if it held
-    too much."""
+    """Trouble, behind these words, if a worker held too much more than before."""
     more = (server.kilobytes("VmHWM") - before) // 1024
     if more > MOST_MEMORY:
         raise Trouble(f"{said} {more} MiB")
-    return more
 
 
 # ---- clients that send or read as fast as they can
 
+SEND, READ, BOTH = "send", "read", "read and write"
+MALFORMED, HOLD = "send malformed lines and then", "ask for and don't read"
+
+
 class Load(NamedTuple):
     """So many clients, each with so many connections, which do this with values of this size; of
-    how many keys a `get` is; and what others may wait on a quiet machine."""
+    how many keys a `get` is; what others may wait on a quiet machine; and whether a line that is no
+    command stands before each `get`."""
 
     clients: int
     size: int
@@ -136,41 +138,50 @@ class Load(NamedTuple):
     keys: int = 1
     streams: int = 1
     most: tuple = MOST
-    # What stands before each `get`, and its answer.
-    before: bytes = b""
-    answered: bytes = b""
+    is_hidden: bool = False
 
     def __str__(self):
         many = f"{self.keys} times " if self.keys > 1 else ""
-        behind = f" behind {self.before!r}" if self.before else ""
+        behind = " behind a line that is no command" if self.is_hidden else ""
         count = self.clients * self.streams
         return f"{count} that {self.verb} {many}{self.size // 1000} kB{behind}"
 
     def seconds(self):
         return SECONDS if self.keys == 1 else SECONDS * TIMES_LONGEST
 
+    def asked(self, key):
+        """Of each connection of a client what it sends, and how many bytes it then reads, again and
+        again: or nothing, once, if it holds what it asked for."""
+        value = b"v" * self.size
+        if self.verb == SEND:
+            return [(put(key, value, words=b" noreply") * (AT_A_TIME // self.size), 0)]
+        if self.verb == MALFORMED:
+            line = b"set %b 0 0 x\r\n" % key
+            return [(line + value * (AT_A_TIME // self.size), 0)] * self.streams
+        count = 1 if self.verb == BOTH else max(AT_A_TIME // (self.keys * self.size), 1)
+        text, answer = get(key, self.keys), len(hit(key, value, times=self.keys))
+        if self.is_hidden:
+            text, answer = b"x\r\n" + text, len(ERROR) + answer
+        writes = [(put(b"%b-%d" % (key, it), value), len(STORED)) for it in range(self.streams)]
+        return [(text * count, answer * count)] * self.streams + writes * (self.verb == BOTH)
 
-SENDERS = [
-    Load(clients, size * 1000, "send") for size in (8, 30, 100, 130) for clients in (1, 2, 8)]
-READERS = [Load(clients, size * 1000, "read") for size in (10, 100) for clients in (1, 2, 8)]
+
+SENDERS = [Load(clients, size * 1000, SEND) for size in (8, 30, 100, 130) for clients in (1, 2, 8)]
+READERS = [Load(clients, size * 1000, READ) for size in (10, 100) for clients in (1, 2, 8)]
 # Beside several clients that ask for 8.4 MB again and again.
 LARGE_READ = 0.030, 0.060
 # (a hit more would exceed the limit of an answer)
-LONGEST = [
-    Load(1, 131_000, "read", 64),
-    Load(8, 131_000, "read", 64, most=LARGE_READ),
-]
-HIDDEN = {"before": b"x\r\n", "answered": ERROR}
+LONGEST = [Load(1, 131_000, READ, 64), Load(8, 131_000, READ, 64, most=LARGE_READ)]
 HOSTILE = [
-    Load(8, 131_000, "read", 64, most=LARGE_READ, **HIDDEN),
-    Load(8, 131_000, "read", 64, 5, most=LARGE_READ, **HIDDEN),
-    Load(8, 64_000, "send malformed lines and then", streams=16),
-    Load(8, 100_000, "ask for and don't read", 64, 25),
+    Load(8, 131_000, READ, 64, most=LARGE_READ, is_hidden=True),
+    Load(8, 131_000, READ, 64, 5, most=LARGE_READ, is_hidden=True),
+    Load(8, 64_000, MALFORMED, streams=16),
+    Load(8, 100_000, HOLD, 64, 25),
 ]
 # (a line has 2,048 bytes strictly, so an answer 134 MB)
-STRICT = [Load(1, 131_000, "read", 1021, most=(0.180, 0.250))]
+STRICT = [Load(1, 131_000, READ, 1021, most=(0.180, 0.250))]
 # As many connections read values of 1 MB, one at a time, as write them.
-MEGABYTES = [Load(4, 1_000_000, "read and write", streams=5, most=(0.010, 0.060))]
+MEGABYTES = [Load(4, 1_000_000, BOTH, streams=5, most=(0.010, 0.060))]
 OF_MEGABYTES = *OF_THE_PACKAGE, "--workers", "1"
 # By the server's words. With two workers the clients are on both of them in turn.
 LOADS = {
@@ -182,163 +193,98 @@ LOADS = {
 }
 
 
-def send_fast(server, key, load):
-    """Sends writes that aren't answered, and reads nothing."""
-    text = put(key, b"v" * load.size, words=b" noreply") * (AT_A_TIME // load.size)
-    stream = server.connect(60)
-    while True:
-        stream.sendall(text)
+def write(server, key, value):
+    with server.connect(60) as stream:
+        ask(stream, put(key, value), STORED)
 
 
-def read_fast(server, key, load):
-    """Each connection sends many requests at once, or a long one, and reads what it is answered."""
-    value, buffer, left = b"v" * load.size, bytearray(65536), {}
-    write(server, key, value)
-    count = max(AT_A_TIME // (load.keys * load.size), 1)
-    asked = (load.before + get(key, load.keys)) * count
-    answer = len(load.answered + hit(key, value, times=load.keys))
-    selector = selectors.DefaultSelector()
+def run_client(server, key, load):
+    """A fast client. One whose connection is closed ends, but if it sends malformed lines: then
+    another connection comes."""
+    write(server, key, b"v" * load.size)
+    selector, buffer = selectors.DefaultSelector(), bytearray(262_144)
 
-    def ask(stream):
-        stream.sendall(asked)
-        left[stream] = count * answer
-
-    for stream in [server.connect(60) for _ in range(load.streams)]:
-        selector.register(stream, selectors.EVENT_READ)
-        ask(stream)
-    while True:
-        for ready, _ in selector.select():
-            stream = ready.fileobj
-            got = stream.recv_into(buffer, min(left[stream], len(buffer)))
-            if not got:
-                raise Trouble("one that reads was closed")
-            left[stream] -= got
-            if not left[stream]:
-                ask(stream)
-
-
-def send_malformed(server, key, load):
-    """Each connection sends on behind a line for which it is closed; then another one comes."""
-    selector = selectors.DefaultSelector()
-
-    def begin():
+    def begin(text, count):
         stream = server.connect(60)
-        stream.sendall(b"set %s 0 0 x\r\n" % key)
         stream.setblocking(False)
-        selector.register(stream, selectors.EVENT_WRITE)
+        selector.register(stream, selectors.EVENT_WRITE, [text, count, memoryview(text), count])
 
-    for _ in range(load.streams):
-        begin()
+    def go_on(stream, state):
+        text, count, unsent, unread = state
+        if unsent:
+            unsent = unsent[stream.send(unsent):]
+            if not unsent and load.verb == HOLD:
+                selector.unregister(stream)
+                return
+        else:
+            got = stream.recv_into(buffer, min(unread, len(buffer)))
+            if not got:
+                raise ConnectionError("the server has closed it")
+            unread -= got
+        if not unsent and not unread:
+            unsent, unread = memoryview(text), count
+        state[2:] = unsent, unread
+        selector.modify(stream, selectors.EVENT_WRITE if unsent else selectors.EVENT_READ, state)
+
+    for text, count in load.asked(key):
+        begin(text, count)
     while True:
         for ready, _ in selector.select():
             try:
-                ready.fileobj.send(b"v" * load.size)
+                go_on(ready.fileobj, ready.data)
             except BlockingIOError:
-                pass
-            except OSError:
+                continue
+            except ConnectionError:
+                if load.verb != MALFORMED:
+                    raise
                 selector.unregister(ready.fileobj)
                 ready.fileobj.close()
-                begin()
+                begin(*ready.data[:2])
 
 
-def read_and_write(server, key, load):
-    """So many connections read a value again and again, and as many write one of their own."""
-    value, buffer = b"v" * load.size, bytearray(262_144)
-    write(server, key, value)
-    selector = selectors.DefaultSelector()
-    asked = {}
-
-    def begin(stream, text, answer):
-        stream.setblocking(False)
-        asked[stream] = text, len(answer)
-        selector.register(stream, selectors.EVENT_WRITE, [memoryview(text), len(answer)])
-
-    for number in range(load.streams):
-        begin(server.connect(60), get(key), hit(key, value))
-        begin(server.connect(60), put(b"%s-%d" % (key, number), value), STORED)
-    while True:
-        for ready, _ in selector.select():
-            stream, left = ready.fileobj, ready.data
-            if left[0]:
-                left[0] = left[0][stream.send(left[0]):]
-                if not left[0]:
-                    selector.modify(stream, selectors.EVENT_READ, left)
-                continue
-            got = stream.recv_into(buffer, min(left[1], len(buffer)))
-            if not got:
-                raise Trouble("one that reads or writes was closed")
-            left[1] -= got
-            if not left[1]:
-                text, count = asked[stream]
-                left[:] = memoryview(text), count
-                selector.modify(stream, selectors.EVENT_WRITE, left)
-
-
-def ask_and_hold(server, key, load):
-    """Each connection asks once, and reads nothing."""
-    write(server, key, b"v" * load.size)
-    for _ in range(load.streams):
-        server.connect(60).sendall(get(key, load.keys))
-    while True:
-        time.sleep(60)
-
-
-CLIENT_OF = {"send": send_fast, "read": read_fast, "send malformed lines and then": send_malformed,
-             "read and write": read_and_write, "ask for and don't read": ask_and_hold}
+@contextlib.contextmanager
+def fast_clients(server, load):
+    """The clients of a load, which run beside the block."""
+    fast = [multiprocessing.Process(
+        target=run_client, args=(server, b"%c" % (65 + it), load), daemon=True)
+        for it in range(load.clients)]
+    try:
+        for process in fast:
+            process.start()
+        yield
+        if any(it.exitcode is not None for it in fast):
+            raise Trouble(f"beside {load}: a fast client has ended")
+    finally:
+        for process in fast:
+            process.kill()
+            process.join()
 
 
 def waited(server, load):
-    """What others waited beside a load."""
-    run = CLIENT_OF[load.verb]
-    fast = [multiprocessing.Process(target=run, args=(server, b"%c" % (65 + it), load), daemon=True)
-            for it in range(load.clients)]
-    with Others(server) as others:
-        try:
-            for process in fast:
-                process.start()
-            time.sleep(BEFORE)
-            with Beside(waits_beside, server, True) as waits:
-                time.sleep(BEFORE + load.seconds())
-            if any(it.exitcode is not None for it in fast):
-                raise Trouble(f"beside {load}: a fast client has ended")
-        finally:
-            for process in fast:
-                process.kill()
-                process.join()
-    return Waited(waits.noted, others.share)
-
-
-def in_two_of_three(measure, most, beside, said):
-    """What `measure` gives in the last try, and what is said of it, behind these words. Trouble
-    where others waited too long in two of three tries."""
-    seen = []
-
-    def attempt():
-        seen.append(measure())
-        is_fine, words = judged(seen[-1], most, beside)
-        return is_fine, f"{said} {words}"
-
-    words = tries.in_two_of_three(attempt)
-    return seen[-1], words
+    with Others(server) as others, fast_clients(server, load):
+        time.sleep(BEFORE)
+        with Beside(waits_beside, server, True) as waits:
+            time.sleep(BEFORE + load.seconds())
+    return Waited(waits.noted, others.share, load)
 
 
 def fairness_of(program, words):
-    """What it says of the loads for a server with these words."""
-    longest, within, is_packaged = (0, 0), 0, words == OF_MEGABYTES
+    found, is_packaged = [], words == OF_MEGABYTES
     sizes, tuned = (SEGMENTS, INSTALLED) if is_packaged else (OPTIONS, None)
     with (Server(program, *words, *sizes, environment=tuned) as server,
           Memcached(int(words[-1]), environment=tuned) as memcached):
         before = server.kilobytes("VmRSS")
         for load in LOADS[words]:
-            here, _ = in_two_of_three(lambda: waited(server, load), load.most,
-                                      lambda: waited(memcached, load), f"beside {load}:")
-            within += is_within(here.longest, load.most)
-            longest = tuple(map(max, longest, here.longest))
+            found.append(tries.in_two_of_three(lambda: judged(
+                waited(server, load), load.most, lambda: waited(memcached, load))))
         server.must_run()
         if is_packaged:
             must_hold_little(server, before, f"beside {load}: the server takes")
-    return (f"{' '.join(words)}: {len(LOADS[words])} loads of fast clients, {within} as on a quiet "
-            f"machine; in the worst others waited {said(longest)}")
+    within = sum(it.is_within(it.load.most) for it in found)
+    worst = [max(times) * 1000 for times in zip(*(it.longest for it in found))]
+    return (f"{' '.join(words)}: {len(found)} loads of fast clients, {within} as on a quiet"
+            f" machine; in the worst others waited {worst[0]:.0f} ms (99 of 100) and"
+            f" {worst[1]:.0f} ms (all)")
 
 
 def fairness(program):
@@ -350,14 +296,9 @@ def fairness(program):
 # ---- clients that ask for the longest answers and read nothing
 
 # So many clients ask for so many values, of 33 MB.
-CLIENTS, KEYS, VALUE = 40, 255, b"v" * 131_000
+CLIENTS, KEYS = 40, 255
 # Each client asks for this much and reads it, beside them: the value's bytes and how often.
-READ = [(100, 1), (1_000, 100), (100_000, 10)]
-
-
-def write(server, key, value):
-    with server.connect(60) as stream:
-        ask(stream, put(key, value), STORED)
+READ_BESIDE = [(100, 1), (1_000, 100), (100_000, 10)]
 
 
 def read_whole(stream, key, value, times):
@@ -366,51 +307,55 @@ def read_whole(stream, key, value, times):
     assert is_same(read_exactly(stream, len(wanted)), wanted), f"{times} x {len(value)} bytes"
 
 
-def ask_and_read_nothing(server):
-    """The clients, of which each takes little into its own system, once others are beside."""
-    time.sleep(BEFORE)
-    for _ in range(CLIENTS):
-        server.connect(receive_buffer=4096).sendall(get(b"large", KEYS))
-
-
 def settle(server):
-    """Waits until no more memory is taken or given back."""
-    before, now, turn = -1, 0, 0
-    while now != before and turn < 100:
+    before = -1
+    for _ in range(100):
         time.sleep(0.2)
-        before, now, turn = now, server.kilobytes("VmRSS"), turn + 1
+        if before == (before := server.kilobytes("VmRSS")):
+            return
+
+
+def waited_unread(server, meanwhile):
+    """What others waited beside clients of which each takes little into its own system, while this
+    is called."""
+    with Others(server) as others, Beside(waits_beside, server, False) as waits:
+        time.sleep(BEFORE)
+        for _ in range(CLIENTS):
+            asks_for(server, KEYS, 4096)
+        meanwhile(server)
+    asked = f"clients that ask for {KEYS * len(LARGE) / 1e6:.0f} MB each and read nothing"
+    return Waited(waits.noted, others.share, asked)
 
 
 def unread_here(program):
     """How others waited; Trouble if it held too much."""
     with Server(program, "--workers", "1", *OPTIONS) as server, server.connect() as reader:
-        write(server, b"large", VALUE)
+        write_large(server)
         with server.connect() as first:
-            read_whole(first, b"large", VALUE, KEYS)
-        for size, _ in READ:
+            read_whole(first, b"large", LARGE, KEYS)
+        for size, _ in READ_BESIDE:
             write(server, b"read-%d" % size, b"v" * size)
         before = server.kilobytes("VmRSS")
-        with Others(server) as others, Beside(waits_beside, server, False) as waits:
-            ask_and_read_nothing(server)
+
+        def meanwhile(_):
             settle(server)
-            for size, times in READ:
+            for size, times in READ_BESIDE:
                 read_whole(reader, b"read-%d" % size, b"v" * size, times)
-        more = must_hold_little(server, before, "clients that read nothing take")
-    return Waited(waits.noted, others.share, f"take {more} MiB in all, and others waited ")
+
+        found = waited_unread(server, meanwhile)
+        must_hold_little(server, before, "clients that read nothing take")
+    return found
 
 
 def unread_beside():
     """How a client of memcached waited in the same load."""
     with Memcached(1) as server:
-        write(server, b"large", VALUE)
-        with Others(server) as others, Beside(waits_beside, server, False) as waits:
-            ask_and_read_nothing(server)
-            time.sleep(1)
-    return Waited(waits.noted, others.share)
+        write_large(server)
+        return waited_unread(server, lambda _: time.sleep(1))
 
 
 def unread(program):
     """What it says; Trouble where they held too much, or others waited too long in two of three."""
     install("memcached")
-    asked = f"clients that ask for {KEYS * len(VALUE) / 1e6:.0f} MB each and read nothing"
-    return in_two_of_three(lambda: unread_here(program), MOST, unread_beside, asked)[1]
+    tried = lambda: judged(unread_here(program), MOST, unread_beside)
+    return f"others waited {tries.in_two_of_three(tried)}"

@@ -11,25 +11,21 @@ leave them in crates/NAME/out. What the prover says stands in out/wrong_bodies.
 
 An edit is written into a copy of its function, beside it: `f` gets `f_wrong0`, `f_wrong1` .., with
 its attributes, its contract and its proof files. Each other function of the crate has a hole for
-its proof (`?`), so that a caller takes it by its contract, and only the copies are proved. A check
-goes on after a function that it refuses, and has a line for each:
+its proof (`?`), so that a caller takes it by its contract, and only the copies are proved. What a
+proof sees of another function is that one's contract, and no edit of a body changes that; so a copy
+is refused exactly if it is refused alone. A method of a trait's impl can't be copied, nor a
+function with a Proof.antt: it is edited in its place, in a check of its own. So is what isn't in
+the body of one function. A check goes on after a function that it refuses, and has a line for each:
 
     fn NAME::f_right: depends on a hole in ..            (or 'no holes') as it must be
     fn NAME::f_wrong0: not proved                        refused by its own proof
     fn NAME::f_wrong0: no proof: expected answers in ..  refused, since a goal stays open
     fn NAME::f_wrong0: no proof: it calls ..             says nothing
 
-What a function's proof sees of another is that one's contract, and no edit of a body changes that;
-so a copy is refused exactly if it is refused alone. A method of a trait's impl can't be copied, nor
-a function with a Proof.antt: it is edited in its place, in a check of its own. So is what isn't in
-the body of one function.
-
 Each check has one function's unedited copy as its control, which must be proved: else nothing is
 known of the edits. A fault of the copying that the control doesn't meet is a name that some proof
-file doesn't find, and the edits of that function fail as 'refused by a lost name'. A check that the
-compiler refuses is halved until the bad edit stands alone.
+file doesn't find. A check that the compiler refuses is halved until the bad edit stands alone.
 """
-import argparse
 import concurrent.futures
 import functools
 import hashlib
@@ -102,7 +98,6 @@ class Said(NamedTuple):
         return " ".join(re.findall(r".*\berror\b.*", self.text)[:2])
 
     def verdict(self, crate, path):
-        """The verdict on an edit of a function."""
         words, errors = self.of(crate, path), self.errors_in(path)
         if not words:
             return Verdict(UNTRIED, f"the check has no line for {path}")
@@ -116,12 +111,10 @@ class Said(NamedTuple):
 
 @functools.cache
 def kit_folder():
-    ran = subprocess.run(["rt", "doc"], stdout=subprocess.PIPE, text=True, check=True)
-    return os.path.dirname(ran.stdout.strip())
+    return os.path.dirname(prove.output_of("rt", "doc"))
 
 
 def libraries_below(name):
-    """The built library of each crate below this one."""
     below = sorted(prove.with_those_below(prove.read_crates(), name) - {name})
     found = {it: f"{prove.TOP}/crates/{it}/out/rlib/{it}.rlib" for it in below}
     if not all(map(os.path.isdir, found.values())):
@@ -131,7 +124,6 @@ def libraries_below(name):
 
 
 def words_of(crate, asked):
-    """The prover's words for a check of these functions past holes."""
     kit, below = kit_folder(), libraries_below(crate.name)
     words = [f"{kit}/bin/rattle", "check", "--crate-name", crate.name, crate.root, "--jobs", "1",
              "--antt-project", f"{kit}/rattle/logic/antt-project.json",
@@ -144,7 +136,6 @@ def words_of(crate, asked):
 
 
 def checked(room):
-    """What the check of an edited copy of a crate says."""
     with tempfile.TemporaryFile("w+", errors="replace") as out:
         to = {"stdin": subprocess.DEVNULL, "stdout": out, "stderr": subprocess.STDOUT}
         words = words_of(room.crate, room.asked)
@@ -155,90 +146,28 @@ def checked(room):
         return Said(out.read(), ran.returncode, used.ru_utime + used.ru_stime)
 
 
-class Tries:
-    """The tries of a round of a crate: the verdicts on its edits, by their names, and the seconds
-    of a processor that they took."""
-
-    def __init__(self, crate):
-        self.crate, self.verdicts, self.seconds = crate, {}, 0.0
-
-    def check(self, edits, control, label):
-        """One check: what it said, and the folder that it read."""
-        if INTERRUPTED.is_set():
-            raise concurrent.futures.CancelledError
-        with tempfile.TemporaryDirectory(prefix="wrong-bodies-") as folder:
-            room = edited_copies.Room(self.crate, edits, control, folder)
-            said = checked(room)
-        prove.write(f"{LOGS}/{label}.log", said.text)
-        self.seconds += said.seconds
-        return said, room
-
-    def give(self, edits, word, why):
-        self.verdicts |= {it.name: Verdict(word, why) for it in edits}
-
-    def try_round(self, edits, label, is_sound=False):
-        """Tries these edits. If their check doesn't come to an end, but that of the control alone
-        does, it tries their halves."""
-        control = self.crate.control(edits)
-        if not control:
-            why = "the crate has no function whose copy can be the control"
-            self.give(edits, UNTRIED, why)
-            return
-        said, room = self.check(edits, control, label)
-        if said.has_ended() and not said.is_proved(self.crate, room.control):
-            why = said.of(self.crate, room.control)
-            self.give(edits, UNTRIED, f"the control {room.control} isn't proved: {why}")
-        elif said.has_ended():
-            for name, path in room.falls.items():
-                self.verdicts[name] = said.verdict(self.crate, path)
-        elif not is_sound and (why := self.amiss_alone(control, label)):
-            self.give(edits, UNTRIED, f"the control alone isn't proved: {why}")
-        elif len(edits) == 1:
-            why = f"its check ended with status {said.status}: {said.first_errors()}"
-            self.give(edits, BAD if said.status == 1 else UNTRIED, why)
-        else:
-            half = len(edits) // 2
-            self.try_round(edits[:half], f"{label}a", True)
-            self.try_round(edits[half:], f"{label}b", True)
-
-    def amiss_alone(self, control, label):
-        """Why the control isn't proved if no edit stands beside it; None if it is."""
-        said, room = self.check([], control, f"{label}-control")
-        if said.is_proved(self.crate, room.control):
-            return None
-        return f"{said.of(self.crate, room.control)} {said.first_errors()}"
-
-
 @functools.cache
 def sum_of_tools():
     """A sum of what tries an edit: these programs and the kit."""
     kit, here = kit_folder(), os.path.dirname(os.path.abspath(__file__))
-    ran = subprocess.run(["rt", "version"], stdout=subprocess.PIPE, check=True)
     paths = [*(f"{here}/{it}.py" for it in TOOLS), f"{kit}/bin/rattle"]
-    return f"{ran.stdout} {[prove.sum_of_file(it) for it in paths]}"
-
-
-def sum_of_sources(name):
-    """A sum of all that a crate is proved from, the logic too."""
-    lines, whole = prove.read_lines(), hashlib.sha256(prove.logic().encode())
-    for crate in sorted(prove.with_those_below(prove.read_crates(), name)):
-        whole.update(f"{crate}: {lines[crate]}\n".encode())
-        files = (path for part in edited_copies.PARTS
-                 for path in pathlib.Path(f"{prove.TOP}/crates/{crate}/{part}").rglob("*"))
-        for path in sorted(filter(os.path.isfile, files)):
-            name = os.path.relpath(path, prove.TOP)
-            whole.update(f"{name} {prove.sum_of_file(path)}\n".encode())
-    return whole.hexdigest()
+    return f"{prove.output_of('rt', 'version')} {[prove.sum_of_file(it) for it in paths]}"
 
 
 def sum_of_crate(name):
-    """All that the checks of a crate read but its edits, as a sum: the tools, the sources of the
-    crate and of those below, and the libraries, whose other files are held to the sums in the file
-    `format`."""
-    found = libraries_below(name)
-    libraries = {it: prove.sum_of_file(f"{path}/format") for it, path in found.items()}
-    whole = f"{sum_of_tools()} {sum_of_sources(name)} {libraries}"
-    return hashlib.sha256(whole.encode()).hexdigest()
+    """All that the checks of a crate read but its edits, as a sum: the tools, the logic, the
+    sources of the crate and of those below, and the libraries, whose other files are held to the
+    sums in the file `format`."""
+    lines, read = prove.read_lines(), [sum_of_tools(), prove.logic()]
+    for crate in sorted(prove.with_those_below(prove.read_crates(), name)):
+        read.append(f"{crate}: {lines[crate]}")
+        folder = pathlib.Path(f"{prove.TOP}/crates/{crate}")
+        files = filter(os.path.isfile, (it for part in edited_copies.PARTS
+                                        for it in (folder / part).rglob("*")))
+        read += [f"{it.relative_to(folder)} {prove.sum_of_file(it)}" for it in sorted(files)]
+    for crate, path in libraries_below(name).items():
+        read.append(f"{crate}: {prove.sum_of_file(f'{path}/format')}")
+    return hashlib.sha256("\n".join(read).encode()).hexdigest()
 
 
 class Kept:
@@ -266,12 +195,6 @@ class Kept:
                 prove.write(self.place(it), "")
 
 
-def forget():
-    """Removes what was kept and isn't used any more."""
-    os.makedirs(KEPT, exist_ok=True)
-    subprocess.run(["find", KEPT, "-type", "f", "-mtime", f"+{DAYS}", "-delete"], check=True)
-
-
 def names_in(words):
     """The crates that these words of the command name, or all that have edits, and of each the
     edits that are named."""
@@ -283,14 +206,13 @@ def names_in(words):
 
 
 def workers():
-    """How many checks run side by side."""
     fitting = int(prove.free_gigabytes() / GIGABYTES)
     return max(1, min(prove.processors(), fitting, int(os.environ.get("JOBS", "99"))))
 
 
 class Run:
     """A run. It counts the verdicts, and says those that fail and those that were asked for by
-    name."""
+    name. Verdicts are by the names of their edits."""
 
     def __init__(self, anew):
         self.anew, self.lock = anew, threading.Lock()
@@ -305,6 +227,43 @@ class Run:
                 if verdict.word != REFUSED or is_named:
                     print(f"  {crate}/{name}: {verdict}", flush=True)
             self.passed, self.failed = self.passed + fine, self.failed + len(verdicts) - fine
+
+    def check(self, crate, edits, control, label):
+        """One check: what it said, and the folder that it read."""
+        if INTERRUPTED.is_set():
+            raise concurrent.futures.CancelledError
+        with tempfile.TemporaryDirectory(prefix="wrong-bodies-") as folder:
+            room = edited_copies.Room(crate, edits, control, folder)
+            said = checked(room)
+        prove.write(f"{LOGS}/{label}.log", said.text)
+        with self.lock:
+            self.seconds += said.seconds
+        return said, room
+
+    def verdicts(self, crate, edits, label, is_sound=False):
+        """The verdicts on these edits. If their check doesn't come to an end, but that of the
+        control alone does, their halves are tried."""
+        all_are = lambda word, why: {it.name: Verdict(word, why) for it in edits}
+        control = crate.control(edits)
+        if not control:
+            return all_are(UNTRIED, "the crate has no function whose copy can be the control")
+        said, room = self.check(crate, edits, control, label)
+        if said.has_ended() and not said.is_proved(crate, room.control):
+            why = said.of(crate, room.control)
+            return all_are(UNTRIED, f"the control {room.control} isn't proved: {why}")
+        if said.has_ended():
+            return {name: said.verdict(crate, path) for name, path in room.falls.items()}
+        if not is_sound:
+            alone, room = self.check(crate, [], control, f"{label}-control")
+            if not alone.is_proved(crate, room.control):
+                why = f"{alone.of(crate, room.control)} {alone.first_errors()}"
+                return all_are(UNTRIED, f"the control alone isn't proved: {why}")
+        if len(edits) == 1:
+            why = f"its check ended with status {said.status}: {said.first_errors()}"
+            return all_are(BAD if said.status == 1 else UNTRIED, why)
+        half = len(edits) // 2
+        return (self.verdicts(crate, edits[:half], f"{label}a", True)
+                | self.verdicts(crate, edits[half:], f"{label}b", True))
 
     def plan(self, name, chosen):
         """Counts what an earlier run has passed and what can't be placed, and gives the calls that
@@ -327,25 +286,23 @@ class Run:
         self.note(name, {it.name: Verdict(REFUSED) for it in known},
                   "by an earlier run on this machine, which read the same", is_named)
         self.note(name, bad, "as they can't be placed", is_named)
-        rounds = edited_copies.rounds_of([it for it in edits if it not in known])
-        return [(functools.partial(self.try_one, kept, crate, some, f"{name}{at}", is_named),
-                 len(some)) for at, some in enumerate(rounds)]
 
-    def try_one(self, kept, crate, edits, label, is_named):
-        began, tries = time.monotonic(), Tries(crate)
-        tries.try_round(edits, label)
-        took = f"in {time.monotonic() - began:.0f} s ({tries.seconds:.0f} s of a processor)"
-        self.note(crate.name, tries.verdicts, took, is_named)
-        self.seconds += tries.seconds
-        kept.keep([it for it in edits if tries.verdicts[it.name].word == REFUSED])
+        def try_one(label, edits):
+            began, verdicts = time.monotonic(), self.verdicts(crate, edits, label)
+            self.note(name, verdicts, f"in {time.monotonic() - began:.0f} s", is_named)
+            kept.keep([it for it in edits if verdicts[it.name].word == REFUSED])
+
+        rounds = edited_copies.rounds_of([it for it in edits if it not in known])
+        return [(len(some), functools.partial(try_one, f"{name}{at}", some))
+                for at, some in enumerate(rounds)]
 
     def try_all(self, names):
         """Tries all, several checks at a time, those with most edits first."""
         planned = [it for name, chosen in names.items() for it in self.plan(name, chosen)]
         with concurrent.futures.ThreadPoolExecutor(workers()) as pool:
             try:
-                calls = [pool.submit(it) for it, _ in sorted(planned, key=lambda it: -it[1])]
-                for it in calls:
+                planned.sort(key=lambda it: -it[0])
+                for it in [pool.submit(call) for _, call in planned]:
                     it.result()
             except BaseException:
                 INTERRUPTED.set()
@@ -354,14 +311,13 @@ class Run:
 
 
 def main(words):
-    parser = argparse.ArgumentParser(
-        description=__doc__, formatter_class=argparse.RawDescriptionHelpFormatter)
-    parser.add_argument("--anew", action="store_true", help="try what a run has passed, too")
-    parser.add_argument("edits", nargs="*", metavar="NAME[/EDIT]")
-    given = parser.parse_args(words)
-    forget()
-    run = Run(given.anew)
-    run.try_all(names_in(given.edits))
+    if {"-h", "--help"} & set(words):
+        sys.exit(__doc__)
+    # (what was kept and isn't used any more is removed)
+    os.makedirs(KEPT, exist_ok=True)
+    subprocess.run(["find", KEPT, "-type", "f", "-mtime", f"+{DAYS}", "-delete"], check=True)
+    run = Run("--anew" in words)
+    run.try_all(names_in([it for it in words if it != "--anew"]))
     print(f"{run.seconds / 60:.1f} processor minutes of the prover\n"
           f"{run.passed} passed, {run.failed} failed")
     return int(run.failed > 0)

@@ -6,11 +6,11 @@ class Calls:
         self.client, self.works, self.fails = client, [], []
 
     def check(self, name, call, wanted):
-        """Whether the call gives what is wanted; one that raises doesn't."""
+        """Whether the call gives what is wanted, or raises that error."""
         try:
             got = call()
         except Exception as error:  # (each client has errors of its own)
-            got = f"{type(error).__name__}: {error}"
+            got = type(error)
         (self.works if got == wanted else self.fails).append(name)
         return self
 

@@ -1,6 +1,6 @@
 package MemcachedTest;
 
-# What memcached's tests ask of their harness, over a served segcached: the program that SEGCACHED names.
+# What memcached's tests ask of their harness, over a served segcached: SEGCACHED has the program with its words.
 use strict;
 use warnings;
 use Exporter 'import';
@@ -24,8 +24,7 @@ sub new_memcached {
     $options =~ s/-o no_modern//;
     die "segcached has no option $options\n" if $options =~ /\S/;
     my $segments = $megabytes < 8 ? 8 : $megabytes;
-    my $process = open my $said, '-|', $ENV{SEGCACHED}, 'serve', '--listen', '127.0.0.1:0', '--lenient', '--update-in-place',
-        '--evict', 'least-read', '--segment-size', 1048576, '--segments', $segments;
+    my $process = open my $said, '-|', split(' ', $ENV{SEGCACHED}), '--segments', $segments;
     my ($port) = <$said> =~ /:(\d+)$/ or die "segcached doesn't serve\n";
     return bless { process => $process, said => $said, port => $port }, 'Served';
 }

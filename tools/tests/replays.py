@@ -16,6 +16,11 @@ def printed(program, words, script):
     return out
 
 
+def in_parts(data, size=16_384):
+    """These bytes in parts of as many as a worker reads at a time, or of another size."""
+    return [data[at : at + size] for at in range(0, len(data), size)]
+
+
 def given(program, words, *pieces):
     """What the only session is given, which sends these pieces, in bytes or texts for `wire`."""
     sends = b"".join(b"send 0 1 %b\n" % wire(it).hex().encode() for it in pieces)

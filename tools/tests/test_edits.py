@@ -8,31 +8,12 @@ from served import TOP, read
 
 FOUND = [("low", "first", ("Part::call", "it does nothing")), ("low", "second", None),
          ("top", "third", ("run", "it runs twice"))]
-TABLES = """
-## `low`
-
-| Contract | Wrong body | Edit |
-|---|---|---|
-| `` |  | `second` |
-| `Part::call` | it does nothing | `first` |
-
-## `top`
-
-| Contract | Wrong body | Edit |
-|---|---|---|
-| `run` | it runs twice | `third` |
-"""
 
 
 def test_the_page_says_what_the_edits_say():
     found, pages = list(edits.edits()), [read(f"{TOP}/docs/{it}.md") for it in ("EDITS", "PROOFS")]
     assert len(found) > 100
     assert edits.amiss(found, *pages) == []
-
-
-def test_a_page_has_a_table_for_each_crate_behind_its_head():
-    page = "# Head\n\nText.\n\n## `other`\n\n| old |\n"
-    assert edits.page_of(FOUND, page) == "# Head\n\nText.\n" + TABLES
 
 
 def test_what_is_amiss_is_said():

@@ -4,11 +4,11 @@ With `oldest` the first merge takes the first four segments, of 32 keys, and the
 first one left and three segments behind it. With `least-read` the first one takes two segments, of
 16 keys, and what it leaves stands behind others: so the second and the third one take those of the
 keys 17 to 48, and the fourth one that of 49 to 56 with what the first one left. There a key that
-was read once stays again, as half its count is rounded up. With a TTL whose bucket is 128 seconds wide and a tick of a second, segments are opened eight
-seconds apart, and `oldest` merges none; for `least-read` those of 64 seconds are opened at one
-moment, which end at 1,088. With `least-read` a key that is written again goes over its item: one of
-a segment that was opened at 1,088 and ends at 3,136, until 1,291, when 2,100 seconds end 255
-seconds later.
+was read once stays again, as half its count is rounded up. With a TTL whose bucket is 128 seconds
+wide and a tick of a second, segments are opened eight seconds apart, and `oldest` merges none; for
+`least-read` those of 64 seconds are opened at one moment, which end at 1,088. With `least-read` a
+key that is written again goes over its item: one of a segment that was opened at 1,088 and ends at
+3,136, until 1,291, when 2,100 seconds end 255 seconds later.
 """
 import pytest
 from asking import END, STORED, hits

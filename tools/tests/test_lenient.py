@@ -16,7 +16,7 @@ import pylibmc
 import pytest
 import served
 import tries
-from asking import END, STORED, ask, hits, put
+from asking import END, STORED, ask, get, hit, hits, put
 from model import VERSION
 from pymemcache.client.base import Client
 from pymemcache.exceptions import MemcacheServerError
@@ -31,11 +31,6 @@ BLOCK = b"z" * 131_072
 def server(program):
     with served.Server(program, "--lenient", "--segment-size", "1048576") as it:
         yield it
-
-
-def test_the_version_is_that_of_the_program(program):
-    _, said, _ = served.ended(program, "--version")
-    assert VERSION == b"VERSION 1.6.0-segcached-%b\r\n" % said.split()[1]
 
 
 def test_a_touch_and_a_gat_of_many_keys_change_their_lives(server):
@@ -58,26 +53,20 @@ def test_a_touch_and_a_gat_of_many_keys_change_their_lives(server):
         ask(stream, "get a b|", "VALUE b 0 1|y|END|")
 
 
-def test_input_that_ends_within_a_large_block_is_not_answered(server):
-    with server.connect() as stream:
-        stream.sendall(b"get none\r\nset a 0 0 200000\r\n" + BLOCK)
-        stream.shutdown(socket.SHUT_WR)
-        assert read_to_end(stream) == END
-
-
 @pytest.mark.parametrize("last", [
     b"verbosity 1 noreply\r\n", put(b"b", BLOCK + b"z", b"append", words=b" noreply"),
-], ids=["verbosity", "append"])
+    b"set a 0 0 200000\r\n" + BLOCK,
+], ids=["verbosity", "append", "a part of a block"])
 def test_a_client_that_sends_no_more_is_closed_though_its_last_request_is_silent(server, last):
     """That request is read once a `get` of many keys before it was answered, when all answers are
     given and the end of the input is known: it is all there when the process goes on."""
     with server.connect() as stream:
         ask(stream, put(b"b", b"v" * 100), STORED)
         server.process.send_signal(signal.SIGSTOP)
-        stream.sendall(b"get" + b" b" * 300 + b"\r\n" + last)
+        stream.sendall(get(b"b", 300) + last)
         stream.shutdown(socket.SHUT_WR)
         server.process.send_signal(signal.SIGCONT)
-        assert read_to_end(stream) == hits(b"b", b"v" * 100, times=300) + END
+        assert read_to_end(stream) == hit(b"b", b"v" * 100, times=300)
 
 
 def in_a_process(call, *given):

@@ -102,6 +102,11 @@ echo "2 passed, 0 failed"
 """
 
 
+def write_program(path, text):
+    prove.write(path, text)
+    path.chmod(0o755)
+
+
 @pytest.fixture
 def unproved(tmp_path, monkeypatch, commit):
     """A small repository with nothing proved, and a kit that isn't one."""
@@ -112,8 +117,7 @@ def unproved(tmp_path, monkeypatch, commit):
     for name, root in (("low", "lib.rt"), ("high", "main.rt"), ("low_tests", "lib.rt")):
         prove.write(tmp_path / "crates" / name / "src" / root, f"// {name}\n")
         prove.write(tmp_path / "crates" / name / "wrong" / "one.edit", "file: src/lib.rt\n")
-    prove.write(tmp_path / "kit" / "rt", RT)
-    (tmp_path / "kit" / "rt").chmod(0o755)
+    write_program(tmp_path / "kit" / "rt", RT)
     monkeypatch.setenv("PATH", f"{tmp_path}/kit:{os.environ['PATH']}")
     monkeypatch.setattr(prove, "NAME", "high")
     monkeypatch.setattr(prove, "TOP", str(tmp_path))
@@ -126,20 +130,20 @@ def unproved(tmp_path, monkeypatch, commit):
 
 
 @pytest.fixture
-def repository(unproved, capsys):
+def repository(unproved):
     """The small repository once its program is proved."""
     assert prove.prove() == 0
     return unproved
 
 
-def proved_in(capsys):
-    """The crates that a run says are proved, with their numbers."""
-    return re.findall(r"^ +(\d of \d  \w+) ", capsys.readouterr().out, re.MULTILINE)
-
-
-def test_the_crates_of_the_program_alone_are_proved_without_their_wrong_bodies(unproved, capsys):
+@pytest.mark.parametrize("verdict", ["proved", "is kept: an earlier run"])
+def test_the_crates_of_the_program_alone_are_proved_without_their_wrong_bodies(
+        unproved, capsys, verdict):
+    """One that an earlier run proved is counted."""
+    prove.write(unproved / "kit" / "rt", RT.replace("$name proved", f"$name {verdict}"))
     assert prove.prove() == 0
-    assert proved_in(capsys) == ["1 of 2  low", "2 of 2  high"]
+    proved = re.findall(r"^ +(\d of \d  \w+) ", capsys.readouterr().out, re.MULTILINE)
+    assert proved == ["1 of 2  low", "2 of 2  high"]
     log = (unproved / "crates" / "high" / "out" / "high.log").read_text().splitlines()
     assert "with high low and src" in log and {"low: ", "high: low bytes"} < set(log)
     assert "Handles allowed: none." in log
@@ -166,13 +170,6 @@ def test_there_is_no_record_of_files_that_changed_while_they_were_proved(unprove
     assert not prove.read_record(prove.PROGRAM) and not prove.is_kept()
 
 
-def test_a_crate_that_an_earlier_run_proved_is_counted(unproved, capsys):
-    said = RT.replace("$name proved", "$name is kept: an earlier run")
-    prove.write(unproved / "kit" / "rt", said)
-    assert prove.prove() == 0
-    assert proved_in(capsys) == ["1 of 2  low", "2 of 2  high"]
-
-
 def test_a_crate_that_is_refused_is_named(unproved, capsys):
     (unproved / "crates" / "low" / "src" / "lib.rt").write_text("WRONG")
     assert prove.prove() == 1
@@ -190,18 +187,15 @@ def test_an_interrupt_ends_what_runs_and_says_what_is_proved(unproved, capsys):
     assert said.startswith("Interrupted: 1 of 2 crates are proved and kept")
 
 
-@pytest.mark.parametrize("path", [
+@pytest.mark.parametrize("path, text", [*((path, "changed") for path in (
     "crates/low/src/lib.rt", "crates/high/src/main.rt", "crates/high/stdout", "README.md",
-    "crates/low/specs/More.antt", "crates/high/out/high"])
-def test_a_change_is_seen(repository, path):
+    "crates/low/specs/More.antt", "crates/high/out/high")),
+    ("crates/high/out/high", None), ("crates/high/out/PROVED", None)])
+def test_what_is_changed_or_gone_is_seen(repository, path, text):
     assert prove.is_kept()
-    prove.write(repository / path, "changed")
-    assert not prove.is_kept()
-
-
-@pytest.mark.parametrize("name", ["high", "PROVED"])
-def test_what_is_gone_is_seen(repository, name):
-    (repository / "crates" / "high" / "out" / name).unlink()
+    (repository / path).unlink(missing_ok=True)
+    if text:
+        prove.write(repository / path, text)
     assert not prove.is_kept()
 
 
@@ -210,10 +204,9 @@ def test_the_readme_names_the_logic():
 
 
 def memory_file(folder, gigabytes):
-    path = folder / "meminfo"
     lines = "MemTotal:       99999999 kB\nMemFree: 1 kB\nMemAvailable:   %d kB\n"
-    path.write_text(lines % (gigabytes * 1024**2))
-    return str(path)
+    prove.write(folder / "meminfo", lines % (gigabytes * 1024**2))
+    return str(folder / "meminfo")
 
 
 def test_free_memory_is_that_of_the_machine_or_of_its_group(tmp_path):
@@ -232,39 +225,30 @@ def test_memory_for_less_than_two_proofs_is_said():
     assert prove.lacks_memory(8.9) == "8.9 GB of memory are free, and proving needs 9 GB"
 
 
-def said_by_run(path, top=TOP):
-    """The one line with which `make run` ends with this as its path."""
-    words = [sys.executable, f"{top}/tools/run.py"]
-    status, printed, said = ended(*words, env={"PATH": str(path)}, text=True, seconds=20)
-    assert (status, printed, said.count("\n")) == (1, "", 1)
-    return said
-
-
-def folder_with_rt(folder, line):
-    (folder / "rt").write_text(f"#!/bin/sh\necho '{line}'\n")
-    (folder / "rt").chmod(0o755)
-    return folder
-
-
-def test_a_run_without_rt_says_so_in_one_line(tmp_path):
-    lacking = "there is no rt on the path: segcached is proved with a Rattle kit of"
-    assert said_by_run(tmp_path) == f"segcached: {lacking} '{prove.logic()}'\n"
-
-
-def test_a_run_with_an_rt_of_another_logic_says_so_in_one_line(tmp_path):
-    kit = "rattle-kit-99x logic 0000000000000000"
-    said = said_by_run(folder_with_rt(tmp_path, kit))
-    assert f"'{kit}'" in said and prove.logic() in said
-
-
-def test_a_run_with_little_memory_says_so_in_one_line(tmp_path):
-    """In a repository in which nothing is proved, memory is said to be short."""
+@pytest.fixture
+def tree(tmp_path):
+    """A repository in which nothing is proved, on a machine with 5.5 GB of free memory."""
     for name in ("tools", "packaging"):
         ignored = shutil.ignore_patterns("tests")
         shutil.copytree(f"{TOP}/{name}", tmp_path / name, ignore=ignored)
     tool = tmp_path / "tools" / "prove.py"
     tool.write_text(tool.read_text().replace("/proc/meminfo", memory_file(tmp_path, 5.5)))
-    (tmp_path / "crates.txt").write_text("segcached:\n")
-    folder = folder_with_rt(tmp_path, f"rattle-kit-99x {prove.logic()}")
-    said = said_by_run(f"{folder}:/usr/bin:/bin", tmp_path)
-    assert said == "segcached: 5.5 GB of memory are free, and proving needs 9 GB\n"
+    prove.write(tmp_path / "crates.txt", "segcached:\n")
+    return tmp_path
+
+
+OTHER = "rattle-kit-99x logic 0000000000000000"
+
+
+# What the rt on the path says, if there is one, and the line with which `make run` ends.
+@pytest.mark.parametrize("kit, said", [
+    (None, "there is no rt on the path: segcached is proved with a Rattle kit of '{}'"),
+    (OTHER, f"the rt on the path has another logic, '{OTHER}': segcached is proved with '{{}}'"),
+    ("rattle-kit-99x {}", "5.5 GB of memory are free, and proving needs 9 GB"),
+], ids=["no kit", "another logic", "little memory"])
+def test_a_run_that_lacks_something_says_so_in_one_line(tree, kit, said):
+    if kit:
+        write_program(tree / "rt", f"#!/bin/sh\necho '{kit.format(prove.logic())}'\n")
+    path = {"PATH": f"{tree}:/usr/bin:/bin" if kit else str(tree)}
+    found = ended(sys.executable, f"{tree}/tools/run.py", env=path, text=True, seconds=20)
+    assert found == (1, "", f"segcached: {said.format(prove.logic())}\n")

@@ -24,12 +24,10 @@ LINGERING = 2
 @pytest.mark.parametrize("workers", [1, 2])
 def test_a_burst_of_a_thousand_is_served(serve, workers, storage):
     server = serve("--workers", str(workers), *storage)
-    streams = {}
-    for number in range(1000):
-        stream = socket.socket()
+    streams = {socket.socket(): b"key%d" % number for number in range(1000)}
+    for stream in streams:
         stream.setblocking(False)
         stream.connect_ex(("127.0.0.1", server.port))
-        streams[stream] = b"key%d" % number
     for stream, key in streams.items():
         stream.settimeout(20)
         stream.sendall(SET_AND_GET % (key, key))
@@ -44,31 +42,27 @@ def test_a_stalled_reader_costs_others_nothing_and_is_served_later(serve, storag
     value, server = b"v" * size, serve("--workers", "1", *storage)
 
     def slowest(key):
-        """The longest wait of another client for one of 200 answers."""
-        stream = server.connect()
-        return max(seconds_to(stream, SET_AND_GET % (key, key), SET_AND_GET_ANSWER % key)
-                   for _ in range(200))
+        stream, asked = server.connect(), (SET_AND_GET % (key, key), SET_AND_GET_ANSWER % key)
+        return max(seconds_to(stream, *asked) for _ in range(200))
 
     with server.connect(receive_buffer=4096) as stalled:
         ask(stalled, put(b"big", value), STORED)
         sender = beside(stalled.sendall, b"get big\r\n" * times)
         answers = 100 * hit(b"big", value)
-        assert is_same(read_exactly(stalled, len(answers)), answers)
-        time.sleep(0.5)
-        assert max(together(lambda it=it: slowest(b"%d" % it) for it in range(10))) < 10
-        assert server.kilobytes("VmRSS") < 80_000
-        for _ in range(times // 100 - 1):
+        for turn in range(times // 100):
             assert is_same(read_exactly(stalled, len(answers)), answers)
+            if turn == 0:
+                time.sleep(0.5)
+                assert max(together(lambda it=it: slowest(b"%d" % it) for it in range(10))) < 10
+                assert server.kilobytes("VmRSS") < 80_000
         sender.join()
 
 
 def test_a_client_may_close_without_reading(serve):
     server = serve("--workers", "2", "--sessions", "2")
-    with server.connect() as first:
-        first.sendall(SET_AND_GET % (b"a", b"a"))
-    with server.connect() as second:
-        second.sendall(b"get a\r\nquit\r\n")
-        assert read_to_end(second) in (END, hit(b"a", b"x"))
+    opened(server, 1, SET_AND_GET % (b"a", b"a"))[0].close()
+    second, = opened(server, 1, b"get a\r\nquit\r\n")
+    assert read_to_end(second) in (END, hit(b"a", b"x"))
     assert server.process.wait(20) == 0
 
 
@@ -97,8 +91,7 @@ def median_wait_of_newcomers(server):
     for _ in range(15):
         time.sleep(0.005)
         began = time.monotonic()
-        with server.connect() as stream:
-            ask(stream, MISS, END)
+        opened(server, 1, MISS, END)[0].close()
         took.append(time.monotonic() - began)
     return sorted(took)[7]
 
@@ -151,41 +144,36 @@ def test_a_pipeline_of_exactly_what_is_read_at_a_time_is_answered_and_goes_on(se
     assert len(requests) == pieces * PIECE
     server = serve("--workers", "1")
     for _ in range(20):
-        with server.connect() as stream:
-            ask(stream, requests, END * count)
-            ask(stream, MISS, END)
-
-
-def half_closed(server, number):
-    """A client's stream, its 2,000 requests, which each other client's store, and each answer."""
-    request, answer = ((b"set s%d-%d 0 0 1\r\nx\r\n", STORED), (b"get g%d-%d\r\n", END))[number % 2]
-    stream, = opened(server, 1, MISS, END)
-    return stream, [request % (number, key) for key in range(2000)], answer
+        stream, = opened(server, 1, requests, END * count)
+        ask(stream, MISS, END)
 
 
 def test_a_client_that_sends_no_more_gets_all_answers_of_a_process_that_stood_still(serve, storage):
-    """Some closed their sending half before the process stopped, some while it stood still."""
+    """Some closed their sending half before the process stopped, some while it stood still. Each
+    other one stores, and the rest look up what isn't there."""
     server = serve("--workers", "2", *storage)
-    clients = [half_closed(server, number) for number in range(8)]
-    for stream, requests, _ in clients[:4]:
-        stream.sendall(b"".join(requests))
-        stream.shutdown(socket.SHUT_WR)
-    for stream, requests, _ in clients[4:]:
-        stream.sendall(b"".join(requests[:1000]))
+    streams = opened(server, 8, MISS, END)
+
+    def send(numbers, first, last):
+        for number in numbers:
+            form = b"get g%d-%d\r\n" if number % 2 else b"set s%d-%d 0 0 1\r\nx\r\n"
+            requests = b"".join(form % (number, at) for at in range(first, last))
+            streams[number].sendall(requests)
+            if last == 2000:
+                streams[number].shutdown(socket.SHUT_WR)
+
+    send(range(4), 0, 2000)
+    send(range(4, 8), 0, 1000)
     server.process.send_signal(signal.SIGSTOP)
-    for stream, requests, _ in clients[4:]:
-        stream.sendall(b"".join(requests[1000:]))
-        stream.shutdown(socket.SHUT_WR)
+    send(range(4, 8), 1000, 2000)
     time.sleep(2.2)
     server.process.send_signal(signal.SIGCONT)
-    for stream, _, answer in clients:
-        assert is_same(read_to_end(stream), answer * 2000)
-    stream = server.connect()
+    for number, stream in enumerate(streams):
+        assert is_same(read_to_end(stream), (END if number % 2 else STORED) * 2000)
     for number in range(0, 8, 2):
-        for at in range(0, 2000, 100):
-            keys = [b"s%d-%d" % (number, key) for key in range(at, at + 100)]
-            shown = b"".join(hits(it, b"x") for it in keys)
-            ask(stream, b"get %b\r\n" % b" ".join(keys), shown + END)
+        gets = b"".join(b"get s%d-%d\r\n" % (number, at) for at in range(2000))
+        shown = b"".join(hit(b"s%d-%d" % (number, at), b"x") for at in range(2000))
+        opened(server, 1, gets, shown)
 
 
 @pytest.mark.parametrize("requests, answers, most", [
@@ -240,24 +228,22 @@ def test_each_of_twenty_that_send_too_much_sees_why_it_is_shut(serve):
     """It reads only once it has sent a mebibyte of its block."""
     server = serve("--workers", "2", "--sessions", "20")
     for _ in range(20):
-        with server.connect() as stream:
-            stream.sendall(b"set a 0 0 1048576\r\n" + bytes(1 << 20))
-            assert read_to_end(stream) == TOO_LARGE
+        stream, = opened(server, 1, b"set a 0 0 1048576\r\n" + bytes(1 << 20))
+        assert read_to_end(stream) == TOO_LARGE
+        stream.close()
     assert server.process.wait(20) == 0
 
 
 def seconds_held(server):
     """How long a session that quits is held, whose client neither closes nor sends. (It is counted
     before it quits: this process may stand still until the session has gone.)"""
-    with server.connect() as stream:
-        ask(stream, MISS, END)
-        held, began = server.descriptors(), time.monotonic()
-        stream.sendall(b"quit\r\n")
-        assert read_to_end(stream) == b""
-        assert comes_true(lambda: server.descriptors() == held - 1)
-        took = time.monotonic() - began
-        assert took > 1
-        return took
+    stream, = opened(server, 1, MISS, END)
+    held, began = server.descriptors(), time.monotonic()
+    stream.sendall(b"quit\r\n")
+    assert read_to_end(stream) == b""
+    assert comes_true(lambda: server.descriptors() == held - 1)
+    assert time.monotonic() - began > 1
+    return time.monotonic() - began
 
 
 def seconds_of_sending(server):
@@ -302,21 +288,19 @@ def test_a_session_that_was_shut_is_read_for_two_seconds(serve, took, most):
     tries.all_in_time(lambda: took(server), most)
 
 
-def most_held(server, clients):
-    """The most streams that are open beyond one while so many are shut; None if it takes long."""
-    opened(server, 1, MISS, END)
-    held, began, most = server.descriptors(), time.monotonic(), 0
-    for _ in range(clients):
-        shut(server)
-        most = max(most, server.descriptors() - held)
-    return most if time.monotonic() - began < LINGERING else None
-
-
 def test_at_most_256_sessions_that_were_shut_are_read(serve):
-    """Of more the oldest one is closed at once. (The last one may count beside 256 for a
-    moment.)"""
-    attempts = (most_held(serve("--workers", "1"), 300) for _ in range(10))
-    assert next(it for it in attempts if it is not None) in (256, 257)
+    """Of more the oldest one is closed at once. (The last one may count beside 256 for a moment. A
+    try that takes long says nothing.)"""
+    for _ in range(10):
+        server, most = serve("--workers", "1"), 0
+        opened(server, 1, MISS, END)
+        held, began = server.descriptors(), time.monotonic()
+        for _ in range(300):
+            shut(server)
+            most = max(most, server.descriptors() - held)
+        if time.monotonic() - began < LINGERING:
+            break
+    assert most in (256, 257)
 
 
 def come_and_go(port, count, at_once=40):

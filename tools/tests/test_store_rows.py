@@ -9,10 +9,9 @@ import random
 import asking
 import pytest
 from asking import END, NOT_FOUND, OUT_OF_MEMORY, STORED, get, hit, hits, wire
-from replays import given
+from replays import given, in_parts
 
 SMALL = "--segment-size", 4096, "--segments", 8
-PIECE = 16_384
 LENIENT, IN_PLACE = "--lenient", "--update-in-place"
 
 
@@ -23,17 +22,34 @@ def put(key, exptime, value, flags=0):
 def must_answer(program, rows, *words):
     """Each request is given its answer, and the session nothing else."""
     rows = [(wire(request), wire(answer)) for request, answer in rows]
-    sent, at = b"".join(request for request, _ in rows), 0
-    pieces = [sent[place : place + PIECE] for place in range(0, len(sent), PIECE)]
-    answers = given(program, " ".join(map(str, words)), *pieces)
+    sent, at = in_parts(b"".join(request for request, _ in rows)), 0
+    answers = given(program, " ".join(map(str, words)), *sent)
     for request, answer in rows:
         assert answers[at : at + len(answer)] == answer, f"at the answer to {request[:60]!r}"
         at += len(answer)
     assert answers[at:] == b"", "more bytes than wanted"
 
 
+# By the words of timed rows what is sent, and what is given. The item has the flags 7, and behind
+# `hit` stands its cas number.
+WORDS = {
+    "set": ("set a 7 {} 1|x|", "STORED|"), "other": ("set other 0 {} 1|x|", "STORED|"),
+    "add": ("add a 7 {} 1|x|", "STORED|"), "add-none": ("add a 7 {} 1|x|", "NOT_STORED|"),
+    "touch": ("touch a {}|", "TOUCHED|"), "touch-none": ("touch a {}|", "NOT_FOUND|"),
+    "hit": ("gets a|", "VALUE a 7 1 {}|x|END|"), "miss": ("gets a|", "END|"),
+}
+
+
+def timed(text):
+    """Rows of such words, with the moment before each and the TTL or the cas number behind it."""
+    for moment, word, *number in map(str.split, text.split(",")):
+        request, answer = WORDS[word]
+        yield int(moment), request.format(*number), answer.format(*number)
+
+
 def must_answer_at(program, rows, *words):
     """So do requests at their moments: in each second between two of them a miss is asked for."""
+    rows = [*timed(rows)] if isinstance(rows, str) else rows
     now, all_rows = rows[0][0], []
     for moment, request, answer in rows:
         all_rows += [("get none|", END)] * (moment - now) + [(request, answer)]
@@ -57,35 +73,20 @@ def test_a_counter_that_counts_each_second_ends_with_its_segment(
     must_answer_at(program, rows, LENIENT, *words)
 
 
-SHOWN, TOUCHED = hit(b"a", b"x"), "TOUCHED|"
-A_MINUTE, A_MINUTE_MORE = "set a 0 60 1|x|", "touch a 60|"
 TOUCHES = {
-    "an item of 60 seconds ends at 1,056, and may stay until 1,072 is asked for": [
-        (1000, A_MINUTE, STORED), (1001, A_MINUTE_MORE, TOUCHED), (1011, A_MINUTE_MORE, TOUCHED),
-        (1055, "gets a|", "VALUE a 0 1 1|x|END|"), (1056, "get a|", END),
-    ],
-    "written anew at 1,012 it ends at 1,068": [
-        (1000, "set a 7 60 1|x|", STORED), (1012, A_MINUTE_MORE, TOUCHED),
-        (1067, "gets a|", "VALUE a 7 1 1|x|END|"), (1068, "get a|", END),
-    ],
-    "an item of 1,440 seconds may stay while at most 180 of them are missing": [
-        (1000, "set a 0 1440 1|x|", STORED), (1180, "touch a 1440|", TOUCHED),
-        (2439, "get a|", SHOWN), (2440, "get a|", END),
-        (3000, "set a 0 1440 1|x|", STORED), (3181, "touch a 1440|", TOUCHED),
-        (4620, "get a|", SHOWN), (4621, "get a|", END),
-    ],
-    "an item that is to end sooner doesn't stay": [
-        (1000, A_MINUTE, STORED), (1001, "touch a 9|", TOUCHED), (1008, "get a|", SHOWN),
-        (1009, "get a|", END),
-    ],
-    "nor is it touched after its new end": [
-        (1000, A_MINUTE, STORED), (1001, "touch a 9|", TOUCHED), (1008, "get a|", SHOWN),
-        (1009, A_MINUTE_MORE, NOT_FOUND),
-    ],
-    "one that is to have no deadline doesn't stay, until it is to end at once": [
-        (1010, A_MINUTE, STORED), (1011, "touch a 0|", TOUCHED), (9999, "touch a -1|", TOUCHED),
-        (10000, "get a|", END),
-    ],
+    "an item of 60 seconds ends at 1,056, and may stay until 1,072 is asked for":
+        "1000 set 60, 1001 touch 60, 1011 touch 60, 1055 hit 1, 1056 miss",
+    "written anew at 1,012 it ends at 1,068":
+        "1000 set 60, 1012 touch 60, 1067 hit 1, 1068 miss",
+    "an item of 1,440 seconds may stay while at most 180 of them are missing":
+        "1000 set 1440, 1180 touch 1440, 2439 hit 1, 2440 miss, "
+        "3000 set 1440, 3181 touch 1440, 4620 hit 2, 4621 miss",
+    "an item that is to end sooner doesn't stay":
+        "1000 set 60, 1001 touch 9, 1008 hit 1, 1009 miss",
+    "nor is it touched after its new end":
+        "1000 set 60, 1001 touch 9, 1008 hit 1, 1009 touch-none 60",
+    "one that is to have no deadline doesn't stay, until it is to end at once":
+        "1010 set 60, 1011 touch 0, 9999 touch -1, 10000 miss",
 }
 
 

@@ -59,3 +59,22 @@ def test_a_value_that_an_option_does_not_have_is_named(program, words):
     # (more may stand behind the values that there are)
     is_named = said == wanted or said.startswith(wanted) and b"[possible values" in said
     assert (status, out) == (2, b"") and is_named
+
+
+# By faults, sizes that don't fit each other.
+SIZES = {
+    b"bad geometry": ["--segment-size 5000"],
+    b"the largest item does not fit a segment": [
+        "--segment-size 4096 --max-item-size 4033", "--segment-size 65536 --max-item-size 65473",
+        "--segment-size 65536 --max-item-size 1048512"],
+}
+
+
+# (they are told before a bad address)
+@pytest.mark.parametrize("words, status", [
+    (SERVE, 2), ("serve --listen nothing", 2), ("replay /dev/null", 1)])
+def test_sizes_that_do_not_fit_are_told(program, words, status):
+    for fault, sizes in SIZES.items():
+        for size in sizes:
+            said = b"fault: %b\n" % fault
+            assert ended(program, *words.split(), *size.split()) == (status, b"", said)

@@ -319,10 +319,6 @@ class Cache:
 
     # ---- requests
 
-    def begin(self, now):
-        if self.pending is not None and self.pending <= now:
-            self.flush(0, now)
-
     def get(self, keys, with_cas, now):
         out = b""
         for key in keys:
@@ -401,7 +397,8 @@ class Cache:
         verb, *words = request
         if verb in LOCAL:
             return line_of(*request), LOCAL[verb]
-        self.begin(now)
+        if self.pending is not None and self.pending <= now:
+            self.flush(0, now)
         if verb == b"stats":
             return line_of(verb), self.told()
         line, answer = self.answer_uncounted(request, now)

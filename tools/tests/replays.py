@@ -3,6 +3,7 @@ import re
 
 import served
 from asking import wire
+from stats_of import by_name
 
 
 def ended(program, *words, file="/dev/stdin", script=b"", **how):
@@ -28,3 +29,21 @@ def given(program, words, *pieces):
     found = re.fullmatch(rb"0 1 (-|(?:[0-9a-f]{2})+)\n", out)
     assert found, out[:60]
     return bytes.fromhex(found[1].decode().strip("-"))
+
+
+def must_answer(program, words, rows):
+    """Each request is given its answer, of a `stats` these numbers among others, and the session
+    nothing else."""
+    rows, at = [(wire(request), answer) for request, answer in rows], 0
+    answers = given(program, words, *in_parts(b"".join(request for request, _ in rows)))
+    for turn, (request, answer) in enumerate(rows):
+        place = f"request {turn}, {request[:60]!r}"
+        if isinstance(answer, dict):
+            end = answers.index(b"END\r\n", at) + len(b"END\r\n")
+            found = by_name(answers[at:end])
+            assert {name: int(found[name]) for name in answer} == answer, place
+        else:
+            end = at + len(wire(answer))
+            assert answers[at:end] == wire(answer), place
+        at = end
+    assert answers[at:] == b"", "more bytes than wanted"

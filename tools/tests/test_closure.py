@@ -88,9 +88,11 @@ CLOSURES = {
     "call.rt:Thing::call#small": (
         ["low.Kinds.IsSmall", "low.Kinds.most", "low.Sizes.limit"],
         "3 definitions in 2 files, 6 lines", [], ["ℕ"]),
-    "call.rt:Thing::call#size": (["low.Sizes.Size"], "1 definitions in 1 files, 2 lines", [], ["ℕ"]),
-    "call.rt:last": (["low.Kinds.is_round"], "1 definitions in 1 files, 4 lines",
-                     [("low", "parts/shape", "Shape")], ["Bool", "true", "false"]),
+    "call.rt:Thing::call#size": (
+        ["low.Sizes.Size"], "1 definitions in 1 files, 2 lines", [], ["ℕ"]),
+    "call.rt:last": (
+        ["low.Kinds.is_round"], "1 definitions in 1 files, 4 lines",
+        [("low", "parts/shape", "Shape")], ["Bool", "true", "false"]),
 }
 
 

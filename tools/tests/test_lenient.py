@@ -37,19 +37,16 @@ def test_a_touch_and_a_gat_of_many_keys_change_their_lives(server):
     """TTLs are rounded down by up to two widths of 8 seconds, so one of 8 lasts for 1 to 8. The
     keys far apart are the last ones of a long line."""
     far = [b"far-%d" % number for number in range(2000)]
-
-    def shown(keys):
-        return b"".join(hits(key, b"x") for key in keys) + END
-
+    shown = [hits(key, b"x") for key in far]
     with server.connect() as stream:
         ask(stream, "set a 0 0 1|x|set b 0 9 1|y|touch a 8|touch b 100|",
             "STORED|STORED|TOUCHED|TOUCHED|")
         for key in far:
             stream.sendall(put(key, b"x", exptime=8, words=b" noreply"))
-        ask(stream, b"gat 100 %b\r\n" % b" ".join(far), shown(far))
-        ask(stream, "gat 8 far-0 none far-1999|", shown([far[0], far[-1]]))
+        ask(stream, b"gat 100 %b\r\n" % b" ".join(far), b"".join(shown) + END)
+        ask(stream, "gat 8 far-0 none far-1999|", shown[0] + shown[-1] + END)
         time.sleep(9.2)
-        ask(stream, b"get %b\r\n" % b" ".join(far), shown(far[1:-1]))
+        ask(stream, b"get %b\r\n" % b" ".join(far), b"".join(shown[1:-1]) + END)
         ask(stream, "get a b|", "VALUE b 0 1|y|END|")
 
 

@@ -16,7 +16,6 @@ from hypothesis import given, settings
 from hypothesis import strategies as st
 from model import (
     JOINS, LOCAL, SHOWN_AND_TOUCHED, STORES, TOO_LARGE, Cache, Item, refused)
-from stats_of import by_name
 
 FIRST_MOMENT = 1000
 
@@ -44,26 +43,14 @@ def spelled(cache, requests, tick):
 
 
 def must_be_answered_as(program, cache, requests, tick):
-    """One session is answered as the model answers that sends these requests, fifty in a piece, to
-    a store of its sizes and with its options."""
-    sent, wanted = zip(*spelled(cache, requests, tick))
+    """One session is answered as the model answers that sends these requests to a store of its
+    sizes and with its options."""
     words = f"--segment-size {cache.segment_size} --segments {cache.segments} --tick {tick}"
     words += f" --now {FIRST_MOMENT}" + " --lenient" * cache.is_lenient
     words += f" --max-item-size {cache.largest}" * (cache.largest != cache.segment_size // 8)
     words += " --evict least-read" * cache.is_least_read + " --exact-ttls" * cache.is_exact
     words += " --update-in-place" * cache.is_in_place
-    pieces, at = [b"".join(sent[it : it + 50]) for it in range(0, len(sent), 50)], 0
-    given_bytes = replays.given(program, words, *pieces)
-    for turn, answer in enumerate(wanted):
-        if isinstance(answer, dict):
-            end = given_bytes.index(b"END\r\n", at) + len(b"END\r\n")
-            found, at = by_name(given_bytes[at:end]), end
-            assert {name: int(found[name]) for name in answer} == answer, f"request {turn}, a stats"
-            continue
-        got = given_bytes[at : at + len(answer)]
-        assert got == answer, f"request {turn}, {sent[turn][:60]!r}"
-        at += len(answer)
-    assert given_bytes[at:] == b"", "more bytes than the model's"
+    replays.must_answer(program, words, spelled(cache, requests, tick))
 
 
 # ---- long runs

@@ -22,32 +22,6 @@ def test_each_crate_of_the_repository_has_a_line():
     assert set(prove.read_crates()) == crates
 
 
-LOG = """\
-== low: its tests
-logic=proved tests=3 functions=9 main=Abort
-rt: low: its tests are proved
-== low
-fn low::echo: proved
-logic=proved functions=7 sum=5f
-rt: low proved
-== high
-fn high::main: not proved
-logic=not-proved functions=2
-rt: high NOT PROVED
-rt: other is kept: an earlier run on this machine proved the same files
-3 passed, 1 failed
-"""
-
-
-def test_a_log_says_what_was_proved_of_each_crate_and_not_of_its_tests(tmp_path):
-    (tmp_path / "log").write_text(LOG)
-    found, last = prove.verdicts_of_log(tmp_path / "log")
-    assert found["low"] == "logic=proved functions=7 sum=5f"
-    assert "high" not in found
-    assert found["other"] == "kept: an earlier run on this machine proved the same files"
-    assert last == "3 passed, 1 failed"
-
-
 def test_the_program_names_its_version_and_the_logic_that_it_is_proved_with(program):
     lines = prove.output_of(program, "--version").splitlines()
     assert lines[0] == f"segcached {version()}"
@@ -91,6 +65,7 @@ RT = """#!/bin/bash
 grep -rq SLOW crates && { echo "rt: low proved"; sleep 60; }
 grep -rq WRONG crates && { echo "rt: low NOT PROVED"; echo "0 passed, 2 failed"; exit 1; }
 for name in low high; do
+  printf '%s\\n' "== $name: its tests" "logic=proved tests=3" "rt: $name: its tests are proved"
   printf '%s\\n' "== $name" "logic=proved functions=1" "rt: $name proved"
 done
 mkdir -p crates/high/out
@@ -136,10 +111,10 @@ def repository(unproved):
     return unproved
 
 
-@pytest.mark.parametrize("verdict", ["proved", "is kept: an earlier run"])
+@pytest.mark.parametrize("verdict, recorded", [
+    ("proved", "logic=proved functions=1"), ("is kept: an earlier run", "kept: an earlier run")])
 def test_the_crates_of_the_program_alone_are_proved_without_their_wrong_bodies(
-        unproved, capsys, verdict):
-    """One that an earlier run proved is counted."""
+        unproved, capsys, verdict, recorded):
     prove.write(unproved / "kit" / "rt", RT.replace("$name proved", f"$name {verdict}"))
     assert prove.prove() == 0
     proved = re.findall(r"^ +(\d of \d  \w+) ", capsys.readouterr().out, re.MULTILINE)
@@ -148,7 +123,7 @@ def test_the_crates_of_the_program_alone_are_proved_without_their_wrong_bodies(
     assert "with high low and src" in log and {"low: ", "high: low bytes"} < set(log)
     assert "Handles allowed: none." in log
     assert log[-1] == "2 passed, 0 failed"
-    assert prove.is_kept()
+    assert prove.is_kept() and prove.read_record(prove.PROGRAM)["low"] == recorded
     # (a copy of sources, which `rt ci` of the repository would refuse, isn't left)
     assert {it.parent.name for it in unproved.rglob("*.rt")} == {"src"}
     assert not (unproved / "out").exists()
@@ -158,9 +133,12 @@ def test_the_record_says_what_was_proved_of_which_files_and_by_which_kit(reposit
     record = prove.read_record(prove.PROGRAM)
     assert record["files"] == prove.output_of("git", "rev-parse", "HEAD^{tree}", folder=repository)
     assert record["commit"] == prove.output_of("git", "rev-parse", "HEAD", folder=repository)
-    assert (record["kit"], record["low"]) == ("a kit", "logic=proved functions=1")
+    assert record["kit"] == "a kit"
     assert record["run"] == "2 passed, 0 failed, with no tests and no wrong bodies"
     assert read(f"{repository}/crates/high/out/PROVED").startswith("high 1.2.3\n")
+    prove.write(repository / "log", "== low\nlogic=not-proved functions=2\nrt: low NOT PROVED\n")
+    with pytest.raises(prove.Trouble, match="low isn't proved"):
+        prove.write_record(repository / "log", False)
 
 
 def test_there_is_no_record_of_files_that_changed_while_they_were_proved(unproved, monkeypatch):
@@ -218,21 +196,17 @@ def test_free_memory_is_that_of_the_machine_or_of_its_group(tmp_path):
     for limits, free in (([], 16), ([limit], 4), ([unlimited, none], 16)):
         groups = [(it, stat, "anon") for it in limits]
         assert prove.free_gigabytes(memory, groups) == free
-
-
-def test_memory_for_less_than_two_proofs_is_said():
     assert prove.lacks_memory(9.0) is None
-    assert prove.lacks_memory(8.9) == "8.9 GB of memory are free, and proving needs 9 GB"
 
 
 @pytest.fixture
 def tree(tmp_path):
-    """A repository in which nothing is proved, on a machine with 5.5 GB of free memory."""
+    """A repository in which nothing is proved, on a machine with 8.9 GB of free memory."""
     for name in ("tools", "packaging"):
         ignored = shutil.ignore_patterns("tests")
         shutil.copytree(f"{TOP}/{name}", tmp_path / name, ignore=ignored)
     tool = tmp_path / "tools" / "prove.py"
-    tool.write_text(tool.read_text().replace("/proc/meminfo", memory_file(tmp_path, 5.5)))
+    tool.write_text(tool.read_text().replace("/proc/meminfo", memory_file(tmp_path, 8.9)))
     prove.write(tmp_path / "crates.txt", "segcached:\n")
     return tmp_path
 
@@ -244,7 +218,7 @@ OTHER = "rattle-kit-99x logic 0000000000000000"
 @pytest.mark.parametrize("kit, said", [
     (None, "there is no rt on the path: segcached is proved with a Rattle kit of '{}'"),
     (OTHER, f"the rt on the path has another logic, '{OTHER}': segcached is proved with '{{}}'"),
-    ("rattle-kit-99x {}", "5.5 GB of memory are free, and proving needs 9 GB"),
+    ("rattle-kit-99x {}", "8.9 GB of memory are free, and proving needs 9 GB"),
 ], ids=["no kit", "another logic", "little memory"])
 def test_a_run_that_lacks_something_says_so_in_one_line(tree, kit, said):
     if kit:

@@ -1,6 +1,6 @@
-"""`segcached replay`: faults of scripts and of files, several workers, requests that these hand over
-in batches, ports with faults, and scripts of 16 MB: what is printed, how long it takes, and how much
-memory.
+"""`segcached replay`: faults of scripts and of files, several workers, ports with faults, scripts of
+16 MB, and requests that are handed over in batches: what is printed, how long it takes, and how
+much memory.
 
 Each large one ends within SECONDS, which is many times what it takes on a quiet machine and far
 below what it takes if the port walks over all events for each one. Sessions that are opened and say
@@ -204,7 +204,7 @@ def test_each_worker_is_given_the_answers_to_its_requests(program, workers):
 
 @pytest.mark.parametrize("evict", ["oldest", "least-read"])
 def test_each_set_is_stored_while_segments_are_merged(program, evict):
-    """The keys have eight bytes that look random, and the values a hundred."""
+    # (these look random)
     keys = ((number * 0x9E3779B97F4A7C15 % 2**64).to_bytes(8, "little") for number in range(SETS))
     sets = b"".join(put(key.hex()[:8].encode(), b"v" * 100) for key in keys)
     words = f"--evict {evict} --segment-size 65536 --segments 64"

@@ -11,7 +11,7 @@ import pytest
 import tries
 from asking import (
     END, MISS, SET_AND_GET, SET_AND_GET_ANSWER, STORED, TOO_LARGE, ask, ask_set_and_get, beside,
-    hit, hits, is_same, opened, put, seconds_to)
+    hit, is_same, opened, put, seconds_to)
 from served import comes_true, read_exactly, read_till_closed, read_to_end, reset, together
 from stats_of import wait_for
 
@@ -186,12 +186,11 @@ def test_a_client_that_sends_no_more_is_closed_with_its_last_answer(
     """(A timer of 20 milliseconds would be in all of them.)"""
     took, server = [], serve("--workers", "1", "--sessions", "11")
     for _ in range(11):
-        with server.connect() as stream:
-            stream.sendall(requests)
-            stream.shutdown(socket.SHUT_WR)
-            began = time.monotonic()
-            assert read_to_end(stream) == answers
-            took.append(time.monotonic() - began)
+        stream, = opened(server, 1, requests)
+        stream.shutdown(socket.SHUT_WR)
+        began = time.monotonic()
+        assert read_to_end(stream) == answers
+        took.append(time.monotonic() - began)
     assert server.process.wait(20) == 0
     assert min(took) < most
 
@@ -199,12 +198,11 @@ def test_a_client_that_sends_no_more_is_closed_with_its_last_answer(
 def test_a_late_reader_that_sends_no_more_gets_all_answers(serve):
     """24 MB of answers, of which the server may keep a part alone while nobody reads."""
     value, server = b"v" * 60_000, serve("--workers", "1", "--segment-size", "1048576")
-    with server.connect(30, receive_buffer=65536) as stream:
-        ask(stream, put(b"big", value), STORED)
-        stream.sendall(b"get big\r\n" * 400)
-        stream.shutdown(socket.SHUT_WR)
-        time.sleep(1)
-        assert is_same(read_to_end(stream), hit(b"big", value) * 400)
+    stream = server.connect(30, receive_buffer=65536)
+    stream.sendall(put(b"big", value) + b"get big\r\n" * 400)
+    stream.shutdown(socket.SHUT_WR)
+    time.sleep(1)
+    assert is_same(read_to_end(stream), STORED + hit(b"big", value) * 400)
 
 
 def shut(server):
@@ -249,23 +247,20 @@ def seconds_held(server):
 def seconds_of_sending(server):
     """How long one that quits and goes on is read: 16 MiB, and what waits in the system's buffers,
     tens of MB at most, are sent. After two seconds it is closed, however little came."""
-    sent, piece = 0, bytes(1 << 16)
-    with shut(server) as stream:
-        began = time.monotonic()
-        with contextlib.suppress(ConnectionResetError, BrokenPipeError):
-            while sent < 256 << 20:
-                sent += stream.send(piece)
-        took = time.monotonic() - began
+    sent, stream, began = 0, shut(server), time.monotonic()
+    with contextlib.suppress(ConnectionResetError, BrokenPipeError):
+        while sent < 256 << 20:
+            sent += stream.send(bytes(1 << 16))
     assert sent < 128 << 20
-    return took
+    return time.monotonic() - began
 
 
 def seconds_until_closed(server):
     """How long the stream of a session that was shut stays open once its peer has closed it."""
-    held = server.descriptors()
-    with shut(server):
-        # (until nothing of it is left to be read)
-        time.sleep(0.2)
+    held, stream = server.descriptors(), shut(server)
+    # (until nothing of it is left to be read)
+    time.sleep(0.2)
+    stream.close()
     began = time.monotonic()
     comes_true(lambda: server.descriptors() <= held)
     return time.monotonic() - began
@@ -274,8 +269,8 @@ def seconds_until_closed(server):
 def seconds_to_send(server):
     """How long a client takes to send bytes that nobody wants, after its session was shut: more
     than the system's buffers hold, and less than is read of it."""
-    with shut(server) as stream, contextlib.suppress(OSError):
-        return seconds_to(stream, bytes(14 << 20), b"")
+    with contextlib.suppress(OSError):
+        return seconds_to(shut(server), bytes(14 << 20), b"")
     return float("inf")
 
 

@@ -8,26 +8,15 @@ import random
 
 import asking
 import pytest
-from asking import END, NOT_FOUND, OUT_OF_MEMORY, STORED, get, hit, hits, wire
-from replays import given, in_parts
+from asking import END, NOT_FOUND, OUT_OF_MEMORY, STORED, get, hit, hits
+from replays import must_answer
 
-SMALL = "--segment-size", 4096, "--segments", 8
+SMALL = "--segment-size 4096 --segments 8"
 LENIENT, IN_PLACE = "--lenient", "--update-in-place"
 
 
 def put(key, exptime, value, flags=0):
     return asking.put(key, value, flags=flags, exptime=exptime)
-
-
-def must_answer(program, rows, *words):
-    """Each request is given its answer, and the session nothing else."""
-    rows = [(wire(request), wire(answer)) for request, answer in rows]
-    sent, at = in_parts(b"".join(request for request, _ in rows)), 0
-    answers = given(program, " ".join(map(str, words)), *sent)
-    for request, answer in rows:
-        assert answers[at : at + len(answer)] == answer, f"at the answer to {request[:60]!r}"
-        at += len(answer)
-    assert answers[at:] == b"", "more bytes than wanted"
 
 
 # By the words of timed rows what is sent, and what is given. The item has the flags 7, and behind
@@ -47,21 +36,20 @@ def timed(text):
         yield int(moment), request.format(*number), answer.format(*number)
 
 
-def must_answer_at(program, rows, *words):
+def must_answer_at(program, words, rows):
     """So do requests at their moments: in each second between two of them a miss is asked for."""
     rows = [*timed(rows)] if isinstance(rows, str) else rows
     now, all_rows = rows[0][0], []
     for moment, request, answer in rows:
         all_rows += [("get none|", END)] * (moment - now) + [(request, answer)]
         now = moment + 1
-    must_answer(program, all_rows, "--now", rows[0][0], "--tick", 1, *words)
+    must_answer(program, f"--now {rows[0][0]} --tick 1 {words}", all_rows)
 
 
 @pytest.mark.parametrize("last", [("incr n 1|", NOT_FOUND), ("get n|", END)],
                          ids=["counted", "shown"])
 @pytest.mark.parametrize("words, before, seconds", [
-    ([IN_PLACE], 0, 56), ([IN_PLACE], 7, 49), ([IN_PLACE], 8, 56), ([], 0, 8), ([], 7, 8),
-])
+    (IN_PLACE, 0, 56), (IN_PLACE, 7, 49), (IN_PLACE, 8, 56), ("", 0, 8), ("", 7, 8)])
 def test_a_counter_that_counts_each_second_ends_with_its_segment(
         program, words, before, seconds, last):
     """A segment takes items of 60 seconds for 8 seconds, and its items live for 56; another item
@@ -70,7 +58,7 @@ def test_a_counter_that_counts_each_second_ends_with_its_segment(
     other = [(1000 - before, "set other 0 60 1|x|", STORED)] if before else []
     counts = [(1000 + second, "incr n 1|", f"{second}|") for second in range(1, seconds)]
     rows = other + [(1000, "set n 7 60 1|0|", STORED), *counts, (1000 + seconds, *last)]
-    must_answer_at(program, rows, LENIENT, *words)
+    must_answer_at(program, f"{LENIENT} {words}", rows)
 
 
 TOUCHES = {
@@ -92,7 +80,7 @@ TOUCHES = {
 
 @pytest.mark.parametrize("rows", TOUCHES.values(), ids=TOUCHES)
 def test_a_touch_leaves_an_item_or_writes_it_anew(program, rows):
-    must_answer_at(program, rows, LENIENT)
+    must_answer_at(program, LENIENT, rows)
 
 
 def key(number):
@@ -107,7 +95,7 @@ def test_a_flush_makes_room(program):
     """64 items fill all segments, and are all forgotten: the next one is found alone."""
     *rows, last = [(put(key(number), 0, b"v" * 476), STORED) for number in range(1, 66)]
     rows += [("flush_all|", "OK|"), last, ("get k064 k065|", hit(b"k065", b"v" * 476))]
-    must_answer(program, rows, *SMALL)
+    must_answer(program, SMALL, rows)
 
 
 @pytest.mark.parametrize("writes, others, forgotten", [
@@ -121,7 +109,7 @@ def test_where_segments_are_filled_worst_one_item_too_many_forgets_the_oldest(
     values = {it: b"v" * others.get(it % 8, 484) for it in range(1, writes + 1)}
     rows = [(put(key(it), 0, value), STORED) for it, value in values.items()]
     rows += [found(it, None if it <= forgotten else value) for it, value in values.items()]
-    must_answer(program, rows, *SMALL)
+    must_answer(program, SMALL, rows)
 
 
 def deleted(there, number):
@@ -160,26 +148,26 @@ def test_all_that_is_written_within_the_bound_is_found(
         program, segment_size, segments, longest, largest, keys):
     bound = (segments - 1) * (segment_size - (largest or segment_size // 8))
     rows = random_rows(random.Random(segment_size ^ longest).randrange, keys, longest, bound)
-    words = ["--segment-size", segment_size, "--segments", segments]
-    words += ["--max-item-size", largest] * bool(largest)
+    words = f"--segment-size {segment_size} --segments {segments}"
+    words += f" --max-item-size {largest}" * bool(largest)
     # (strictly a data block has 131,072 bytes at most)
-    must_answer(program, rows, *words, *[LENIENT] * (longest > 131_072))
+    must_answer(program, words + f" {LENIENT}" * (longest > 131_072), rows)
 
 
-LARGE = "--segment-size", 1_048_576, "--segments", 8
+LARGE = "--segment-size 1048576 --segments 8"
 # The most bytes of all hits of one lenient answer, as they are shown, without the `END` after them.
 MOST_ANSWER = 8_388_608
 
 
 @pytest.mark.parametrize("verb", [b"get", b"gets"])
 @pytest.mark.parametrize("dialect, count, length", [
-    *itertools.product([[LENIENT]], (1, 2, 20, 200, 1000), (1, 100, 10_000, 100_000)),
+    *itertools.product([LENIENT], (1, 2, 20, 200, 1000), (1, 100, 10_000, 100_000)),
     # (128 hits of 65,536 bytes, as `gets` and as `get` shows them)
-    *itertools.product([[LENIENT], []], [128], (65_515, 65_517)),
+    *itertools.product([LENIENT, ""], [128], (65_515, 65_517)),
     # (as many keys as a lenient line has, and a hundred large values)
-    ([LENIENT], 16_000, 1), ([LENIENT], 100, 50_000),
+    (LENIENT, 16_000, 1), (LENIENT, 100, 50_000),
     # (33 MB, as a strict answer has no limit)
-    ([], 257, 131_000),
+    ("", 257, 131_000),
 ])
 def test_memory_is_out_for_no_reply_within_the_limit(program, dialect, count, length, verb):
     """So many hits, and the same with one that is a byte longer; after that a hit is shown."""
@@ -191,4 +179,4 @@ def test_memory_is_out_for_no_reply_within_the_limit(program, dialect, count, le
             (count - 1) * b" a" + b" b", (count - 1) * one + other), (b" a", one):
         is_out = dialect and len(shown) > MOST_ANSWER
         rows.append((verb + keys + b"\r\n", OUT_OF_MEMORY if is_out else shown + END))
-    must_answer(program, rows, *LARGE, *dialect)
+    must_answer(program, f"{LARGE} {dialect}", rows)

@@ -44,7 +44,6 @@ def test_the_probe_says_whether_it_answers(program, listen, tmp_path):
     ["127.0.0.1:{0}"], ["[::]:{0}"], ["unix:{1}"], ["unix:{1}", "127.0.0.1:{0}"],
 ], ids=["port", "all addresses", "path", "path and port"])
 def test_in_a_container_the_probe_finds_process_1(serve, apart, listen, tmp_path):
-    """The server is process 1 of a container of its own."""
     command, port = apart("--pid", "--mount-proc", "--fork", "--kill-child"), served.free_port()
     first, *others = (it.format(port, tmp_path / "cache") for it in listen)
     server = serve(*(f"--listen={it}" for it in others), listen=first, under=command)

@@ -6,19 +6,18 @@ second before it is there. (The waits are in two tests, of five and ten seconds.
 """
 import itertools
 import os
-import tempfile
 import time
 
 import pytest
 from asking import END, MISS, NOT_FOUND, STORED, ask, get, hit, put
+from replays import must_answer
 from served import Client, together, with_faketime
-from test_store_rows import IN_PLACE, LENIENT, SMALL, found, key, must_answer, must_answer_at
+from test_store_rows import IN_PLACE, LENIENT, SMALL, found, key, must_answer_at
 
 EXACT = "--exact-ttls"
-LEAST_READ = "--evict", "least-read"
+LEAST_READ = "--evict least-read"
 BY_ALL_WORDS = pytest.mark.parametrize("words", [
-    (), LEAST_READ, (LENIENT, IN_PLACE), (LENIENT, IN_PLACE, *LEAST_READ)], ids=" ".join)
-BY_RULES = pytest.mark.parametrize("words", [(), LEAST_READ], ids=" ".join)
+    "", LEAST_READ, f"{LENIENT} {IN_PLACE}", f"{LENIENT} {IN_PLACE} {LEAST_READ}"])
 
 
 @BY_ALL_WORDS
@@ -27,20 +26,20 @@ def test_an_item_is_there_until_the_second_before_its_ttl_ends(program, ttl, wor
     """Another item of the same TTL opens the segment five seconds before."""
     shown = f", {999 + ttl} hit 2" * (ttl > 1)
     rows = f"995 other {ttl}, 1000 add {ttl}{shown}, {1000 + ttl} miss"
-    must_answer_at(program, rows, EXACT, *words)
+    must_answer_at(program, f"{EXACT} {words}", rows)
 
 
 def test_a_ttl_above_97_days_is_kept(program):
     """Twelve million seconds are 139 days. Each request comes after a million more."""
     shown = [("get a|", "VALUE a 0 1|x|END|")] * 11
     rows = [("set a 0 1012000000 1|x|", STORED), *shown, ("get a|", END)]
-    must_answer(program, rows, "--now", 1_000_000_000, "--tick", 1_000_000, EXACT)
+    must_answer(program, f"--now 1000000000 --tick 1000000 {EXACT}", rows)
 
 
 @pytest.mark.parametrize("now, seconds", [(2**48 - 21, 20), (2**48 - 20, 16)], ids=["below", "at"])
 def test_deadlines_from_2_to_the_48th_on_are_rounded_down(program, now, seconds):
     rows = f"{now} set 20, {now + seconds - 1} hit 1, {now + seconds} miss"
-    must_answer_at(program, rows, EXACT)
+    must_answer_at(program, EXACT, rows)
 
 
 @BY_ALL_WORDS
@@ -51,7 +50,7 @@ def test_a_counter_that_counts_each_second_ends_with_its_ttl(program, ttl, words
     for moment in range(1000, 1000 + 4 * (ttl + 1), ttl + 1):
         rows += [(moment, "incr n 1|", NOT_FOUND), (moment + 1, f"add n 0 {ttl} 1|1|", STORED)]
         rows += [(moment + second, "incr n 1|", f"{second}|") for second in range(2, ttl + 1)]
-    must_answer_at(program, rows, EXACT, *words)
+    must_answer_at(program, f"{EXACT} {words}", rows)
 
 
 EACH_MINUTE = ", ".join(f"{1000 + 60 * minute} touch 1440" for minute in range(1, 41))
@@ -75,14 +74,15 @@ LIVES = {
 @BY_ALL_WORDS
 @pytest.mark.parametrize("rows", LIVES.values(), ids=LIVES)
 def test_a_ttl_counts_from_the_moment_at_which_it_is_asked_for(program, rows, words):
-    is_lenient = "touch" in rows and LENIENT not in words
-    must_answer_at(program, rows, *[LENIENT] * is_lenient, EXACT, *words)
+    if "touch" in rows and LENIENT not in words:
+        words += f" {LENIENT}"
+    must_answer_at(program, f"{EXACT} {words}", rows)
 
 
 LARGE = b"v" * 484
 
 
-@BY_RULES
+@pytest.mark.parametrize("words", ["", LEAST_READ])
 def test_items_that_are_written_minutes_apart_share_a_segment(program, words):
     """One of them is written each ten seconds, so each would be in another segment if one took
     items for eight seconds only. The other seven segments have eight lasting items each."""
@@ -92,7 +92,7 @@ def test_items_that_are_written_minutes_apart_share_a_segment(program, words):
     rows += [(1500, put(key(it), LARGE), STORED) for it in lasting]
     rows += [(1500, *found(it, b"x")) for it in timed]
     rows += [(1500, *found(it, LARGE)) for it in lasting]
-    must_answer_at(program, rows, *SMALL, EXACT, *words)
+    must_answer_at(program, f"{SMALL} {EXACT} {words}", rows)
 
 
 @pytest.mark.parametrize("moment, is_freed", [
@@ -107,18 +107,18 @@ def test_a_segment_is_freed_when_the_last_of_its_items_has_ended(program, moment
     rows += [(moment + 2, "get b|", END if moment + 2 >= 3171 else hit(b"b", b"x"))]
     rows += [(moment + 2 + it, *found(it, LARGE if is_freed or it > 24 else None))
              for it in range(1, 58)]
-    must_answer_at(program, rows, *SMALL, EXACT)
+    must_answer_at(program, f"{SMALL} {EXACT}", rows)
 
 
 def test_a_merge_keeps_each_deadline(program):
-    """64 items fill eight segments. The next write has the first two merged, and the newest of theirs
-    stay, those of 9 to 16. Each item ends at a second of its own."""
+    """64 items fill eight segments. The next write has the first two merged, and the newest of
+    theirs stay, those of 9 to 16. Each item ends at a second of its own."""
     numbers = range(1, 66)
     rows = [(1087 + it, put(key(it), LARGE, exptime=2060 + it), STORED) for it in numbers]
     rows += [(1152 + it, *found(it, LARGE if it > 8 else None)) for it in numbers]
     for it in (9, 10, 16, 17, 65):
         rows += [(3146 + 2 * it, *found(it, LARGE)), (3147 + 2 * it, *found(it, None))]
-    must_answer_at(program, rows, *SMALL, EXACT, *LEAST_READ)
+    must_answer_at(program, f"{SMALL} {EXACT} {LEAST_READ}", rows)
 
 
 # ---- of a served program
@@ -129,9 +129,7 @@ AT = 2_000_000_000
 
 def stepped(serve, folder, *words, **variables):
     """A server of one worker, and what sets its clocks on by seconds beside those that pass."""
-    number, file = tempfile.mkstemp(dir=folder)
-    os.close(number)
-    offset = AT - time.time()
+    file, offset = f"{folder}/{time.monotonic_ns()}", AT - time.time()
 
     def step(seconds):
         # (in one step, so that no reading finds half of it)
@@ -154,7 +152,6 @@ def must_live(client, began, key, second, there_before, gone_from):
 
 @pytest.mark.parametrize("ttl", [1, 2, 5, 8, 15, 30, 60, 600])
 def test_items_of_a_served_program_live_as_long_less_at_most_a_second(serve, tmp_path, ttl):
-    """They are stored at eight moments of a second."""
     began, phases = time.monotonic(), {b"k%d" % at: at / 8 for at in range(8)}
     server, step = stepped(serve, tmp_path, EXACT)
     client = Client(server)
@@ -166,10 +163,10 @@ def test_items_of_a_served_program_live_as_long_less_at_most_a_second(serve, tmp
         must_live(client, began, name, second, ttl - 1, ttl)
 
 
-@pytest.mark.parametrize("words", [(EXACT,), (EXACT, IN_PLACE, *LEAST_READ)], ids=" ".join)
+@pytest.mark.parametrize("words", [EXACT, f"{EXACT} {IN_PLACE} {LEAST_READ}"])
 def test_a_limit_of_100_a_minute_lets_100_of_300_pass(serve, tmp_path, words):
     """It counts each request in a counter of a minute, which it adds where there is none."""
-    server, step = stepped(serve, tmp_path, *words)
+    server, step = stepped(serve, tmp_path, *words.split())
     client, passed, began = Client(server), 0, time.monotonic()
     for number in range(300):
         step(number * 57 // 300)

@@ -26,7 +26,6 @@ SIZES = ["--workers", "1", "--segment-size", "1048576", "--segments", "64"]
 
 
 def test_strict_outputs_above_64_mib_are_whole(program):
-    """24 sessions are answered 7.9 MB each."""
     script = Script(1)
     sessions = [script.open() for _ in range(24)]
     script.send(1, put(b"large", LARGE, words=b" noreply"))
@@ -51,7 +50,6 @@ def comes_whole(stream, count, rate, most):
 
 
 def test_clients_that_read_steadily_are_answered_whole(serve, storage):
-    """30 of them are answered 7.9 MB each, which is 236 MB."""
     server = serve("--lenient", *storage, *SIZES)
     write_large(server)
     streams = [asks_for(server, 60) for _ in range(30)]
@@ -84,9 +82,8 @@ def test_a_lenient_client_that_takes_nothing_for_ten_seconds_is_closed_for_one_t
     _, small, large = beside_stalled(server, 16, 60)
     start = time.monotonic()
     waits = waits_until_answered(small, large, 40)
-    ended = time.monotonic()
+    assert time.monotonic() - before > 9 and time.monotonic() - start < 30
     assert is_same(read_exactly(large, len(MANY_HITS)), MANY_HITS)
-    assert ended - before > 9 and ended - start < 30, (ended - before, ended - start)
     assert sorted(waits)[len(waits) * 9 // 10] < 0.05
     found = numbers(small)
     assert 1 <= found["closed_unread"] <= 16

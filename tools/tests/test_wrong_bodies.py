@@ -1,8 +1,10 @@
 """Tests of tools/wrong_bodies.py over a small crate: which edits it passes, which it fails, and
-what it keeps. Each of a few checks takes some seconds.
+what it keeps; and of their table, docs/EDITS.md, which says what the edits say, and names a promise
+for each. Each of a few checks takes some seconds.
 """
 import os
 import re
+import types
 
 import edited_copies
 import edits
@@ -10,7 +12,7 @@ import prove
 import pytest
 import wrong_bodies
 from prove import write
-from served import TOP
+from served import TOP, read
 
 SOURCE = """#![tactic(auto)]
 
@@ -277,3 +279,34 @@ def test_functions_are_found_with_their_paths():
                           "part::f"}
     body = SOURCE.split("\n")[found["least"].first : found["least"].last + 1]
     assert body == ["{", f"    {LEAST}", "}"]
+
+
+# ---- the table
+
+def test_the_page_says_what_the_edits_say():
+    found, pages = list(edits.edits()), [read(f"{TOP}/docs/{it}.md") for it in ("EDITS", "PROOFS")]
+    assert len(found) > 100
+    assert edits.amiss(found, *pages) == []
+
+
+def test_what_is_amiss_is_said():
+    found = [("low", "first", ("Part::call", "it does nothing")), ("low", "second", None),
+             ("top", "third", ("run", "it runs twice"))]
+    assert edits.amiss(found, "", "`call` and `Part` run") == [
+        "low/second doesn't begin with '# CALL: WRONG BODY'",
+        "top/third: docs/PROOFS.md has no run",
+        "docs/EDITS.md isn't what the edits say: tools/edits.py write",
+    ]
+
+
+def test_an_edit_that_cannot_be_placed_is_said():
+    crates = [types.SimpleNamespace(name="low", bad={"first": "it changes nothing"})]
+    assert edits.unplaced(crates) == ["low/first: it changes nothing"]
+
+
+def test_an_edits_first_line_is_read(tmp_path):
+    rest = "file: src/a.rt\nold: b\nnew: c\n"
+    for name, head in (("first", "# Part::call: it says `no`: twice\n"), ("second", "")):
+        write(tmp_path / "crates" / "low" / "wrong" / f"{name}.edit", head + rest)
+    says = "Part::call", "it says `no`: twice"
+    assert list(edits.edits(tmp_path)) == [("low", "first", says), ("low", "second", None)]

@@ -305,9 +305,3 @@ def test_a_port_that_it_may_not_use_is_refused(program):
 def test_without_descriptors_for_all_that_listens_it_is_refused(program, descriptors):
     under = ["prlimit", f"--nofile={descriptors}"]
     must_not_listen(program, PORT, "too few descriptors", under=under)
-
-
-def test_where_the_first_line_cannot_be_written_it_ends(program):
-    with open("/dev/full", "wb") as full_device:
-        status, _, said = ended(program, "serve", "--listen", PORT, stdout=full_device)
-    assert status == 1 and said.splitlines()[-1] == b"fault: cannot write"

@@ -52,12 +52,6 @@ def test_a_file_that_cannot_be_read_is_a_fault(program, tmp_path, file, shown):
     assert ended(program, file=file, cwd=tmp_path) == fault(b"cannot read " + shown)
 
 
-def test_output_that_cannot_be_written_is_a_fault(program):
-    with open("/dev/full", "wb") as full:
-        found = ended(program, script=b"open 0 1\n", stdout=full)
-    assert found == (1, None, b"fault: cannot write\n")
-
-
 def digits(text):
     return wire(text).hex().encode()
 

@@ -37,7 +37,7 @@ def timed(text):
 
 
 def must_answer_at(program, words, rows):
-    """So do requests at their moments: in each second between two of them a miss is asked for."""
+    """So are rows with moments, or timed ones: in each second between two a miss is asked for."""
     rows = [*timed(rows)] if isinstance(rows, str) else rows
     now, all_rows = rows[0][0], []
     for moment, request, answer in rows:

@@ -1,5 +1,6 @@
 """The words of the program: what shows help, what is refused with status 2, and the text that names
-a number out of its range. (A server that starts is killed, which is a failure.)"""
+a number out of its range; and its end where it can't print. (A server that starts is killed, which
+is a failure.)"""
 import pytest
 from served import ended
 
@@ -78,3 +79,12 @@ def test_sizes_that_do_not_fit_are_told(program, words, status):
         for size in sizes:
             said = b"fault: %b\n" % fault
             assert ended(program, *words.split(), *size.split()) == (status, b"", said)
+
+
+@pytest.mark.parametrize("words", [SERVE, "replay /dev/stdin"])
+def test_where_it_cannot_print_it_ends(program, words):
+    with open("/dev/full", "wb") as full:
+        status, _, said = ended(program, *words.split(), input=b"open 0 1\n", stdout=full)
+    # (a server says first how it serves)
+    lines = [it for it in said.splitlines() if not it.startswith(b"segcached: ")]
+    assert (status, lines) == (1, [b"fault: cannot write"])

@@ -91,7 +91,7 @@ def filled(serve, *words, listen=PORT):
 
 @pytest.fixture(params=[PORT, "unix:{}/cache"], ids=["port", "path"])
 def full(serve, request, tmp_path):
-    return filled(serve, "--lenient", listen=request.param.format(tmp_path))
+    return filled(serve, "--lenient", listen=request.param.format(tmp_path))[0]
 
 
 def are_silent(streams):
@@ -130,7 +130,7 @@ def test_one_for_which_there_is_no_room_is_told_so(serve, words):
 def test_probes_get_in_while_it_is_full(full, request_line, answer):
     """Once all places are taken a further one gets in when one of the probes has gone."""
     # (they connect, and ask later)
-    *probes, last = opened(full[0], PROBES + 1)
+    *probes, last = opened(full, PROBES + 1)
     time.sleep(0.2)
     for stream in probes:
         ask(stream, request_line, answer)
@@ -141,18 +141,16 @@ def test_probes_get_in_while_it_is_full(full, request_line, answer):
 
 
 def test_another_request_gets_in_no_sooner(full):
-    server, _ = full
-    opened(server, WAITING)
-    stream, = opened(server, 1, b"get healt\r\nstats\r\nget health\r\n")
+    opened(full, WAITING)
+    stream, = opened(full, 1, b"get healt\r\nstats\r\nget health\r\n")
     assert read_to_end(stream) == TOO_MANY
 
 
 def test_the_probe_passes_a_full_server(full):
     """Also while connections beyond those that wait come without end."""
-    server, _ = full
     for count in (WAITING, 300):
-        opened(server, count)
-        assert subprocess.run(server.probe(), timeout=20).returncode == 0
+        opened(full, count)
+        assert subprocess.run(full.probe(), timeout=20).returncode == 0
 
 
 @pytest.mark.parametrize("connections, workers", [(3, 1), (3, 2), (3000, 1)])
@@ -277,14 +275,10 @@ def test_a_port_that_another_server_or_program_has_is_refused(program, serve, pa
                 must_not_listen(program, f"127.0.0.1:{port}", "the port is taken", words=words)
 
 
-def test_a_socket_on_which_another_program_listens_stays(serve, program, path):
-    server = serve(listen=f"unix:{path}")
+def test_what_stands_at_a_path_stays(serve, program, path, tmp_path):
+    server, file, link = serve(listen=f"unix:{path}"), tmp_path / "file", tmp_path / "link"
     must_not_listen(program, f"unix:{path}", "another program listens there")
     ask(server.connect(), ASKED, END)
-
-
-def test_other_files_stay(program, tmp_path):
-    file, link = tmp_path / "file", tmp_path / "link"
     file.write_text("kept", encoding="ascii")
     link.symlink_to(file)
     for it in (file, link, tmp_path):

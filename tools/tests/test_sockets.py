@@ -66,16 +66,6 @@ def test_a_client_may_close_without_reading(serve):
     assert server.process.wait(20) == 0
 
 
-def test_a_lone_client_is_answered_soon_after_a_pause(serve, storage):
-    """In some 100 us on a quiet machine; a storage thread that isn't woken sleeps for 100 ms. (A
-    quarter of them are soon even on a machine whose processors are all busy.)"""
-    stream, took = serve("--workers", "2", *storage).connect(), []
-    for _ in range(100):
-        time.sleep(0.01)
-        took.append(seconds_to(stream))
-    assert sorted(took)[25] < 0.05
-
-
 def test_an_idle_server_takes_no_processor_time(serve, storage):
     server = serve("--workers", "4", *storage)
     ask_set_and_get(server.connect(), b"a")
@@ -97,10 +87,10 @@ def median_wait_of_newcomers(server):
 
 
 @pytest.mark.parametrize("before", [0, 3000], ids=["at first", "after many"])
-def test_a_worker_that_sleeps_is_woken_for_newcomers(serve, before):
-    """One that isn't hears of them a tenth of a second later. So does one that never reads the
-    bytes by which it is woken, once some hundreds of them fill its waker."""
-    server = serve("--workers", "1")
+def test_threads_that_sleep_are_woken_for_newcomers(serve, storage, before):
+    """One that isn't hears of them, or of their requests, a tenth of a second later. So does a
+    worker that never reads the bytes by which it is woken, once some hundreds fill its waker."""
+    server = serve("--workers", "1", *storage)
     for _ in range(before):
         server.connect().close()
     tries.all_in_time(lambda: median_wait_of_newcomers(server), 0.05)
@@ -193,16 +183,6 @@ def test_a_client_that_sends_no_more_is_closed_with_its_last_answer(
         took.append(time.monotonic() - began)
     assert server.process.wait(20) == 0
     assert min(took) < most
-
-
-def test_a_late_reader_that_sends_no_more_gets_all_answers(serve):
-    """24 MB of answers, of which the server may keep a part alone while nobody reads."""
-    value, server = b"v" * 60_000, serve("--workers", "1", "--segment-size", "1048576")
-    stream = server.connect(30, receive_buffer=65536)
-    stream.sendall(put(b"big", value) + b"get big\r\n" * 400)
-    stream.shutdown(socket.SHUT_WR)
-    time.sleep(1)
-    assert is_same(read_to_end(stream), STORED + hit(b"big", value) * 400)
 
 
 def shut(server):

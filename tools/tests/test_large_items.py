@@ -12,7 +12,7 @@ import pytest
 from asking import (
     BAD_BLOCK, END, MISS, NO_NUMBER, STORED, TOO_LARGE, ask, beside, hit, opened, seconds_to)
 from replays import given, in_parts
-from served import comes_true, read_to_end
+from served import read_to_end
 from stats_of import numbers, told, wait_for
 
 SIZES = "--lenient", "--segment-size", "1048576", "--segments", "16", "--max-item-size", "1048512"
@@ -104,15 +104,13 @@ def stopped(server, count, length):
 
 def kept(stream):
     """The unread input that is told, once no more has come for a while."""
-    found = [-1, 0]
-
-    def is_steady():
+    found = -1
+    for _ in range(100):
+        last, found = found, numbers(stream)["input_bytes"]
+        if found == last > 0:
+            return found
         time.sleep(0.2)
-        found[:] = found[1], numbers(stream)["input_bytes"]
-        return found[0] == found[1] > 0
-
-    assert comes_true(is_steady, 20)
-    return found[1]
+    raise AssertionError("more and more input comes")
 
 
 def test_three_hundred_connections_stop_within_their_values(serve):

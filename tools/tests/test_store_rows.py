@@ -31,9 +31,12 @@ WORDS = {
 
 def timed(text):
     """Rows of such words, with the moment before each and the TTL or the cas number behind it."""
+    last = 0
     for moment, word, *number in map(str.split, text.split(",")):
         request, answer = WORDS[word]
-        yield int(moment), request.format(*number), answer.format(*number)
+        assert int(moment) > last, text
+        last = int(moment)
+        yield last, request.format(*number), answer.format(*number)
 
 
 def must_answer_at(program, words, rows):

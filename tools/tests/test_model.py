@@ -14,17 +14,9 @@ import random
 import replays
 from hypothesis import given, settings
 from hypothesis import strategies as st
-from model import (
-    JOINS, LOCAL, SHOWN_AND_TOUCHED, STORES, TOO_LARGE, Cache, Item, refused)
+from model import JOINS, LOCAL, SHOWN_AND_TOUCHED, STORES, Cache, refused
 
 FIRST_MOMENT = 1000
-
-
-def refused_leniently(cache, request):
-    """The answer to a storage command, not `set`, whose item is too large; None for others."""
-    verb, *words = request
-    is_larger = verb in STORES[1:] and Item(words[0], words[3], 0, 0).size > cache.largest
-    return TOO_LARGE if is_larger else None
 
 
 def spelled(cache, requests, tick):
@@ -33,9 +25,8 @@ def spelled(cache, requests, tick):
     executed = 0
     for at, request in enumerate(requests):
         moment = FIRST_MOMENT + tick * executed
-        refusal = refused_leniently(cache, request) if cache.is_lenient else refused(request)
-        if refusal:
-            sent, wanted = Cache(4096, 8).answer(request, moment)[0], refusal
+        if wanted := refused(cache, request):
+            sent, _ = Cache(4096, 8).answer(request, moment)
         else:
             sent, wanted = cache.answer(request, moment)
             executed += request[0] not in LOCAL

@@ -40,7 +40,8 @@ def timed(text):
 
 
 def must_answer_at(program, words, rows):
-    """So are rows with moments, or timed ones: in each second between two a miss is asked for."""
+    """Each request is given its answer at its moment: in each second between two of these rows, or
+    timed ones, a miss is asked for."""
     rows = [*timed(rows)] if isinstance(rows, str) else rows
     now, all_rows = rows[0][0], []
     for moment, request, answer in rows:

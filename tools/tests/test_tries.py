@@ -26,9 +26,9 @@ NOT, YES = False, True
 OUTCOMES = [
     ([YES, YES, NOT], 0, (1, 2)), ([YES, NOT, YES], 0, (2, 3)), ([NOT, YES, YES], 0, (2, 3)),
     ([NOT, NOT, YES], 0, None), ([NOT, YES, NOT], 0, None), ([YES, NOT, NOT], 0, None),
-    ([NOT] * 10 + [YES] * 2, 12, (11, 12)), ([NOT, YES, NOT, YES], 2, (3, 4)),
+    ([NOT, YES, NOT, YES], 2, (3, 4)),
     # (ten that fail so aren't counted)
-    ([NOT] * 12 + [YES] * 2, 14, None),
+    ([NOT] * 11 + [YES] * 2, 13, (12, 13)), ([NOT] * 12 + [YES] * 2, 14, None),
 ]
 
 

@@ -166,7 +166,7 @@ def test_wrong_bodies_are_refused_beside_those_that_they_call_and_once(low, caps
 
 
 @pytest.mark.parametrize("edits, files, passed, others", RUNS.values(), ids=RUNS)
-def test_what_isnt_refused_by_its_own_proof_fails(
+def test_what_passes_is_counted_and_what_fails_is_said(
         low, capsys, tmp_path, edits, files, passed, others):
     plant(low, edits)
     for path, text in files.items():

@@ -1,5 +1,5 @@
-"""`segcached replay`: faults of scripts and of files, several workers, ports with faults, scripts of
-16 MB, and requests that are handed over in batches: what is printed, how long it takes, and how
+"""`segcached replay`: faults of scripts and of files, several workers, ports with faults, scripts
+of 16 MB, and requests that are handed over in batches: what is printed, how long it takes, and how
 much memory.
 
 Each large one ends within SECONDS, which is many times what it takes on a quiet machine and far

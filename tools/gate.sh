@@ -72,7 +72,7 @@ tries_pid=$!
 
 program=crates/segcached/out/segcached
 # Each file of tests is a part. Those that time nothing run beside the last wrong bodies.
-untimed=(batches closure documents edits evictions model prove rows scripts sources store_rows waking words
+untimed=(closure documents evictions model prove rows scripts sources store_rows waking words
   wrong_bodies)
 for name in "${untimed[@]}"; do
   part "tools/tests/test_$name.py" bash tools/tests.sh "tools/tests/test_$name.py"

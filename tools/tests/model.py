@@ -38,10 +38,14 @@ def line_of(*words):
     return b" ".join(map(spelled, words)) + b"\r\n"
 
 
-def refused(request):
-    """What the strict dialect answers to a request that the lenient one alone has, whose data block
-    is read as a line; None for others."""
+def refused(cache, request):
+    """What is answered to a request that the cache doesn't execute; None for others. Leniently
+    that is a storage command, not `set`, whose item is too large. Strictly it is of the lenient
+    dialect alone, and its data block is read as a line."""
     verb, *words = request
+    if cache.is_lenient:
+        is_larger = verb in STORES[1:] and Item(words[0], words[3], 0, 0).size > cache.largest
+        return TOO_LARGE if is_larger else None
     if verb == b"delete" and len(words) > 1:
         return BAD_LINE
     if verb in JOINS:
@@ -319,10 +323,6 @@ class Cache:
 
     # ---- requests
 
-    def begin(self, now):
-        if self.pending is not None and self.pending <= now:
-            self.flush(0, now)
-
     def get(self, keys, with_cas, now):
         out = b""
         for key in keys:
@@ -401,7 +401,8 @@ class Cache:
         verb, *words = request
         if verb in LOCAL:
             return line_of(*request), LOCAL[verb]
-        self.begin(now)
+        if self.pending is not None and self.pending <= now:
+            self.flush(0, now)
         if verb == b"stats":
             return line_of(verb), self.told()
         line, answer = self.answer_uncounted(request, now)

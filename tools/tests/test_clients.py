@@ -35,13 +35,13 @@ def test_netcat_closes_its_half_at_once_and_still_prints_the_answers(servers, re
 
 
 def test_libmemcached_copies_shows_finds_and_removes_a_file(servers, tmp_path):
-    """A missing key is status 1."""
     (tmp_path / "greeting").write_text("hello", encoding="ascii")
-    for tool, *ends in (
+    for tool, status, said in (
         ("memccp", 0, b""), ("memccat", 0, b"hello\n"), ("memcexist", 0, b""), ("memcrm", 0, b""),
+        # (a missing key)
         ("memcexist", 1, b""), ("memccat", 1, b""),
     ):
-        assert run(tool, of(servers[0]), "greeting", cwd=tmp_path) == tuple(ends), tool
+        assert run(tool, of(servers[0]), "greeting", cwd=tmp_path) == (status, said), tool
 
 
 PARTS = ["quit", "get", "gets", "mget", "flush", "delete", "incr", "decr"]

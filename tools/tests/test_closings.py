@@ -6,9 +6,8 @@ import resource
 import time
 
 import pytest
-from asking import END, MISS, asks_for, beside, opened, write_large
-from served import comes_true, read_to_end
-from stats_of import numbers
+from asking import END, MISS, beside, opened
+from served import read_to_end
 
 MALFORMED = 'malformed storage line: "set a 0 0 no"'
 OF_A_PEER = r"closed 127\.0\.0\.1:[0-9]+: "
@@ -19,7 +18,7 @@ def send_and_lose(server, sent):
     with server.connect() as stream:
         stream.sendall(sent)
         read_to_end(stream)
-        return "{}:{}".format(*stream.getsockname())
+        return "a Unix socket" if server.path else "{}:{}".format(*stream.getsockname())
 
 
 def lines_of(server, seconds=2.5):
@@ -46,24 +45,21 @@ ENDS = {
     "what came before and behind the line": (
         b"set k 0 0 6\r\nsecret\r\nget k\r\nset a 0 0 no\r\nsecret\r\n", "", MALFORMED),
     "idle": (b"", "--idle 1", "idle"),
+    "a path": (b"set a 0 0 no\r\n", "", MALFORMED),
     "quit": (b"quit\r\n", "", None),
     "quit behind an error": (b"nonsense\r\nquit\r\n", "", None),
     "quiet": (b"set a 0 0 no\r\n", "--quiet", None),
 }
 
 
-@pytest.mark.parametrize("sent, words, reason", ENDS.values(), ids=ENDS)
-def test_each_reason_is_told_with_the_line(serve, sent, words, reason):
-    server = serve("--lenient", *words.split())
+@pytest.mark.parametrize("name", ENDS)
+def test_each_reason_is_told_with_the_line(serve, tmp_path, name):
+    sent, words, reason = ENDS[name]
+    listen = f"unix:{tmp_path}/cache" if name == "a path" else "127.0.0.1:0"
+    server = serve("--lenient", *words.split(), listen=listen)
     peer = send_and_lose(server, sent)
     opened(server, 1, MISS, END)[0].close()
     assert lines_of(server) == ([f"closed {peer}: {reason}"] if reason else [])
-
-
-def test_peers_of_a_path_have_no_address(serve, tmp_path):
-    server = serve("--lenient", listen=f"unix:{tmp_path}/cache")
-    opened(server, 1, b"set a 0 0 no\r\n")
-    assert lines_of(server) == [f"closed a Unix socket: {MALFORMED}"]
 
 
 def test_one_for_which_there_is_no_memory_is_told(serve):
@@ -92,20 +88,3 @@ def test_of_each_reason_one_line_is_told_in_a_second_and_the_others_are_counted(
     assert len(lines) - len(malformed) <= took + 1 and 1 <= len(malformed) <= took + 1
     more = [re.search(r"; ([0-9]+) more for this$", it) for it in malformed]
     assert len(malformed) + sum(int(found[1]) for found in more if found) == 50
-
-
-def test_connections_closed_for_memory_are_told(serve):
-    """Of forty replies of 7.8 MB a worker keeps no more than 64 MiB, and each socket some four MB.
-    After ten seconds clients that took nothing are closed for those that wait."""
-    server = serve("--lenient", "--workers", "1", "--segment-size", "1048576")
-    write_large(server)
-    stream = server.connect()
-    assert numbers(stream)["closed_unread"] == 0
-    for _ in range(40):
-        asks_for(server, 60)
-    comes_true(lambda: numbers(stream)["closed_unread"] >= 3, 30)
-    found = numbers(stream)
-    assert 3 <= found["closed_unread"] < 40
-    assert found["curr_connections"] == 41 - found["closed_unread"]
-    lines = lines_of(server)
-    assert lines and all(re.fullmatch(OF_A_PEER + "stalled(; .*)?", it) for it in lines)

@@ -1,6 +1,8 @@
 """Tests of what `tools/closure.py` finds, over a small tree that is written here, and that
 docs/HEADLINE.md has what its contracts rest on. They take a second.
 """
+import re
+
 import closure
 import pytest
 from prove import read, write
@@ -61,6 +63,11 @@ impl Thing for Other {
         is_round
     }
 }
+
+fn last(text: &Text<u8>)
+    ensures { is_round result }
+{
+}
 """,
 }
 
@@ -72,31 +79,36 @@ def tree(tmp_path):
     return str(tmp_path)
 
 
-def test_a_contract_leads_to_what_its_clauses_name_and_what_that_rests_on(tree):
-    definitions, types, words = closure.Sources(tree).closure(["high/src/call.rt:Thing::call"])
-    found = ["low.Kinds.IsSmall", "low.Sizes.Size", "low.Kinds.most", "low.Sizes.limit"]
-    assert [closure.key_of(it) for it in definitions] == found
-    assert (types, words) == ([], ["ℕ"])
-    assert closure.counts_of(definitions) == "4 definitions in 2 files, 8 lines"
+# By contracts the definitions to which each leads, their count, the types of the code and the kit's
+# words.
+CLOSURES = {
+    "call.rt:Thing::call": (
+        ["low.Kinds.IsSmall", "low.Sizes.Size", "low.Kinds.most", "low.Sizes.limit"],
+        "4 definitions in 2 files, 8 lines", [], ["ℕ"]),
+    "call.rt:Thing::call#small": (
+        ["low.Kinds.IsSmall", "low.Kinds.most", "low.Sizes.limit"],
+        "3 definitions in 2 files, 6 lines", [], ["ℕ"]),
+    "call.rt:Thing::call#size": (
+        ["low.Sizes.Size"], "1 definitions in 1 files, 2 lines", [], ["ℕ"]),
+    "call.rt:last": (
+        ["low.Kinds.is_round"], "1 definitions in 1 files, 4 lines",
+        [("low", "parts/shape", "Shape")], ["Bool", "true", "false"]),
+}
 
 
-def test_one_clause_of_a_contract_is_shown_by_its_name(tree):
-    sources, call = closure.Sources(tree), "high/src/call.rt:Thing::call"
-    assert sources.head_and_clauses(f"{call}#small")[1] == ["requires small { IsSmall n }"]
-    found = sources.closure([f"{call}#size"])[0]
-    assert [closure.key_of(it) for it in found] == ["low.Sizes.Size"]
-    with pytest.raises(closure.Trouble, match="high/src/call.rt has no clause none of Thing::call"):
-        sources.closure([f"{call}#none"])
+@pytest.mark.parametrize("contract", CLOSURES)
+def test_a_contract_leads_to_what_its_clauses_name_and_what_that_rests_on(tree, contract):
+    found, types, words = closure.Sources(tree).closure([f"high/src/{contract}"])
+    types = [(it.crate, it.file, it.name) for it in types]
+    keys, count = list(map(closure.key_of, found)), closure.counts_of(found)
+    assert (keys, count, types, words) == CLOSURES[contract]
 
 
-def test_a_type_of_the_code_is_told_by_its_file(tree):
-    with open(f"{tree}/crates/high/src/call.rt", "a", encoding="utf-8") as file:
-        file.write("fn last()\n    ensures { is_round result }\n{\n}\n")
-    definitions, types, words = closure.Sources(tree).closure(["high/src/call.rt:last"])
-    assert [closure.key_of(it) for it in definitions] == ["low.Kinds.is_round"]
-    assert [(it.crate, it.file, it.name) for it in types] == [("low", "parts/shape", "Shape")]
-    assert words == ["Bool", "true", "false"]
-    assert closure.Sources(tree).text_of(definitions[0]).count("\n") == 3
+@pytest.mark.parametrize("contract, lacks", [
+    ("Thing::call#none", "clause none of Thing::call"), ("Thing::none", "Thing::none")])
+def test_a_function_or_a_clause_that_isnt_there_is_said(tree, contract, lacks):
+    with pytest.raises(closure.Trouble, match=f"high/src/call.rt has no {lacks}"):
+        closure.Sources(tree).closure([f"high/src/call.rt:{contract}"])
 
 
 def test_a_type_that_contracts_see_as_another_value_is_found_in_fields_and_heads(tree):
@@ -105,29 +117,9 @@ def test_a_type_that_contracts_see_as_another_value_is_found_in_fields_and_heads
     shape = "/// (no Unseen)\npub enum Shape {\n    Round,\n    Square(Sides),\n}\n"
     shape += "struct Other(Unseen);\n"
     write(f"{tree}/crates/low/src/parts/shape.rt", shape)
-    with open(f"{tree}/crates/high/src/call.rt", "a", encoding="utf-8") as file:
-        file.write("fn last(text: &Text<u8>)\n    ensures { is_round result }\n{\n}\n")
     sources, contracts = closure.Sources(tree), ["high/src/call.rt:last"]
     assert sources.seen_as_others(contracts, sources.closure(contracts)[1]) == ["Sides", "Text"]
 
-
-def test_a_function_that_isnt_there_is_said(tree):
-    with pytest.raises(closure.Trouble, match="high/src/call.rt has no Thing::none"):
-        closure.Sources(tree).closure(["high/src/call.rt:Thing::none"])
-
-
-PAGE = """# Page
-<!-- contract high/src/call.rt:other -->
-It is small.
-<!-- low.Kinds.IsSmall low.Kinds.most -->
-<!-- low.Sizes.unused -->
-<!-- counts -->
-none yet
-
-| Word | Meaning |
-|---|---|
-| `N`, `ℕ` | a number |
-"""
 
 FILLED = """# Page
 <!-- contract high/src/call.rt:other -->
@@ -154,6 +146,9 @@ most = sizes.limit
 |---|---|
 | `N`, `ℕ` | a number |
 """
+# Before it is filled the page lacks the texts, and has another count.
+PAGE = re.sub(r"(\*In .*\n\n)?```text\n[^`]*```\n", "", FILLED)
+PAGE = re.sub(r"(?<=<!-- counts -->\n).*", "none yet", PAGE)
 
 
 def test_the_page_has_the_texts_and_says_what_has_no_entry(tree):
@@ -163,37 +158,6 @@ def test_the_page_has_the_texts_and_says_what_has_no_entry(tree):
     assert closure.filled(page, closure.Sources(tree)) == (page, wrong)
     unlisted = page.replace("`ℕ`", "ℕ")
     assert closure.filled(unlisted, closure.Sources(tree)) == (unlisted, [*wrong, "ℕ isn't listed"])
-
-
-# (each definition in one line)
-LONG = """abbrev pub IsLong : List ℕ → Type 0
-IsLong list = (first : ℕ) × (a_name_of_some_length : List ℕ) \
-× (list ≡ first ∷ a_name_of_some_length) × (length list ≤ 131072)
-pub record Wide (a_name_of_some_length : List ℕ) (another_name : List ℕ) (a_third_name : ℕ) \
-(behind : ℕ) : Type 0 where
-  pub met : (a_name_of_some_length ≡ another_name) → (a_third_name : ℕ) \
-→ some_statement_of_it a_third_name → behind ≡ 1
-"""
-NARROW = """abbrev pub IsLong : List ℕ → Type 0
-IsLong list = (first : ℕ) × (a_name_of_some_length : List ℕ)
-    × (list ≡ first ∷ a_name_of_some_length) × (length list ≤ 131072)
-pub record Wide (a_name_of_some_length : List ℕ) (another_name : List ℕ) (a_third_name : ℕ)
-    (behind : ℕ) : Type 0 where
-  pub met : (a_name_of_some_length ≡ another_name) → (a_third_name : ℕ)
-      → some_statement_of_it a_third_name → behind ≡ 1
-"""
-
-
-def test_long_lines_are_broken_where_the_fewest_brackets_are_open():
-    assert closure.narrow(LONG) + "\n" == NARROW
-    assert closure.narrow(NARROW) + "\n" == NARROW
-
-
-def test_with_several_contracts_what_the_first_rests_on_is_counted_too(tree):
-    page = PAGE.replace("It is small.", "<!-- contract high/src/call.rt:Thing::call -->")
-    counts = "4 definitions in 2 files, 8 lines, over 0 types and constants of the code.\n"
-    counts += "The first contract rests on 3 definitions in 2 files, 6 lines.\n"
-    assert f"<!-- counts -->\n{counts}" in closure.filled(page, closure.Sources(tree))[0]
 
 
 def test_the_headlines_page_has_what_its_contracts_rest_on():

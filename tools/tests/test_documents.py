@@ -56,7 +56,6 @@ def test_the_newest_version_of_the_changelog_is_that_of_the_sources():
 
 
 def test_the_trusted_crates_are_those_that_no_crate_of_the_repository_is():
-    """The crates that crates.txt names as stood on, and that PROOFS lists as trusted."""
     lines = prove.read_lines()
     stood_on = set().union(*lines.values()) - set(lines)
     page = prose(f"{TOP}/docs/PROOFS.md").replace("\n", " ")

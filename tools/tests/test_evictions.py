@@ -4,15 +4,16 @@ With `oldest` the first merge takes the first four segments, of 32 keys, and the
 first one left and three segments behind it. With `least-read` the first one takes two segments, of
 16 keys, and what it leaves stands behind others: so the second and the third one take those of the
 keys 17 to 48, and the fourth one that of 49 to 56 with what the first one left. There a key that
-was read once stays again, as half its count is rounded up. With a TTL whose bucket is 128 seconds wide and a tick of a second, segments are opened eight
-seconds apart, and `oldest` merges none; for `least-read` those of 64 seconds are opened at one
-moment, which end at 1,088. With `least-read` a key that is written again goes over its item: one of
-a segment that was opened at 1,088 and ends at 3,136, until 1,291, when 2,100 seconds end 255
-seconds later.
+was read once stays again, as half its count is rounded up. With a TTL whose bucket is 128 seconds
+wide and a tick of a second, segments are opened eight seconds apart, and `oldest` merges none; for
+`least-read` those of 64 seconds are opened at one moment, which end at 1,088. With `least-read` a
+key that is written again goes over its item: one of a segment that was opened at 1,088 and ends at
+3,136, until 1,291, when 2,100 seconds end 255 seconds later.
 """
 import pytest
 from asking import END, STORED, hits
-from test_store_rows import SMALL, found, key, must_answer, put
+from replays import must_answer
+from test_store_rows import SMALL, found, key, put
 
 # (a segment holds eight items of this size)
 VALUE = b"v" * 476
@@ -48,7 +49,7 @@ def test_merges_keep_what_was_read(program, words, ttl, writes, reads, again, fo
     sets = [(put(key(number), ttl, VALUE), STORED) for number in numbers]
     rows = [*sets[:64], *[found(1, VALUE)] * reads, *sets[64:], *[sets[-1]] * again]
     rows += [found(number, None if number in gone else VALUE) for number in numbers]
-    must_answer(program, rows, *SMALL, *words.split())
+    must_answer(program, f"{SMALL} {words}", rows)
 
 
 # Nine keys are written, each with a life of its own: eight times its number of seconds. They stand
@@ -79,4 +80,4 @@ def test_the_oldest_or_the_least_read_is_cleared(program, words, before, after, 
     rows = [*sets[:7], *[read] * before, sets[7], *[read] * after, *[touch] * touches, sets[8]]
     shown = b"".join(hits(it, b"x") for it in keys if it != keys[forgotten - 1])
     rows.append((b"get %b\r\n" % b" ".join(keys), shown + END))
-    must_answer(program, rows, *SMALL, *words.split())
+    must_answer(program, f"{SMALL} {words}", rows)

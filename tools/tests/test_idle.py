@@ -1,7 +1,6 @@
 """`serve --idle 1`: which connections are closed, and which aren't. (Most waits are in one test,
 whose tries take five seconds, and the longest ones in another, whose tries take seven.)"""
 import concurrent.futures
-import contextlib
 import os
 import socket
 import subprocess
@@ -10,6 +9,7 @@ import time
 
 import tries
 from asking import END, MISS, STORED, ask, beside, hit, is_same, opened, put
+from replays import in_parts
 from served import comes_true, ended, read_exactly, read_till_closed
 
 VALUE = b"v" * 8000
@@ -25,20 +25,13 @@ def troubles_of(clients):
     return [it.exception() for it in runs if it.exception()]
 
 
-def speaks_every(server, seconds, until):
-    """A client that is silent for less than the limit each time isn't closed."""
+def sends_every(server, seconds, count, until):
+    """A client that is silent for less than the limit each time isn't closed. Each byte counts,
+    also of a request that isn't whole for long: it sends so many at a time."""
     with server.connect() as stream:
         while time.monotonic() < until:
-            ask(stream, MISS, END)
-            time.sleep(seconds)
-
-
-def sends_a_byte_every(server, seconds, until):
-    """Each byte counts, also of a request that isn't whole for long."""
-    with server.connect() as stream:
-        while time.monotonic() < until:
-            for byte in MISS:
-                stream.sendall(bytes([byte]))
+            for piece in in_parts(MISS, count):
+                stream.sendall(piece)
                 time.sleep(seconds)
             ask(stream, b"", END)
 
@@ -62,9 +55,9 @@ def reads(server, seconds, rate, until):
 def comes_late(server):
     """A client that comes late isn't closed for what was before it came."""
     time.sleep(2.5)
-    with server.connect() as stream:
-        time.sleep(0.7)
-        ask(stream, MISS, END)
+    stream = server.connect()
+    time.sleep(0.7)
+    ask(stream, MISS, END)
 
 
 def is_silent(server):
@@ -95,9 +88,9 @@ def test_who_is_silent_or_reads_nothing_is_closed_and_no_one_else(serve):
         server = serve("--workers", "1", "--idle", "1")
         ask(server.connect(), put(b"big", VALUE), STORED)
         until = time.monotonic() + 4.2
-        clients = [(speaks_every, server, seconds, until)
+        clients = [(sends_every, server, seconds, len(MISS), until)
                    for seconds in (0.2, 0.35, 0.45, 0.55, 0.65, 0.75, 0.9)]
-        clients += [(sends_a_byte_every, server, 0.4, until), (reads, server, 0.3, 8e6, until)]
+        clients += [(sends_every, server, 0.4, 1, until), (reads, server, 0.3, 8e6, until)]
         clients += [(reads, server, 0.05, 4e5, until), (comes_late, server), (is_silent, server)]
         clients += [(reads_nothing, server, times) for times in (4_000, 100_000)]
         troubles = troubles_of(clients)
@@ -106,7 +99,7 @@ def test_who_is_silent_or_reads_nothing_is_closed_and_no_one_else(serve):
     tries.in_two_of_three(attempt)
 
 
-def sends_no_more_and_reads_slowly(server):
+def reads_slowly(server):
     """It takes two megabytes at a time, for more than three times the limit, and gets all."""
     with server.connect() as stream:
         stream.sendall(put(b"big", VALUE) + GET * SLOW_TIMES)
@@ -130,7 +123,7 @@ def test_one_that_reads_slowly_gets_all_that_it_is_owed_and_one_that_takes_nothi
     """A process that stands still for longer than the limit reads nothing meanwhile."""
     def attempt():
         server = serve("--idle", "1", "--sessions", "2")
-        clients = sends_no_more_and_reads_slowly, takes_nothing_for_long
+        clients = reads_slowly, takes_nothing_for_long
         troubles = troubles_of([(it, server) for it in clients])
         assert server.process.wait(20) == 0
         return not troubles, troubles
@@ -147,11 +140,9 @@ def notes_how_long_it_stays(server, seconds, found):
     """Since before it connects, and since it has."""
     time.sleep(seconds)
     before = time.monotonic()
-    with server.connect() as stream:
-        began = time.monotonic()
-        assert stream.recv(1) == b""
-        ended_at = time.monotonic()
-        found.append((ended_at - began, ended_at - before))
+    stream, began = server.connect(), time.monotonic()
+    assert stream.recv(1) == b""
+    found.append((time.monotonic() - began, time.monotonic() - before))
 
 
 def test_a_silent_one_is_closed_within_an_eighth_on_a_busy_machine(serve):
@@ -161,12 +152,14 @@ def test_a_silent_one_is_closed_within_an_eighth_on_a_busy_machine(serve):
 
     def attempt():
         found, loop = [], [sys.executable, "-c", "while True: pass"]
-        with contextlib.ExitStack() as taking:
-            for _ in range(count):
-                process = taking.enter_context(subprocess.Popen(loop))
-                taking.callback(process.kill)
+        taking = [subprocess.Popen(loop) for _ in range(count)]
+        try:
             troubles = troubles_of([(notes_how_long_it_stays, server, it * BETWEEN, found)
                                     for it in range(TIMED)])
+        finally:
+            for process in taking:
+                process.kill()
+                process.wait()
         found.sort()
         assert all(since_before >= 1 for _, since_before in found)
         return not troubles and found[-1 - LATER][0] < 1.125 + LATE, troubles or found

@@ -9,8 +9,9 @@ import threading
 import time
 
 import pytest
-from asking import MISS, NO_NUMBER, STORED, TOO_LARGE, ask, hit, opened, seconds_to
-from replays import given
+from asking import (
+    BAD_BLOCK, END, MISS, NO_NUMBER, STORED, TOO_LARGE, ask, beside, hit, opened, seconds_to)
+from replays import given, in_parts
 from served import read_to_end
 from stats_of import numbers, told, wait_for
 
@@ -22,7 +23,6 @@ LONGEST = 1_048_512 - 24 - 1
 ROOM = 64 * 1024 * 1024
 BEGUN = b"set a 0 0 1000000\r\n"
 HAVE_ROOM = ROOM // (len(BEGUN) + 1_000_002)
-OLD, END = hit(b"a", b"old", 7), b"END\r\n"
 
 
 def value_of(length):
@@ -67,7 +67,7 @@ def test_a_value_grows_up_to_the_longest(serve, verb):
 def test_a_set_that_is_too_large_takes_out_the_old_value_and_an_add_leaves_it(serve, length):
     value, stream = value_of(length), serve(*SIZES).connect()
     ask(stream, put(b"set", b"a", b"old") + put(b"add", b"a", value) + b"get a\r\n",
-        STORED + TOO_LARGE + OLD)
+        STORED + TOO_LARGE + hit(b"a", b"old", 7))
     ask(stream, put(b"set", b"a", value) + b"get a\r\n", TOO_LARGE + END)
     assert told(stream)["store_too_large"] == "2"
 
@@ -76,7 +76,7 @@ def test_the_block_of_an_item_has_its_end_and_a_dropped_one_any(serve):
     stream = serve(*SIZES).connect()
     ask(stream, put(b"set", b"a", value_of(1_048_513), b"xy") + b"get a\r\n", TOO_LARGE + END)
     stream.sendall(put(b"set", b"a", value_of(1_000_000), b"xy") + b"get a\r\n")
-    assert read_to_end(stream) == b"CLIENT_ERROR bad data chunk\r\n"
+    assert read_to_end(stream) == BAD_BLOCK
 
 
 @pytest.mark.parametrize("length", [131_073, LONGEST])
@@ -88,16 +88,8 @@ def test_a_large_value_is_the_same_wherever_it_is_cut(program, length):
     places |= {262_144, whole // 2, *range(whole - 3, whole)}
     for place in sorted(it for it in places if it < whole):
         assert given(program, " ".join(SIZES), sent[:place], sent[place:]) == wanted, place
-    pieces = (sent[at : at + 16_384] for at in range(0, len(sent), 16_384))
-    assert given(program, " ".join(SIZES), *pieces) == wanted
+    assert given(program, " ".join(SIZES), *in_parts(sent)) == wanted
     assert given(program, " ".join(SIZES), sent[: len(sent) // 2]) == b""
-
-
-def test_strictly_a_block_has_131072_bytes(program):
-    words = " ".join(SIZES[1:])
-    sent, wanted = set_and_get(value_of(131_072))
-    assert given(program, words, sent) == wanted
-    assert given(program, words, set_and_get(value_of(131_073))[0]) == TOO_LARGE
 
 
 def stopped(server, count, length):
@@ -178,48 +170,37 @@ def test_who_sends_slowly_is_waited_for(serve):
     assert told(begun[0])["closed_unread"] == "0"
 
 
-@contextlib.contextmanager
-def busy(server):
-    """Meanwhile others ask as fast as they are answered, so the worker is never idle for long."""
-    streams, is_over = opened(server, 3), threading.Event()
+@pytest.fixture(params=[0, 3], ids=["quiet", "busy"])
+def server(serve, request):
+    """Of one worker, which is never idle for long while others ask as fast as they are answered."""
+    server, is_over = serve(*SIZES, "--workers", "1"), threading.Event()
 
     def ask_on(stream):
         while not is_over.is_set():
             ask(stream, 200 * MISS, 200 * END)
 
-    threads = [threading.Thread(target=ask_on, args=(it,)) for it in streams]
+    threads = [beside(ask_on, it) for it in opened(server, request.param)]
+    yield server
+    is_over.set()
     for thread in threads:
-        thread.start()
-    try:
-        yield
-    finally:
-        is_over.set()
-        for thread in threads:
-            thread.join()
+        thread.join()
 
 
-@pytest.mark.parametrize("is_busy", [False, True])
-def test_fifty_slow_clients_take_the_time_of_one(serve, is_busy):
+def test_fifty_slow_clients_take_the_time_of_one(server):
     """Few values come at once, but those that come slowly hold up no others for long."""
-    server = serve(*SIZES, "--workers", "1")
-    streams, text, began = opened(server, 50), put(b"set", b"a", value_of(1_000_000)), 0
-    with busy(server) if is_busy else contextlib.nullcontext():
-        began = time.monotonic()
-        send_slowly(streams, text, 1)
-        for stream in streams:
-            ask(stream, b"", STORED)
-        assert time.monotonic() - began < 3
+    streams, began = opened(server, 50), time.monotonic()
+    send_slowly(streams, put(b"set", b"a", value_of(1_000_000)), 1)
+    for stream in streams:
+        ask(stream, b"", STORED)
+    assert time.monotonic() - began < 3
 
 
-@pytest.mark.parametrize("is_busy", [False, True])
-def test_values_that_stop_half_way_hold_up_others_for_a_second_at_most(serve, is_busy):
-    server = serve(*SIZES, "--workers", "1")
+def test_values_that_stop_half_way_hold_up_others_for_a_second_at_most(server):
     stopped(server, HAVE_ROOM - 2, 524_288)
-    stream, = opened(server, 1)
-    with busy(server) if is_busy else contextlib.nullcontext():
-        # (twice as long on a machine that is busy otherwise)
-        assert seconds_to(stream, *set_and_get(value_of(LONGEST))) < 2
-        assert seconds_to(stream, *set_and_get(value_of(LONGEST))) < 0.5
+    stream = server.connect()
+    # (twice as long on a machine that is busy otherwise)
+    assert seconds_to(stream, *set_and_get(value_of(LONGEST))) < 2
+    assert seconds_to(stream, *set_and_get(value_of(LONGEST))) < 0.5
 
 
 # Each connection has room for 262,144 bytes at first. A block that no item may have, as those have

@@ -16,7 +16,7 @@ import pylibmc
 import pytest
 import served
 import tries
-from asking import END, STORED, ask, hits, put
+from asking import END, STORED, ask, get, hit, hits, put
 from model import VERSION
 from pymemcache.client.base import Client
 from pymemcache.exceptions import MemcacheServerError
@@ -33,51 +33,37 @@ def server(program):
         yield it
 
 
-def test_the_version_is_that_of_the_program(program):
-    _, said, _ = served.ended(program, "--version")
-    assert VERSION == b"VERSION 1.6.0-segcached-%b\r\n" % said.split()[1]
-
-
 def test_a_touch_and_a_gat_of_many_keys_change_their_lives(server):
     """TTLs are rounded down by up to two widths of 8 seconds, so one of 8 lasts for 1 to 8. The
     keys far apart are the last ones of a long line."""
     far = [b"far-%d" % number for number in range(2000)]
-
-    def shown(keys):
-        return b"".join(hits(key, b"x") for key in keys) + END
-
+    shown = [hits(key, b"x") for key in far]
     with server.connect() as stream:
         ask(stream, "set a 0 0 1|x|set b 0 9 1|y|touch a 8|touch b 100|",
             "STORED|STORED|TOUCHED|TOUCHED|")
         for key in far:
             stream.sendall(put(key, b"x", exptime=8, words=b" noreply"))
-        ask(stream, b"gat 100 %b\r\n" % b" ".join(far), shown(far))
-        ask(stream, "gat 8 far-0 none far-1999|", shown([far[0], far[-1]]))
+        ask(stream, b"gat 100 %b\r\n" % b" ".join(far), b"".join(shown) + END)
+        ask(stream, "gat 8 far-0 none far-1999|", shown[0] + shown[-1] + END)
         time.sleep(9.2)
-        ask(stream, b"get %b\r\n" % b" ".join(far), shown(far[1:-1]))
+        ask(stream, b"get %b\r\n" % b" ".join(far), b"".join(shown[1:-1]) + END)
         ask(stream, "get a b|", "VALUE b 0 1|y|END|")
-
-
-def test_input_that_ends_within_a_large_block_is_not_answered(server):
-    with server.connect() as stream:
-        stream.sendall(b"get none\r\nset a 0 0 200000\r\n" + BLOCK)
-        stream.shutdown(socket.SHUT_WR)
-        assert read_to_end(stream) == END
 
 
 @pytest.mark.parametrize("last", [
     b"verbosity 1 noreply\r\n", put(b"b", BLOCK + b"z", b"append", words=b" noreply"),
-], ids=["verbosity", "append"])
+    b"set a 0 0 200000\r\n" + BLOCK,
+], ids=["verbosity", "append", "a part of a block"])
 def test_a_client_that_sends_no_more_is_closed_though_its_last_request_is_silent(server, last):
     """That request is read once a `get` of many keys before it was answered, when all answers are
     given and the end of the input is known: it is all there when the process goes on."""
     with server.connect() as stream:
         ask(stream, put(b"b", b"v" * 100), STORED)
         server.process.send_signal(signal.SIGSTOP)
-        stream.sendall(b"get" + b" b" * 300 + b"\r\n" + last)
+        stream.sendall(get(b"b", 300) + last)
         stream.shutdown(socket.SHUT_WR)
         server.process.send_signal(signal.SIGCONT)
-        assert read_to_end(stream) == hits(b"b", b"v" * 100, times=300) + END
+        assert read_to_end(stream) == hit(b"b", b"v" * 100, times=300)
 
 
 def in_a_process(call, *given):

@@ -22,14 +22,25 @@ PORT, ASKED = "127.0.0.1:0", b"get a\r\n"
 LIMIT = resource.RLIMIT_NOFILE
 
 
+def close(streams):
+    for stream in streams:
+        stream.close()
+
+
+def must_be_served(streams):
+    for stream in streams:
+        assert read_to_end(stream) == END
+        stream.close()
+
+
 @pytest.mark.parametrize("host", ["127.0.0.1", "[::1]"])
 def test_it_prints_its_real_port_and_ends_after_its_sessions(serve, host):
     server = serve("--sessions", "2", listen=f"{host}:0")
     assert re.fullmatch(rf"listening on {re.escape(host)}:[1-9][0-9]*\n", server.first_line)
-    with server.connect() as first, server.connect() as second:
-        for stream, key in ((first, b"a"), (second, b"b")):
-            stream.sendall(SET_AND_GET % (key, key) + b"quit\r\n")
-            assert read_to_end(stream) == SET_AND_GET_ANSWER % key
+    for stream, key in zip(opened(server, 2), (b"a", b"b")):
+        stream.sendall(SET_AND_GET % (key, key) + b"quit\r\n")
+        assert read_to_end(stream) == SET_AND_GET_ANSWER % key
+    close(server.streams)
     assert server.process.wait(20) == 0
 
 
@@ -52,9 +63,7 @@ def test_with_few_descriptors_it_serves_all_of_its_sessions_and_then_ends(serve)
     """Later ones are accepted once the first ones have gone. One that waits doesn't count."""
     server = serve("--workers", "1", "--sessions", "200", limits={LIMIT: 40})
     for _ in range(4):
-        for stream in opened(server, 50, ASKED + b"quit\r\n"):
-            assert read_to_end(stream) == END
-            stream.close()
+        must_be_served(opened(server, 50, ASKED + b"quit\r\n"))
     assert server.process.wait(20) == 0
 
 
@@ -62,11 +71,8 @@ def test_those_that_wait_for_a_full_worker_are_served_after_the_last_one_was_acc
     server = serve("--workers", "1", "--sessions", "1060")
     first, waiting = opened(server, 1024, ASKED, END), opened(server, 36, ASKED + b"quit\r\n")
     time.sleep(0.3)
-    for stream in first:
-        stream.close()
-    for stream in waiting:
-        assert read_to_end(stream) == END
-        stream.close()
+    close(first)
+    must_be_served(waiting)
     assert server.process.wait(20) == 0
 
 
@@ -85,7 +91,7 @@ def filled(serve, *words, listen=PORT):
 
 @pytest.fixture(params=[PORT, "unix:{}/cache"], ids=["port", "path"])
 def full(serve, request, tmp_path):
-    return filled(serve, "--lenient", listen=request.param.format(tmp_path))
+    return filled(serve, "--lenient", listen=request.param.format(tmp_path))[0]
 
 
 def are_silent(streams):
@@ -113,8 +119,7 @@ def test_one_for_which_there_is_no_room_is_told_so(serve, words):
         stream.sendall(ASKED)
     assert are_silent(waiting)
     ask_set_and_get(streams[WAITING], b"b")
-    for stream in streams[:WAITING]:
-        stream.close()
+    close(streams[:WAITING])
     for stream in waiting:
         ask(stream, b"", END)
 
@@ -125,7 +130,7 @@ def test_one_for_which_there_is_no_room_is_told_so(serve, words):
 def test_probes_get_in_while_it_is_full(full, request_line, answer):
     """Once all places are taken a further one gets in when one of the probes has gone."""
     # (they connect, and ask later)
-    *probes, last = opened(full[0], PROBES + 1)
+    *probes, last = opened(full, PROBES + 1)
     time.sleep(0.2)
     for stream in probes:
         ask(stream, request_line, answer)
@@ -136,18 +141,16 @@ def test_probes_get_in_while_it_is_full(full, request_line, answer):
 
 
 def test_another_request_gets_in_no_sooner(full):
-    server, _ = full
-    opened(server, WAITING)
-    stream, = opened(server, 1, b"get healt\r\nstats\r\nget health\r\n")
+    opened(full, WAITING)
+    stream, = opened(full, 1, b"get healt\r\nstats\r\nget health\r\n")
     assert read_to_end(stream) == TOO_MANY
 
 
 def test_the_probe_passes_a_full_server(full):
     """Also while connections beyond those that wait come without end."""
-    server, _ = full
     for count in (WAITING, 300):
-        opened(server, count)
-        assert subprocess.run(server.probe(), timeout=20).returncode == 0
+        opened(full, count)
+        assert subprocess.run(full.probe(), timeout=20).returncode == 0
 
 
 @pytest.mark.parametrize("connections, workers", [(3, 1), (3, 2), (3000, 1)])
@@ -173,11 +176,10 @@ def test_standard_error_that_nobody_reads_stops_nothing(program):
         for _ in range(2):
             streams = opened(server, 60)
             time.sleep(0.2)
-            for stream in streams:
-                stream.close()
+            close(streams)
         ask(server.connect(), ASKED, END)
-    for end in (reading, writing):
-        os.close(end)
+    os.close(reading)
+    os.close(writing)
 
 
 # ---- several addresses, and paths
@@ -187,19 +189,17 @@ def path(tmp_path):
     return str(tmp_path / "cache.sock")
 
 
-def test_all_addresses_of_ipv6_are_those_of_ipv4_too(serve):
-    server = serve(listen="[::]:0")
-    server.host = "127.0.0.1"
-    ask(server.connect(), ASKED, END)
-
-
 def test_all_addresses_show_one_cache(serve, path):
-    server = serve("--listen", f"unix:{path}", "--listen", "127.0.0.2:0", "--lenient")
+    """All those of IPv6 are those of IPv4 too."""
+    words = "--listen", f"unix:{path}", "--listen", "127.0.0.2:0", "--lenient"
+    server = serve(*words, listen="[::]:0")
     ask(server.connect(), "set a 0 0 1|x|", "STORED|")
+    server.host = "127.0.0.1"
+    ask(server.connect(), ASKED, "VALUE a 0 1|x|END|")
     server.path = path
     other = server.connect()
     ask(other, ASKED, "VALUE a 0 1|x|END|")
-    assert int(wait_for(other, curr_connections=2)["tcpport"]) == server.port
+    assert int(wait_for(other, curr_connections=3)["tcpport"]) == server.port
 
 
 def test_eight_addresses_are_taken_and_no_more(serve, program, tmp_path):
@@ -223,12 +223,14 @@ def test_a_path_alone_is_told_as_it_is(serve, path):
     assert client.set("a", b"x") and client.get("a") == b"x" and client.incr("none", 1) is None
 
 
-@pytest.mark.parametrize("words, mode", [
-    ([], 0o700), (["--socket-mode", "0660"], 0o660), (["--socket-mode", "777"], 0o777)])
-def test_the_file_has_the_mode(serve, path, words, mode):
-    serve(*words, listen=f"unix:{path}")
-    found = os.stat(path).st_mode
-    assert stat.S_ISSOCK(found) and stat.S_IMODE(found) == mode
+def test_the_file_has_the_mode_and_replaces_an_old_socket(serve, path):
+    """(A server is killed, so its file stays.)"""
+    for words, mode in ([], 0o700), (["--socket-mode=0660"], 0o660), (["--socket-mode=777"], 0o777):
+        server = serve(*words, listen=f"unix:{path}")
+        ask(server.connect(), ASKED, END)
+        server.stop()
+        found = os.stat(path).st_mode
+        assert stat.S_ISSOCK(found) and stat.S_IMODE(found) == mode
 
 
 @pytest.mark.parametrize("mode", ["1000", "8", "", "-1", "0o7"])
@@ -236,14 +238,6 @@ def test_other_modes_are_refused(program, path, mode):
     words = "serve", "--listen", f"unix:{path}", f"--socket-mode={mode}"
     status, out, said = ended(program, *words)
     assert (status, out) == (2, b"") and b"--socket-mode" in said and not os.path.exists(path)
-
-
-def test_an_old_socket_is_replaced(program, path):
-    for _ in range(2):
-        # (it is killed, so its file stays)
-        with served.Server(program, listen=f"unix:{path}") as server:
-            ask(server.connect(), ASKED, END)
-        assert os.path.exists(path)
 
 
 # ---- where it can't listen
@@ -281,14 +275,10 @@ def test_a_port_that_another_server_or_program_has_is_refused(program, serve, pa
                 must_not_listen(program, f"127.0.0.1:{port}", "the port is taken", words=words)
 
 
-def test_a_socket_on_which_another_program_listens_stays(serve, program, path):
-    server = serve(listen=f"unix:{path}")
+def test_what_stands_at_a_path_stays(serve, program, path, tmp_path):
+    server, file, link = serve(listen=f"unix:{path}"), tmp_path / "file", tmp_path / "link"
     must_not_listen(program, f"unix:{path}", "another program listens there")
     ask(server.connect(), ASKED, END)
-
-
-def test_other_files_stay(program, tmp_path):
-    file, link = tmp_path / "file", tmp_path / "link"
     file.write_text("kept", encoding="ascii")
     link.symlink_to(file)
     for it in (file, link, tmp_path):
@@ -309,24 +299,3 @@ def test_a_port_that_it_may_not_use_is_refused(program):
 def test_without_descriptors_for_all_that_listens_it_is_refused(program, descriptors):
     under = ["prlimit", f"--nofile={descriptors}"]
     must_not_listen(program, PORT, "too few descriptors", under=under)
-
-
-TOO_LARGE_ITEM = b"fault: the largest item does not fit a segment\n"
-
-
-@pytest.mark.parametrize("words, said", [
-    (f"{PORT} --segment-size 5000", b"fault: bad geometry\n"),
-    # (it is told before a bad address)
-    ("nothing --segment-size 5000", b"fault: bad geometry\n"),
-    (f"{PORT} --segment-size 4096 --max-item-size 4033", TOO_LARGE_ITEM),
-    (f"{PORT} --segment-size 65536 --max-item-size 65473", TOO_LARGE_ITEM),
-    (f"{PORT} --segment-size 65536 --max-item-size 1048512", TOO_LARGE_ITEM),
-])
-def test_sizes_that_do_not_fit_are_told(program, words, said):
-    assert ended(program, "serve", "--listen", *words.split()) == (2, b"", said)
-
-
-def test_where_the_first_line_cannot_be_written_it_ends(program):
-    with open("/dev/full", "wb") as full_device:
-        status, _, said = ended(program, "serve", "--listen", PORT, stdout=full_device)
-    assert status == 1 and said.splitlines()[-1] == b"fault: cannot write"

@@ -14,18 +14,9 @@ import random
 import replays
 from hypothesis import given, settings
 from hypothesis import strategies as st
-from model import (
-    JOINS, LOCAL, SHOWN_AND_TOUCHED, STORES, TOO_LARGE, Cache, Item, refused)
-from stats_of import by_name
+from model import JOINS, LOCAL, SHOWN_AND_TOUCHED, STORES, Cache, refused
 
 FIRST_MOMENT = 1000
-
-
-def refused_leniently(cache, request):
-    """The answer to a storage command, not `set`, whose item is too large; None for others."""
-    verb, *words = request
-    is_larger = verb in STORES[1:] and Item(words[0], words[3], 0, 0).size > cache.largest
-    return TOO_LARGE if is_larger else None
 
 
 def spelled(cache, requests, tick):
@@ -34,9 +25,8 @@ def spelled(cache, requests, tick):
     executed = 0
     for at, request in enumerate(requests):
         moment = FIRST_MOMENT + tick * executed
-        refusal = refused_leniently(cache, request) if cache.is_lenient else refused(request)
-        if refusal:
-            sent, wanted = Cache(4096, 8).answer(request, moment)[0], refusal
+        if wanted := refused(cache, request):
+            sent, _ = Cache(4096, 8).answer(request, moment)
         else:
             sent, wanted = cache.answer(request, moment)
             executed += request[0] not in LOCAL
@@ -44,26 +34,14 @@ def spelled(cache, requests, tick):
 
 
 def must_be_answered_as(program, cache, requests, tick):
-    """One session is answered as the model answers that sends these requests, fifty in a piece, to
-    a store of its sizes and with its options."""
-    sent, wanted = zip(*spelled(cache, requests, tick))
+    """One session is answered as the model answers that sends these requests to a store of its
+    sizes and with its options."""
     words = f"--segment-size {cache.segment_size} --segments {cache.segments} --tick {tick}"
     words += f" --now {FIRST_MOMENT}" + " --lenient" * cache.is_lenient
     words += f" --max-item-size {cache.largest}" * (cache.largest != cache.segment_size // 8)
     words += " --evict least-read" * cache.is_least_read + " --exact-ttls" * cache.is_exact
     words += " --update-in-place" * cache.is_in_place
-    pieces, at = [b"".join(sent[it : it + 50]) for it in range(0, len(sent), 50)], 0
-    given_bytes = replays.given(program, words, *pieces)
-    for turn, answer in enumerate(wanted):
-        if isinstance(answer, dict):
-            end = given_bytes.index(b"END\r\n", at) + len(b"END\r\n")
-            found, at = by_name(given_bytes[at:end]), end
-            assert {name: int(found[name]) for name in answer} == answer, f"request {turn}, a stats"
-            continue
-        got = given_bytes[at : at + len(answer)]
-        assert got == answer, f"request {turn}, {sent[turn][:60]!r}"
-        at += len(answer)
-    assert given_bytes[at:] == b"", "more bytes than the model's"
+    replays.must_answer(program, words, spelled(cache, requests, tick))
 
 
 # ---- long runs

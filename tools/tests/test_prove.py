@@ -22,32 +22,6 @@ def test_each_crate_of_the_repository_has_a_line():
     assert set(prove.read_crates()) == crates
 
 
-LOG = """\
-== low: its tests
-logic=proved tests=3 functions=9 main=Abort
-rt: low: its tests are proved
-== low
-fn low::echo: proved
-logic=proved functions=7 sum=5f
-rt: low proved
-== high
-fn high::main: not proved
-logic=not-proved functions=2
-rt: high NOT PROVED
-rt: other is kept: an earlier run on this machine proved the same files
-3 passed, 1 failed
-"""
-
-
-def test_a_log_says_what_was_proved_of_each_crate_and_not_of_its_tests(tmp_path):
-    (tmp_path / "log").write_text(LOG)
-    found, last = prove.verdicts_of_log(tmp_path / "log")
-    assert found["low"] == "logic=proved functions=7 sum=5f"
-    assert "high" not in found
-    assert found["other"] == "kept: an earlier run on this machine proved the same files"
-    assert last == "3 passed, 1 failed"
-
-
 def test_the_program_names_its_version_and_the_logic_that_it_is_proved_with(program):
     lines = prove.output_of(program, "--version").splitlines()
     assert lines[0] == f"segcached {version()}"
@@ -91,6 +65,7 @@ RT = """#!/bin/bash
 grep -rq SLOW crates && { echo "rt: low proved"; sleep 60; }
 grep -rq WRONG crates && { echo "rt: low NOT PROVED"; echo "0 passed, 2 failed"; exit 1; }
 for name in low high; do
+  printf '%s\\n' "== $name: its tests" "logic=proved tests=3" "rt: $name: its tests are proved"
   printf '%s\\n' "== $name" "logic=proved functions=1" "rt: $name proved"
 done
 mkdir -p crates/high/out
@@ -100,6 +75,11 @@ echo "with "$(ls crates) "and "$(ls crates/low)
 cat crates.txt HANDLES
 echo "2 passed, 0 failed"
 """
+
+
+def write_program(path, text):
+    prove.write(path, text)
+    path.chmod(0o755)
 
 
 @pytest.fixture
@@ -112,8 +92,7 @@ def unproved(tmp_path, monkeypatch, commit):
     for name, root in (("low", "lib.rt"), ("high", "main.rt"), ("low_tests", "lib.rt")):
         prove.write(tmp_path / "crates" / name / "src" / root, f"// {name}\n")
         prove.write(tmp_path / "crates" / name / "wrong" / "one.edit", "file: src/lib.rt\n")
-    prove.write(tmp_path / "kit" / "rt", RT)
-    (tmp_path / "kit" / "rt").chmod(0o755)
+    write_program(tmp_path / "kit" / "rt", RT)
     monkeypatch.setenv("PATH", f"{tmp_path}/kit:{os.environ['PATH']}")
     monkeypatch.setattr(prove, "NAME", "high")
     monkeypatch.setattr(prove, "TOP", str(tmp_path))
@@ -126,25 +105,25 @@ def unproved(tmp_path, monkeypatch, commit):
 
 
 @pytest.fixture
-def repository(unproved, capsys):
+def repository(unproved):
     """The small repository once its program is proved."""
     assert prove.prove() == 0
     return unproved
 
 
-def proved_in(capsys):
-    """The crates that a run says are proved, with their numbers."""
-    return re.findall(r"^ +(\d of \d  \w+) ", capsys.readouterr().out, re.MULTILINE)
-
-
-def test_the_crates_of_the_program_alone_are_proved_without_their_wrong_bodies(unproved, capsys):
+@pytest.mark.parametrize("verdict, recorded", [
+    ("proved", "logic=proved functions=1"), ("is kept: an earlier run", "kept: an earlier run")])
+def test_the_crates_of_the_program_alone_are_proved_without_their_wrong_bodies(
+        unproved, capsys, verdict, recorded):
+    prove.write(unproved / "kit" / "rt", RT.replace("$name proved", f"$name {verdict}"))
     assert prove.prove() == 0
-    assert proved_in(capsys) == ["1 of 2  low", "2 of 2  high"]
+    proved = re.findall(r"^ +(\d of \d  \w+) ", capsys.readouterr().out, re.MULTILINE)
+    assert proved == ["1 of 2  low", "2 of 2  high"]
     log = (unproved / "crates" / "high" / "out" / "high.log").read_text().splitlines()
     assert "with high low and src" in log and {"low: ", "high: low bytes"} < set(log)
     assert "Handles allowed: none." in log
     assert log[-1] == "2 passed, 0 failed"
-    assert prove.is_kept()
+    assert prove.is_kept() and prove.read_record(prove.PROGRAM)["low"] == recorded
     # (a copy of sources, which `rt ci` of the repository would refuse, isn't left)
     assert {it.parent.name for it in unproved.rglob("*.rt")} == {"src"}
     assert not (unproved / "out").exists()
@@ -154,9 +133,12 @@ def test_the_record_says_what_was_proved_of_which_files_and_by_which_kit(reposit
     record = prove.read_record(prove.PROGRAM)
     assert record["files"] == prove.output_of("git", "rev-parse", "HEAD^{tree}", folder=repository)
     assert record["commit"] == prove.output_of("git", "rev-parse", "HEAD", folder=repository)
-    assert (record["kit"], record["low"]) == ("a kit", "logic=proved functions=1")
+    assert record["kit"] == "a kit"
     assert record["run"] == "2 passed, 0 failed, with no tests and no wrong bodies"
     assert read(f"{repository}/crates/high/out/PROVED").startswith("high 1.2.3\n")
+    prove.write(repository / "log", "== low\nlogic=not-proved functions=2\nrt: low NOT PROVED\n")
+    with pytest.raises(prove.Trouble, match="low isn't proved"):
+        prove.write_record(repository / "log", False)
 
 
 def test_there_is_no_record_of_files_that_changed_while_they_were_proved(unproved, monkeypatch):
@@ -164,13 +146,6 @@ def test_there_is_no_record_of_files_that_changed_while_they_were_proved(unprove
     monkeypatch.setattr(prove, "sum_or_none", lambda: next(sums))
     assert prove.prove() == 0
     assert not prove.read_record(prove.PROGRAM) and not prove.is_kept()
-
-
-def test_a_crate_that_an_earlier_run_proved_is_counted(unproved, capsys):
-    said = RT.replace("$name proved", "$name is kept: an earlier run")
-    prove.write(unproved / "kit" / "rt", said)
-    assert prove.prove() == 0
-    assert proved_in(capsys) == ["1 of 2  low", "2 of 2  high"]
 
 
 def test_a_crate_that_is_refused_is_named(unproved, capsys):
@@ -190,18 +165,15 @@ def test_an_interrupt_ends_what_runs_and_says_what_is_proved(unproved, capsys):
     assert said.startswith("Interrupted: 1 of 2 crates are proved and kept")
 
 
-@pytest.mark.parametrize("path", [
+@pytest.mark.parametrize("path, text", [*((path, "changed") for path in (
     "crates/low/src/lib.rt", "crates/high/src/main.rt", "crates/high/stdout", "README.md",
-    "crates/low/specs/More.antt", "crates/high/out/high"])
-def test_a_change_is_seen(repository, path):
+    "crates/low/specs/More.antt", "crates/high/out/high")),
+    ("crates/high/out/high", None), ("crates/high/out/PROVED", None)])
+def test_what_is_changed_or_gone_is_seen(repository, path, text):
     assert prove.is_kept()
-    prove.write(repository / path, "changed")
-    assert not prove.is_kept()
-
-
-@pytest.mark.parametrize("name", ["high", "PROVED"])
-def test_what_is_gone_is_seen(repository, name):
-    (repository / "crates" / "high" / "out" / name).unlink()
+    (repository / path).unlink(missing_ok=True)
+    if text:
+        prove.write(repository / path, text)
     assert not prove.is_kept()
 
 
@@ -210,10 +182,9 @@ def test_the_readme_names_the_logic():
 
 
 def memory_file(folder, gigabytes):
-    path = folder / "meminfo"
     lines = "MemTotal:       99999999 kB\nMemFree: 1 kB\nMemAvailable:   %d kB\n"
-    path.write_text(lines % (gigabytes * 1024**2))
-    return str(path)
+    prove.write(folder / "meminfo", lines % (gigabytes * 1024**2))
+    return str(folder / "meminfo")
 
 
 def test_free_memory_is_that_of_the_machine_or_of_its_group(tmp_path):
@@ -225,46 +196,33 @@ def test_free_memory_is_that_of_the_machine_or_of_its_group(tmp_path):
     for limits, free in (([], 16), ([limit], 4), ([unlimited, none], 16)):
         groups = [(it, stat, "anon") for it in limits]
         assert prove.free_gigabytes(memory, groups) == free
-
-
-def test_memory_for_less_than_two_proofs_is_said():
     assert prove.lacks_memory(9.0) is None
-    assert prove.lacks_memory(8.9) == "8.9 GB of memory are free, and proving needs 9 GB"
 
 
-def said_by_run(path, top=TOP):
-    """The one line with which `make run` ends with this as its path."""
-    words = [sys.executable, f"{top}/tools/run.py"]
-    status, printed, said = ended(*words, env={"PATH": str(path)}, text=True, seconds=20)
-    assert (status, printed, said.count("\n")) == (1, "", 1)
-    return said
-
-
-def folder_with_rt(folder, line):
-    (folder / "rt").write_text(f"#!/bin/sh\necho '{line}'\n")
-    (folder / "rt").chmod(0o755)
-    return folder
-
-
-def test_a_run_without_rt_says_so_in_one_line(tmp_path):
-    lacking = "there is no rt on the path: segcached is proved with a Rattle kit of"
-    assert said_by_run(tmp_path) == f"segcached: {lacking} '{prove.logic()}'\n"
-
-
-def test_a_run_with_an_rt_of_another_logic_says_so_in_one_line(tmp_path):
-    kit = "rattle-kit-99x logic 0000000000000000"
-    said = said_by_run(folder_with_rt(tmp_path, kit))
-    assert f"'{kit}'" in said and prove.logic() in said
-
-
-def test_a_run_with_little_memory_says_so_in_one_line(tmp_path):
-    """In a repository in which nothing is proved, memory is said to be short."""
+@pytest.fixture
+def tree(tmp_path):
+    """A repository in which nothing is proved, on a machine with 8.9 GB of free memory."""
     for name in ("tools", "packaging"):
         ignored = shutil.ignore_patterns("tests")
         shutil.copytree(f"{TOP}/{name}", tmp_path / name, ignore=ignored)
     tool = tmp_path / "tools" / "prove.py"
-    tool.write_text(tool.read_text().replace("/proc/meminfo", memory_file(tmp_path, 5.5)))
-    (tmp_path / "crates.txt").write_text("segcached:\n")
-    folder = folder_with_rt(tmp_path, f"rattle-kit-99x {prove.logic()}")
-    said = said_by_run(f"{folder}:/usr/bin:/bin", tmp_path)
-    assert said == "segcached: 5.5 GB of memory are free, and proving needs 9 GB\n"
+    tool.write_text(tool.read_text().replace("/proc/meminfo", memory_file(tmp_path, 8.9)))
+    prove.write(tmp_path / "crates.txt", "segcached:\n")
+    return tmp_path
+
+
+OTHER = "rattle-kit-99x logic 0000000000000000"
+
+
+# What the rt on the path says, if there is one, and the line with which `make run` ends.
+@pytest.mark.parametrize("kit, said", [
+    (None, "there is no rt on the path: segcached is proved with a Rattle kit of '{}'"),
+    (OTHER, f"the rt on the path has another logic, '{OTHER}': segcached is proved with '{{}}'"),
+    ("rattle-kit-99x {}", "8.9 GB of memory are free, and proving needs 9 GB"),
+], ids=["no kit", "another logic", "little memory"])
+def test_a_run_that_lacks_something_says_so_in_one_line(tree, kit, said):
+    if kit:
+        write_program(tree / "rt", f"#!/bin/sh\necho '{kit.format(prove.logic())}'\n")
+    path = {"PATH": f"{tree}:/usr/bin:/bin" if kit else str(tree)}
+    found = ended(sys.executable, f"{tree}/tools/run.py", env=path, text=True, seconds=20)
+    assert found == (1, "", f"segcached: {said.format(prove.logic())}\n")

@@ -13,15 +13,11 @@ BUILT = f"{REFUSED_GROWTH}/out/refused_growth"
 SCRIPT = f"{TOP}/crates/segcached/data/script"
 
 
-@pytest.fixture
-def refuse(tmp_path):
+def runs(folder, kind, *words):
     """Runs a command again and again, each time with the next request of a kind refused, until none
     is left to refuse: gives each run's number, and how it ended."""
-    def runs(kind, *words):
-        for number, environment in served.refusals(kind, tmp_path):
-            yield number, served.ended(*words, env=environment)
-
-    return runs
+    for number, environment in served.refusals(kind, folder):
+        yield number, served.ended(*words, env=environment)
 
 
 @pytest.fixture
@@ -35,13 +31,13 @@ def two_workers(tmp_path):
 
 
 @pytest.mark.parametrize("kind", ["REFUSE_NTH", "REFUSE_THREAD"], ids=["memory", "threads"])
-def test_what_is_refused_changes_nothing_that_is_written(refuse, kind):
+def test_what_is_refused_changes_nothing_that_is_written(tmp_path, kind):
     """Of refused_growth; what it writes stands in its file stdout. If a thread is refused none of
     its group begins, of which ports and clocks count how often they are asked; it runs a group of
     three threads twice."""
     assert os.access(BUILT, os.X_OK), "it isn't built: (cd crates/refused_growth && rt run)"
     wanted = 0, pathlib.Path(f"{REFUSED_GROWTH}/stdout").read_bytes()
-    for number, ended in refuse(kind, BUILT):
+    for number, ended in runs(tmp_path, kind, BUILT):
         assert ended[:2] == wanted, f"request {number}"
     assert number > 1 if kind == "REFUSE_NTH" else number == 7
 
@@ -58,11 +54,11 @@ FAULTS = {b"fault: out of memory", b"fault: cannot start a thread"}
     ["--help"], ["nonsense"], ["replay", f"{TOP}/crates/none"], ["replay", SCRIPT], None,
 ], ids=["help", "bad words", "a missing script", "a script", "two workers"])
 def test_segcached_ends_as_without_a_refusal_or_says_out_of_memory(
-        program, refuse, two_workers, words):
+        program, tmp_path, two_workers, words):
     words = words or two_workers
     wanted, out, _ = served.ended(program, *words)
     wanted_lines = beginnings(out)
-    for number, (status, out, said) in refuse("REFUSE_NTH", program, *words):
+    for number, (status, out, said) in runs(tmp_path, "REFUSE_NTH", program, *words):
         lines = beginnings(out)
         if status == wanted:
             assert lines == wanted_lines, f"request {number}"
@@ -73,6 +69,6 @@ def test_segcached_ends_as_without_a_refusal_or_says_out_of_memory(
 
 
 def test_a_refused_thread_is_a_fault_of_its_own_and_nothing_is_printed(
-        program, refuse, two_workers):
-    *ends, _ = (ended for _, ended in refuse("REFUSE_THREAD", program, *two_workers))
+        program, tmp_path, two_workers):
+    *ends, _ = (ended for _, ended in runs(tmp_path, "REFUSE_THREAD", program, *two_workers))
     assert ends == [(1, b"", b"fault: cannot start a thread\n")] * 3

@@ -306,6 +306,10 @@ BY_WORDS = {
         "append a 0 0 0||get a|":
             f"STORED|STORED|{2 * TOO_LARGE}STORED|VALUE a 0 8167|{X}y|END|"},
     "": {"set a 0 0 131073|get b|": TOO_LARGE},
+    "--segment-size 1048576 --max-item-size 1048512": {
+        f"set a 0 0 131072|{BLOCK}|get a|": f"STORED|VALUE a 0 131072|{BLOCK}|END|",
+        f"set a 0 0 131073|{BLOCK}z|get a|": TOO_LARGE,
+    },
     "--segment-size 4096 --segments 8": {
         "set a 0 0 487|" + "x" * 487 + "|": "STORED|",
         "set a 0 0 488|" + "x" * 488 + "|get b|": TOO_LARGE + "END|",

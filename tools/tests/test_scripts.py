@@ -1,16 +1,20 @@
-"""`segcached replay`: faults of scripts and of files, several workers, ports with faults, and
-scripts of 16 MB: what is printed, how long it takes, and how much memory.
+"""`segcached replay`: faults of scripts and of files, several workers, ports with faults, scripts
+of 16 MB, and requests that are handed over in batches: what is printed, how long it takes, and how
+much memory.
 
 Each large one ends within SECONDS, which is many times what it takes on a quiet machine and far
 below what it takes if the port walks over all events for each one. Sessions that are opened and say
 nothing take at most MEGABYTES.
 """
+import itertools
 import os
 import subprocess
 
 import pytest
-from asking import SET_AND_GET, SET_AND_GET_ANSWER, wire
-from replays import ended, printed
+from asking import (
+    DELETED, END, SET_AND_GET, SET_AND_GET_ANSWER, STORED, get, hit, is_same, put, wire)
+from replays import ended, given, in_parts, printed
+from script_of import Script
 
 LARGEST = 16_777_216
 SECONDS, MEGABYTES = 30, 750
@@ -48,20 +52,6 @@ def test_a_file_that_cannot_be_read_is_a_fault(program, tmp_path, file, shown):
     assert ended(program, file=file, cwd=tmp_path) == fault(b"cannot read " + shown)
 
 
-def test_output_that_cannot_be_written_is_a_fault(program):
-    with open("/dev/full", "wb") as full:
-        found = ended(program, script=b"open 0 1\n", stdout=full)
-    assert found == (1, None, b"fault: cannot write\n")
-
-
-def test_a_geometry_that_is_none_is_a_fault(program):
-    assert ended(program, "--segment-size", "5000") == fault(b"bad geometry")
-    for size, largest in ("4096", "4033"), ("65536", "65473"):
-        found = ended(program, "--segment-size", size, "--max-item-size", largest)
-        assert found == fault(b"the largest item does not fit a segment")
-    assert ended(program, "--segment-size", "4096", "--max-item-size", "4032")[0] == 0
-
-
 def digits(text):
     return wire(text).hex().encode()
 
@@ -70,9 +60,14 @@ def digits(text):
 SENT, GIVEN = SET_AND_GET % (b"a", b"a"), SET_AND_GET_ANSWER % b"a"
 
 
-def in_pieces(sent, line):
+def line(session, answers, worker=0):
+    """What is printed of a session."""
+    return b"%d %d %b\n" % (worker, session, answers.hex().encode() or b"-")
+
+
+def in_pieces(sent, form):
     """A session whose bytes come one at a time, each by such a line."""
-    return b"open 0 1\n" + b"".join(line % byte for byte in sent)
+    return b"open 0 1\n" + b"".join(form % byte for byte in sent)
 
 
 def test_pieces_of_a_byte_and_sessions_without_bytes(program):
@@ -87,17 +82,17 @@ def test_a_later_session_reads_what_an_earlier_one_stored(program):
     script = b"open 0 1\nsend 0 1 %b\ngone 0 1\nopen 0 2\nsend 0 2 %b\n" % (
         digits("set a 0 0 1|x|"), digits("get a|"))
     first, _, second = printed(program, "", script).partition(b"\n")
-    assert first == b"0 1 -" or (b"0 1 " + digits("STORED|")).startswith(first)
-    assert second == b"0 2 %b\n" % digits("VALUE a 0 1|x|END|")
+    assert first == b"0 1 -" or line(1, STORED).startswith(first)
+    assert second == line(2, hit(b"a", b"x"))
 
 
 @pytest.mark.parametrize("keys, workers", [(b"ab", 2), (b"ab", 8), (b"abcdefgh", 8)])
 def test_several_workers(program, keys, workers):
     script, wanted = b"", b""
     for worker, key in enumerate(b"%c" % it for it in keys):
-        sent, given = SET_AND_GET % (key, key), SET_AND_GET_ANSWER % key
-        script = b"open %d 5\nsend %d 5 %b\n" % (worker, worker, digits(sent)) + script
-        wanted += b"%d 5 %b\n" % (worker, digits(given))
+        sent = digits(SET_AND_GET % (key, key))
+        script = b"open %d 5\nsend %d 5 %b\n" % (worker, worker, sent) + script
+        wanted += line(5, SET_AND_GET_ANSWER % key, worker)
     assert printed(program, f"--workers {workers}", script) == wanted
 
 
@@ -112,12 +107,8 @@ def test_faults_of_ports(program, words, wanted):
 def test_a_peer_that_goes_was_given_a_beginning_of_the_whole_output(program):
     for count in range(len(SENT)):
         script = in_pieces(SENT[:count], b"send 0 1 %02x\n") + b"gone 0 1\n"
-        line = printed(program, "", script).rstrip(b"\n")
-        assert line == b"0 1 -" or (b"0 1 " + digits(GIVEN)).startswith(line), count
-
-
-def line(session, answers):
-    return b"0 %d %b\n" % (session, answers.hex().encode() or b"-")
+        found = printed(program, "", script).rstrip(b"\n")
+        assert found == b"0 1 -" or line(1, GIVEN).startswith(found), count
 
 
 def opened_sessions():
@@ -133,8 +124,8 @@ def in_turn(*requests):
     sends = b"".join(b"send 0 %d %b\n" % (session, digits(it))
                      for session, it in enumerate(requests, 1))
     times = (LARGEST - len(head)) // len(sends)
-    given = [b"END\r\n" * times * (it == GET) for it in requests]
-    return head + sends * times, b"".join(line(session, it) for session, it in enumerate(given, 1))
+    answers = [END * times * (it == GET) for it in requests]
+    return head + sends * times, b"".join(map(line, itertools.count(1), answers))
 
 
 def one_behind_the_other():
@@ -171,3 +162,44 @@ def test_a_large_script_is_replayed_in_little_time(program, tmp_path, made, acce
         it.unlink()
     assert process.returncode == 0 and is_right
     assert usage.ru_maxrss <= MEGABYTES * 1000 or made is not opened_sessions
+
+
+# ---- batches
+
+# How many requests there are, of which each session sends some at a time, and how many writes.
+REQUESTS, AT_A_TIME, SETS = 2_000, 64, 40_000
+
+
+def asked(worker, place):
+    """The request of a worker at this place, with its answer: five after each other are of one of
+    its seven keys, which no other worker uses."""
+    key, first = b"%c%d" % (b"abcdefgh"[worker], place // 5 % 7), place // 5 * 5
+    number, count = b"%d" % (first % 10), b"%d" % (first % 10 + first + 2)
+    return (
+        (put(key, number, flags=7), STORED), (get(key), hit(key, number, 7)),
+        (b"incr %b %d\r\n" % (key, place), count + b"\r\n"), (get(key), hit(key, count, 7)),
+        (b"delete %b\r\n" % key, DELETED),
+    )[place % 5]
+
+
+@pytest.mark.parametrize("workers", range(1, 9))
+def test_each_worker_is_given_the_answers_to_its_requests(program, workers):
+    each = REQUESTS // workers
+    talks = [[asked(worker, place) for place in range(each)] for worker in range(workers)]
+    script = Script(workers)
+    sessions = [script.open() for _ in talks]
+    for at in range(0, each, AT_A_TIME):
+        for session, talk in zip(sessions, talks):
+            script.send(session, b"".join(request for request, _ in talk[at : at + AT_A_TIME]))
+    wanted = b"".join(line(worker + 1, b"".join(answer for _, answer in talk), worker)
+                      for worker, talk in enumerate(talks))
+    assert printed(program, f"--workers {workers}", script.text().encode()) == wanted
+
+
+@pytest.mark.parametrize("evict", ["oldest", "least-read"])
+def test_each_set_is_stored_while_segments_are_merged(program, evict):
+    # (these look random)
+    keys = ((number * 0x9E3779B97F4A7C15 % 2**64).to_bytes(8, "little") for number in range(SETS))
+    sets = b"".join(put(key.hex()[:8].encode(), b"v" * 100) for key in keys)
+    words = f"--evict {evict} --segment-size 65536 --segments 64"
+    assert is_same(given(program, words, *in_parts(sets)), STORED * SETS)

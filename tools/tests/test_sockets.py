@@ -11,7 +11,7 @@ import pytest
 import tries
 from asking import (
     END, MISS, SET_AND_GET, SET_AND_GET_ANSWER, STORED, TOO_LARGE, ask, ask_set_and_get, beside,
-    hit, hits, is_same, opened, put, seconds_to)
+    hit, is_same, opened, put, seconds_to)
 from served import comes_true, read_exactly, read_till_closed, read_to_end, reset, together
 from stats_of import wait_for
 
@@ -24,12 +24,10 @@ LINGERING = 2
 @pytest.mark.parametrize("workers", [1, 2])
 def test_a_burst_of_a_thousand_is_served(serve, workers, storage):
     server = serve("--workers", str(workers), *storage)
-    streams = {}
-    for number in range(1000):
-        stream = socket.socket()
+    streams = {socket.socket(): b"key%d" % number for number in range(1000)}
+    for stream in streams:
         stream.setblocking(False)
         stream.connect_ex(("127.0.0.1", server.port))
-        streams[stream] = b"key%d" % number
     for stream, key in streams.items():
         stream.settimeout(20)
         stream.sendall(SET_AND_GET % (key, key))
@@ -44,42 +42,28 @@ def test_a_stalled_reader_costs_others_nothing_and_is_served_later(serve, storag
     value, server = b"v" * size, serve("--workers", "1", *storage)
 
     def slowest(key):
-        """The longest wait of another client for one of 200 answers."""
-        stream = server.connect()
-        return max(seconds_to(stream, SET_AND_GET % (key, key), SET_AND_GET_ANSWER % key)
-                   for _ in range(200))
+        stream, asked = server.connect(), (SET_AND_GET % (key, key), SET_AND_GET_ANSWER % key)
+        return max(seconds_to(stream, *asked) for _ in range(200))
 
     with server.connect(receive_buffer=4096) as stalled:
         ask(stalled, put(b"big", value), STORED)
         sender = beside(stalled.sendall, b"get big\r\n" * times)
         answers = 100 * hit(b"big", value)
-        assert is_same(read_exactly(stalled, len(answers)), answers)
-        time.sleep(0.5)
-        assert max(together(lambda it=it: slowest(b"%d" % it) for it in range(10))) < 10
-        assert server.kilobytes("VmRSS") < 80_000
-        for _ in range(times // 100 - 1):
+        for turn in range(times // 100):
             assert is_same(read_exactly(stalled, len(answers)), answers)
+            if turn == 0:
+                time.sleep(0.5)
+                assert max(together(lambda it=it: slowest(b"%d" % it) for it in range(10))) < 10
+                assert server.kilobytes("VmRSS") < 80_000
         sender.join()
 
 
 def test_a_client_may_close_without_reading(serve):
     server = serve("--workers", "2", "--sessions", "2")
-    with server.connect() as first:
-        first.sendall(SET_AND_GET % (b"a", b"a"))
-    with server.connect() as second:
-        second.sendall(b"get a\r\nquit\r\n")
-        assert read_to_end(second) in (END, hit(b"a", b"x"))
+    opened(server, 1, SET_AND_GET % (b"a", b"a"))[0].close()
+    second, = opened(server, 1, b"get a\r\nquit\r\n")
+    assert read_to_end(second) in (END, hit(b"a", b"x"))
     assert server.process.wait(20) == 0
-
-
-def test_a_lone_client_is_answered_soon_after_a_pause(serve, storage):
-    """In some 100 us on a quiet machine; a storage thread that isn't woken sleeps for 100 ms. (A
-    quarter of them are soon even on a machine whose processors are all busy.)"""
-    stream, took = serve("--workers", "2", *storage).connect(), []
-    for _ in range(100):
-        time.sleep(0.01)
-        took.append(seconds_to(stream))
-    assert sorted(took)[25] < 0.05
 
 
 def test_an_idle_server_takes_no_processor_time(serve, storage):
@@ -97,17 +81,16 @@ def median_wait_of_newcomers(server):
     for _ in range(15):
         time.sleep(0.005)
         began = time.monotonic()
-        with server.connect() as stream:
-            ask(stream, MISS, END)
+        opened(server, 1, MISS, END)[0].close()
         took.append(time.monotonic() - began)
     return sorted(took)[7]
 
 
 @pytest.mark.parametrize("before", [0, 3000], ids=["at first", "after many"])
-def test_a_worker_that_sleeps_is_woken_for_newcomers(serve, before):
-    """One that isn't hears of them a tenth of a second later. So does one that never reads the
-    bytes by which it is woken, once some hundreds of them fill its waker."""
-    server = serve("--workers", "1")
+def test_threads_that_sleep_are_woken_for_newcomers(serve, storage, before):
+    """One that isn't hears of them, or of their requests, a tenth of a second later. So does a
+    worker that never reads the bytes by which it is woken, once some hundreds fill its waker."""
+    server = serve("--workers", "1", *storage)
     for _ in range(before):
         server.connect().close()
     tries.all_in_time(lambda: median_wait_of_newcomers(server), 0.05)
@@ -151,41 +134,36 @@ def test_a_pipeline_of_exactly_what_is_read_at_a_time_is_answered_and_goes_on(se
     assert len(requests) == pieces * PIECE
     server = serve("--workers", "1")
     for _ in range(20):
-        with server.connect() as stream:
-            ask(stream, requests, END * count)
-            ask(stream, MISS, END)
-
-
-def half_closed(server, number):
-    """A client's stream, its 2,000 requests, which each other client's store, and each answer."""
-    request, answer = ((b"set s%d-%d 0 0 1\r\nx\r\n", STORED), (b"get g%d-%d\r\n", END))[number % 2]
-    stream, = opened(server, 1, MISS, END)
-    return stream, [request % (number, key) for key in range(2000)], answer
+        stream, = opened(server, 1, requests, END * count)
+        ask(stream, MISS, END)
 
 
 def test_a_client_that_sends_no_more_gets_all_answers_of_a_process_that_stood_still(serve, storage):
-    """Some closed their sending half before the process stopped, some while it stood still."""
+    """Some closed their sending half before the process stopped, some while it stood still. Each
+    other one stores, and the rest look up what isn't there."""
     server = serve("--workers", "2", *storage)
-    clients = [half_closed(server, number) for number in range(8)]
-    for stream, requests, _ in clients[:4]:
-        stream.sendall(b"".join(requests))
-        stream.shutdown(socket.SHUT_WR)
-    for stream, requests, _ in clients[4:]:
-        stream.sendall(b"".join(requests[:1000]))
+    streams = opened(server, 8, MISS, END)
+
+    def send(numbers, first, last):
+        for number in numbers:
+            form = b"get g%d-%d\r\n" if number % 2 else b"set s%d-%d 0 0 1\r\nx\r\n"
+            requests = b"".join(form % (number, at) for at in range(first, last))
+            streams[number].sendall(requests)
+            if last == 2000:
+                streams[number].shutdown(socket.SHUT_WR)
+
+    send(range(4), 0, 2000)
+    send(range(4, 8), 0, 1000)
     server.process.send_signal(signal.SIGSTOP)
-    for stream, requests, _ in clients[4:]:
-        stream.sendall(b"".join(requests[1000:]))
-        stream.shutdown(socket.SHUT_WR)
+    send(range(4, 8), 1000, 2000)
     time.sleep(2.2)
     server.process.send_signal(signal.SIGCONT)
-    for stream, _, answer in clients:
-        assert is_same(read_to_end(stream), answer * 2000)
-    stream = server.connect()
+    for number, stream in enumerate(streams):
+        assert is_same(read_to_end(stream), (END if number % 2 else STORED) * 2000)
     for number in range(0, 8, 2):
-        for at in range(0, 2000, 100):
-            keys = [b"s%d-%d" % (number, key) for key in range(at, at + 100)]
-            shown = b"".join(hits(it, b"x") for it in keys)
-            ask(stream, b"get %b\r\n" % b" ".join(keys), shown + END)
+        gets = b"".join(b"get s%d-%d\r\n" % (number, at) for at in range(2000))
+        shown = b"".join(hit(b"s%d-%d" % (number, at), b"x") for at in range(2000))
+        opened(server, 1, gets, shown)
 
 
 @pytest.mark.parametrize("requests, answers, most", [
@@ -198,25 +176,13 @@ def test_a_client_that_sends_no_more_is_closed_with_its_last_answer(
     """(A timer of 20 milliseconds would be in all of them.)"""
     took, server = [], serve("--workers", "1", "--sessions", "11")
     for _ in range(11):
-        with server.connect() as stream:
-            stream.sendall(requests)
-            stream.shutdown(socket.SHUT_WR)
-            began = time.monotonic()
-            assert read_to_end(stream) == answers
-            took.append(time.monotonic() - began)
+        stream, = opened(server, 1, requests)
+        stream.shutdown(socket.SHUT_WR)
+        began = time.monotonic()
+        assert read_to_end(stream) == answers
+        took.append(time.monotonic() - began)
     assert server.process.wait(20) == 0
     assert min(took) < most
-
-
-def test_a_late_reader_that_sends_no_more_gets_all_answers(serve):
-    """24 MB of answers, of which the server may keep a part alone while nobody reads."""
-    value, server = b"v" * 60_000, serve("--workers", "1", "--segment-size", "1048576")
-    with server.connect(30, receive_buffer=65536) as stream:
-        ask(stream, put(b"big", value), STORED)
-        stream.sendall(b"get big\r\n" * 400)
-        stream.shutdown(socket.SHUT_WR)
-        time.sleep(1)
-        assert is_same(read_to_end(stream), hit(b"big", value) * 400)
 
 
 def shut(server):
@@ -240,46 +206,41 @@ def test_each_of_twenty_that_send_too_much_sees_why_it_is_shut(serve):
     """It reads only once it has sent a mebibyte of its block."""
     server = serve("--workers", "2", "--sessions", "20")
     for _ in range(20):
-        with server.connect() as stream:
-            stream.sendall(b"set a 0 0 1048576\r\n" + bytes(1 << 20))
-            assert read_to_end(stream) == TOO_LARGE
+        stream, = opened(server, 1, b"set a 0 0 1048576\r\n" + bytes(1 << 20))
+        assert read_to_end(stream) == TOO_LARGE
+        stream.close()
     assert server.process.wait(20) == 0
 
 
 def seconds_held(server):
     """How long a session that quits is held, whose client neither closes nor sends. (It is counted
     before it quits: this process may stand still until the session has gone.)"""
-    with server.connect() as stream:
-        ask(stream, MISS, END)
-        held, began = server.descriptors(), time.monotonic()
-        stream.sendall(b"quit\r\n")
-        assert read_to_end(stream) == b""
-        assert comes_true(lambda: server.descriptors() == held - 1)
-        took = time.monotonic() - began
-        assert took > 1
-        return took
+    stream, = opened(server, 1, MISS, END)
+    held, began = server.descriptors(), time.monotonic()
+    stream.sendall(b"quit\r\n")
+    assert read_to_end(stream) == b""
+    assert comes_true(lambda: server.descriptors() == held - 1)
+    assert time.monotonic() - began > 1
+    return time.monotonic() - began
 
 
 def seconds_of_sending(server):
     """How long one that quits and goes on is read: 16 MiB, and what waits in the system's buffers,
     tens of MB at most, are sent. After two seconds it is closed, however little came."""
-    sent, piece = 0, bytes(1 << 16)
-    with shut(server) as stream:
-        began = time.monotonic()
-        with contextlib.suppress(ConnectionResetError, BrokenPipeError):
-            while sent < 256 << 20:
-                sent += stream.send(piece)
-        took = time.monotonic() - began
+    sent, stream, began = 0, shut(server), time.monotonic()
+    with contextlib.suppress(ConnectionResetError, BrokenPipeError):
+        while sent < 256 << 20:
+            sent += stream.send(bytes(1 << 16))
     assert sent < 128 << 20
-    return took
+    return time.monotonic() - began
 
 
 def seconds_until_closed(server):
     """How long the stream of a session that was shut stays open once its peer has closed it."""
-    held = server.descriptors()
-    with shut(server):
-        # (until nothing of it is left to be read)
-        time.sleep(0.2)
+    held, stream = server.descriptors(), shut(server)
+    # (until nothing of it is left to be read)
+    time.sleep(0.2)
+    stream.close()
     began = time.monotonic()
     comes_true(lambda: server.descriptors() <= held)
     return time.monotonic() - began
@@ -288,8 +249,8 @@ def seconds_until_closed(server):
 def seconds_to_send(server):
     """How long a client takes to send bytes that nobody wants, after its session was shut: more
     than the system's buffers hold, and less than is read of it."""
-    with shut(server) as stream, contextlib.suppress(OSError):
-        return seconds_to(stream, bytes(14 << 20), b"")
+    with contextlib.suppress(OSError):
+        return seconds_to(shut(server), bytes(14 << 20), b"")
     return float("inf")
 
 
@@ -302,21 +263,19 @@ def test_a_session_that_was_shut_is_read_for_two_seconds(serve, took, most):
     tries.all_in_time(lambda: took(server), most)
 
 
-def most_held(server, clients):
-    """The most streams that are open beyond one while so many are shut; None if it takes long."""
-    opened(server, 1, MISS, END)
-    held, began, most = server.descriptors(), time.monotonic(), 0
-    for _ in range(clients):
-        shut(server)
-        most = max(most, server.descriptors() - held)
-    return most if time.monotonic() - began < LINGERING else None
-
-
 def test_at_most_256_sessions_that_were_shut_are_read(serve):
-    """Of more the oldest one is closed at once. (The last one may count beside 256 for a
-    moment.)"""
-    attempts = (most_held(serve("--workers", "1"), 300) for _ in range(10))
-    assert next(it for it in attempts if it is not None) in (256, 257)
+    """Of more the oldest one is closed at once. (The last one may count beside 256 for a moment. A
+    try that takes long says nothing.)"""
+    for _ in range(10):
+        server, most = serve("--workers", "1"), 0
+        opened(server, 1, MISS, END)
+        held, began = server.descriptors(), time.monotonic()
+        for _ in range(300):
+            shut(server)
+            most = max(most, server.descriptors() - held)
+        if time.monotonic() - began < LINGERING:
+            break
+    assert most in (256, 257)
 
 
 def come_and_go(port, count, at_once=40):

@@ -5,15 +5,16 @@ import os
 import re
 import resource
 import struct
-import sys
 import time
 
 import memcache
+import pylibmc
 import pytest
 import served
 import tries
 from asking import (
-    END, LARGE, MISS, STORED, ask, asks_for, flood, get, hit, opened, put, wire, write_large)
+    END, LARGE, MISS, STORED, ask, asks_for, flood, get, hit, opened, put, seconds_to, wire,
+    write_large)
 from model import COUNTED
 from pymemcache.client.base import Client
 from replays import given
@@ -80,23 +81,7 @@ def test_counts_stand_first_in_their_order(program):
     assert got[: len(wanted)] == wanted
 
 
-def test_what_is_evicted_is_counted(serve):
-    stream = serve("--lenient").connect()
-    for number in range(3000):
-        ask(stream, put(b"key-%d" % number, b"v" * 3000), STORED)
-    found = numbers(stream)
-    assert found["curr_items"] + found["evictions"] == 3000 and found["evictions"] > 1000
-    sizes = [found[it] for it in ("segments", "segment_size", "limit_maxbytes")]
-    assert sizes == [64, 65536, 4 * MIB]
-    assert found["merges"] > 0 and found["segments_free"] < 4
-    assert found["evicted_by_merge"] + found["evicted_by_clearing"] == found["evictions"]
-    assert 0 < found["merge_us_max"] < 1_000_000
-    # (24 bytes, the key and the value, rounded up to 8)
-    assert 3032 * found["curr_items"] >= found["bytes"] > 3024 * found["curr_items"]
-    assert found["bytes"] + found["segment_bytes_dead"] == (64 - found["segments_free"]) * 65536
-
-
-def test_the_longest_merge_is_kept(serve):
+def test_the_longest_merge_is_kept_and_what_is_evicted_counted(serve):
     """Merges of many small items take longer than those of few large ones, which come later."""
     stream, longest = serve("--lenient", "--segments", "8").connect(), [0]
     for turn in range(60):
@@ -108,6 +93,7 @@ def test_the_longest_merge_is_kept(serve):
         longest.append(found["merge_us_max"])
     assert found["merges"] > 10 and longest == sorted(longest)
     assert 0 < longest[-1] < 10_000_000
+    assert found["curr_items"] + found["evictions"] == 40 * 500 + 20 * 20
 
 
 def test_connections_that_are_set_aside_are_counted(serve):
@@ -119,24 +105,17 @@ def test_connections_that_are_set_aside_are_counted(serve):
     assert 100 <= numbers(stream)["conn_yields"] < 10_000
 
 
-def test_what_is_closed_is_told(serve):
-    server = serve("--lenient", "--workers", "2")
-    for sent in (b"set a 0 0 no\r\n", b"set a 0 0 1\r\ntoo long\r\n", b"\x80binary"):
-        with server.connect() as other:
-            other.sendall(sent)
-            read_to_end(other)
-    wait_for(server.connect(), idle_kicks=0, closed_malformed=2, closed_binary=1)
-
-
 def block(verb, size, words=""):
     return f"{verb} a 0 0 {size}{words}|{'v' * size}|"
 
 
-# By gauges, what a session sends of which each counts something once or twice. An item has 24
-# bytes beside key and value, and 8,192 at most.
+# Gauges, what each counts, and what sessions send, between which `~` stands. An item has 24 bytes
+# beside key and value, and 8,192 at most.
 GAUGES = [
     ("unknown_commands", 2, "nonsense|ms a 1|get|incr a|"),
     ("bad_lines", 2, "nonsense|ms a 1|get|incr a|"),
+    ("closed_malformed", 2, "set a 0 0 no|~set a 0 0 1|too long|"),
+    ("closed_binary", 1, "\x80binary"),
     # (not what is stored, what isn't for another cause, and what is no storage command)
     ("store_too_large", 1, block("set", 8167) + block("set", 8167, " noreply") + block("add", 1)
      + block("cas", 1, " 0") + f"append b 0 0 1|x|incr b 1|{'x' * 9000}|" + block("set", 8168)),
@@ -150,9 +129,10 @@ GAUGES = [
 @pytest.mark.parametrize("gauge, count, sent", GAUGES, ids=lambda it: str(it)[:20])
 def test_a_gauge_counts(serve, gauge, count, sent):
     server = serve("--lenient")
-    stream = server.connect()
-    stream.sendall(wire(sent + "quit|"))
-    read_to_end(stream)
+    for text in sent.split("~"):
+        with server.connect() as stream:
+            stream.sendall(wire(text + "quit|"))
+            read_to_end(stream)
     wait_for(server.connect(), **{gauge: count})
 
 
@@ -194,13 +174,12 @@ def test_clock_and_machine_are_told(serve):
 
 
 def test_each_thread_has_a_name_of_its_own(serve):
-    workers = {f"worker {number}" for number in range(8)}
+    named = {"storage", "listener", *(f"worker {number}" for number in range(8))}
     server = serve("--workers", "8")
     ask(server.connect(), MISS, END)
-    comes_true(lambda: workers <= server.threads().keys())
+    assert comes_true(lambda: named < server.threads().keys())
     # (the first thread has the program's name)
-    names, count = server.threads().keys(), len(os.listdir(f"/proc/{server.process.pid}/task"))
-    assert {*workers, "storage", "listener"} < names and len(names) == 11 == count
+    assert len(os.listdir(f"/proc/{server.process.pid}/task")) == len(named) + 1
 
 
 def test_processor_times_are_told(serve):
@@ -275,9 +254,7 @@ def test_storage_is_busy_as_long_as_it_executes(serve, storage):
     before, took = numbers(stream)["storage_busy_us"], []
     for _ in range(100):
         time.sleep(0.003)
-        start = time.monotonic()
-        ask(stream, get(b"a", 16_000), END)
-        took.append(time.monotonic() - start)
+        took.append(seconds_to(stream, get(b"a", 16_000)))
     busy = (numbers(stream)["storage_busy_us"] - before) / 1e6
     assert 2 * sorted(took)[50] < busy <= sum(took) * 1.2, (busy, took)
 
@@ -295,15 +272,14 @@ def test_connections_are_told(serve):
     for it in others[:4]:
         it.close()
     wait_for(stream, curr_connections=3, total_connections=7, rejected_connections=0,
-             listen_disabled_num=0, connections_waiting=0)
+             listen_disabled_num=0, connections_waiting=0, idle_kicks=0)
 
 
 def test_failed_accepts_are_no_rejected_connections(serve):
     """A process of 64 descriptors can't accept 150 connections, which wait in the system's queue.
     The others go on, and new ones are served once there are some."""
     server = serve("--lenient", limits={resource.RLIMIT_NOFILE: 64})
-    stream, = opened(server, 1, MISS, END)
-    others = opened(server, 150)
+    stream, *others = opened(server, 1, MISS, END) + opened(server, 150)
     comes_true(lambda: server.descriptors() >= 64)
     # (the next tries come a hundredth of a second after each other)
     time.sleep(0.2)
@@ -320,27 +296,21 @@ def test_failed_accepts_are_no_rejected_connections(serve):
 
 def test_bytes_are_told(serve):
     sent = put(b"a", b"v" * 100_000) + MISS
-    stream = serve("--lenient", "--segment-size", "1048576").connect()
+    server = serve("--lenient", "--segment-size", "1048576")
+    stream = server.connect()
     ask(stream, sent, STORED + END)
     found = numbers(stream)
     # (the answer to this `stats` isn't written yet)
     read, written = len(sent + b"stats\r\n"), len(STORED + END)
     assert (found["bytes_read"], found["bytes_written"]) == (read, written)
     assert (found["input_bytes"], found["bytes"]) == (0, 100_032)
-
-
-def test_unread_bytes_are_told(serve):
-    server = serve("--lenient", "--segment-size", "1048576")
-    with server.connect() as stream, server.connect(receive_buffer=65536) as slow:
-        ask(slow, put(b"a", b"v" * 100_000), STORED)
+    with server.connect(receive_buffer=65536) as slow:
         slow.sendall(b"get a\r\n" * 120 + b"get unended")
         assert comes_true(lambda: numbers(stream)["output_bytes"] > 1 << 20)
         assert numbers(stream)["output_bytes"] < 12_000_000
-        slow.close()
-        wait_for(stream, output_bytes=0, input_bytes=0, curr_connections=1)
-        with server.connect() as other:
-            other.sendall(b"get unended")
-            wait_for(stream, input_bytes=11)
+    wait_for(stream, output_bytes=0, input_bytes=0, curr_connections=1)
+    opened(server, 1, b"get unended")
+    wait_for(stream, input_bytes=11)
 
 
 def test_a_worker_that_never_waits_is_told(serve):
@@ -391,39 +361,25 @@ def test_settings_are_told(serve):
     wanted = {"maxbytes": str(64 * MIB), "maxconns": "200", "num_threads": "2", "threads": "2",
               "tcpport": str(server.port), "item_size_max": "131072", "cas_enabled": "yes"}
     stream = server.connect()
-    wait_for(stream, maxconns=200)
+    found = wait_for(stream, maxconns=200, segments=64, segment_size=MIB, limit_maxbytes=64 * MIB)
     for line in (b"stats\r\n", b"stats settings\r\n", b"stats settings  \r\n"):
         assert wanted.items() <= told(stream, line).items()
-    ask(stream, "version|", f"VERSION {told(stream)['version']}|")
+    ask(stream, "version|", f"VERSION {found['version']}|")
 
 
-@pytest.fixture
-def used(serve):
+def test_clients_and_memcstat_read_what_monitors_need(serve):
     server = serve("--lenient", "--workers", "2")
     ask(server.connect(), "set a 0 0 1|x|get a b|", "STORED|VALUE a 0 1|x|END|")
-    return server
-
-
-def test_pymemcache_and_python_memcached_read_what_monitors_need(used):
-    by_pymemcache = Client(("127.0.0.1", used.port), timeout=20).stats()
-    (_, by_memcache), = memcache.Client([f"127.0.0.1:{used.port}"]).get_stats()
-    for found in ({key.decode(): it for key, it in by_pymemcache.items()}, by_memcache):
-        assert NEEDED <= found.keys()
-        counts = ("cmd_get", "get_hits", "get_misses", "curr_items")
-        assert [int(found[it]) for it in counts] == [2, 1, 1, 1]
-
-
-PYLIBMC = """
-import sys, pylibmc
-(_, found), = pylibmc.Client([f"127.0.0.1:{sys.argv[1]}"]).get_stats()
-found = [found[it] for it in ("cmd_get", "get_hits", "total_items")]
-print(*(it if isinstance(it, str) else it.decode() for it in found))
-"""
-
-
-def test_pylibmc_and_memcstat_read_them(used):
-    status, said, _ = ended(sys.executable, "-c", PYLIBMC, str(used.port))
-    assert (status, said) == (0, b"2 1 1\n")
-    status, said, _ = ended("memcstat", f"--servers=127.0.0.1:{used.port}")
-    lines = {it.strip() for it in said.splitlines()}
-    assert status == 0 and {b"cmd_get: 2", b"get_hits: 1", b"total_items: 1"} <= lines
+    address = f"127.0.0.1:{server.port}"
+    by_pymemcache = Client(address, timeout=20).stats()
+    (_, by_memcache), = memcache.Client([address]).get_stats()
+    (_, by_pylibmc), = pylibmc.Client([address]).get_stats()
+    _, said, _ = ended("memcstat", f"--servers={address}", text=True)
+    by_memcstat = dict(it.strip().split(": ") for it in said.splitlines() if ": " in it)
+    # (libmemcached shows some of them alone)
+    for found, needed in ((by_pymemcache, NEEDED), (by_memcache, NEEDED), (by_pylibmc, set()),
+                          (by_memcstat, set())):
+        found = {it if isinstance(it, str) else it.decode(): found[it] for it in found}
+        assert needed <= found.keys()
+        counts = ("cmd_get", "get_hits", "get_misses", "curr_items", "total_items")
+        assert [int(found[it]) for it in counts] == [2, 1, 1, 1, 1]

@@ -33,7 +33,9 @@ def values(count):
     return {f"key-{number}": b"%d" % number for number in range(count)}
 
 
-def must_have(client, wanted):
+def fill(client, wanted, keys=None):
+    """Stores these keys, or all, whereupon all are there."""
+    assert all(client.set(key, wanted[key]) for key in keys or wanted)
     assert {key: client.get(key) for key in wanted} == wanted
 
 
@@ -64,8 +66,7 @@ def libmemcached_ketama(ports):
 @pytest.mark.parametrize("spread", [pymemcache_hash, libmemcached_ketama])
 def test_a_client_that_spreads_keys_loses_those_of_a_stopped_cache_alone(caches, spread):
     wanted, client = values(3000), spread([cache.port for cache in caches])
-    assert all(client.set(key, value) for key, value in wanted.items())
-    must_have(client, wanted)
+    fill(client, wanted)
     shares = [keys_there(cache, list(wanted)) for cache in caches]
     assert sum(map(len, shares)) == len(wanted)
     caches[1].stop()
@@ -73,8 +74,7 @@ def test_a_client_that_spreads_keys_loses_those_of_a_stopped_cache_alone(caches,
     lost = {key for key, value in got.items() if value is None}
     assert all(value == wanted[key] for key, value in got.items() if key not in lost)
     assert lost and lost <= shares[1]
-    assert all(client.set(key, wanted[key]) for key in lost)
-    must_have(client, wanted)
+    fill(client, wanted, lost)
 
 
 @contextlib.contextmanager
@@ -93,14 +93,11 @@ def twemproxy(ports, folder):
         yield own
 
 
-REFUSED = object()
-
-
 def get_through(client, key):
     try:
         return client.get(key)
     except MemcacheServerError:
-        return REFUSED
+        return "refused"
 
 
 def test_behind_twemproxy_the_keys_of_a_stopped_cache_and_no_others_are_lost(
@@ -109,20 +106,18 @@ def test_behind_twemproxy_the_keys_of_a_stopped_cache_and_no_others_are_lost(
     wanted = values(4000)
     with twemproxy([cache.port for cache in caches], tmp_path) as port:
         client = client_of(port)
-        assert all(client.set(key, value) for key, value in wanted.items())
-        must_have(client, wanted)
+        fill(client, wanted)
         shares = [keys_there(cache, list(wanted)) for cache in caches]
         sizes = [len(it) for it in shares]
         assert sum(sizes) == len(wanted) and min(sizes) > len(wanted) // 6
         caches[1].stop()
-        for gone in (REFUSED, None):
+        for gone in ("refused", None):
             answers = {key: get_through(client, key) for key in wanted}
             assert {key for key, value in answers.items() if value is gone} == shares[1]
             assert all(answers[key] == wanted[key] for key in wanted if key not in shares[1])
-            if gone is REFUSED:
+            if gone:
                 serve("--workers", "1", listen=f"127.0.0.1:{caches[1].port}")
-        assert all(client.set(key, wanted[key]) for key in shares[1])
-        must_have(client, wanted)
+        fill(client, wanted, shares[1])
 
 
 def test_behind_twemproxy_many_keys_are_got_at_once_where_lines_are_lenient(serve, tmp_path):
@@ -131,7 +126,7 @@ def test_behind_twemproxy_many_keys_are_got_at_once_where_lines_are_lenient(serv
     asked = list(values(2000))
     with twemproxy([serve("--workers", "1", "--lenient").port for _ in range(3)], tmp_path) as port:
         client = client_of(port)
-        assert all(client.set(key, value) for key, value in wanted.items())
+        fill(client, wanted)
         for _ in range(400):
             names = chance.sample(asked, chance.randint(2, 200))
             assert client.get_many(names) == {key: wanted[key] for key in names if key in wanted}

@@ -2,6 +2,7 @@
 docs/CLIENTS.md stand in test_rows.py.)"""
 import os
 import re
+import select
 import signal
 import ssl
 import subprocess
@@ -11,7 +12,7 @@ import time
 
 import pytest
 import served
-from asking import END, SET_AND_GET, SET_AND_GET_ANSWER, STORED, ask, put
+from asking import END, SET_AND_GET, SET_AND_GET_ANSWER, STORED, ask, opened, put
 
 PACKAGING = f"{served.TOP}/packaging"
 PORT = "127.0.0.1:0"
@@ -23,28 +24,18 @@ def stop(number):
     os.waitid(os.P_PID, number, os.WSTOPPED)
 
 
-def test_a_stopped_process_takes_connections_and_does_not_answer(serve):
-    """So whether it serves is asked by `get health`, with a time limit."""
-    server = serve()
-    stop(server.process.pid)
-    stream = server.connect(0.3)
-    stream.sendall(b"get health\r\n")
-    with pytest.raises(TimeoutError):
-        stream.recv(1)
-    server.process.send_signal(signal.SIGCONT)
-    stream.settimeout(20)
-    ask(stream, b"", END)
-
-
 @pytest.mark.parametrize("listen", [PORT, "unix:{}"], ids=["port", "path"])
 def test_the_probe_says_whether_it_answers(program, listen, tmp_path):
+    """A stopped process takes connections, and doesn't answer."""
     with served.Server(program, listen=listen.format(tmp_path / "cache")) as server:
         probe = server.probe()
         assert subprocess.run(probe).returncode == 0
-        server.process.send_signal(signal.SIGSTOP)
+        stop(server.process.pid)
+        stream, = opened(server, 1, b"get health\r\n")
+        assert not select.select([stream], [], [], 0.3)[0]
         assert subprocess.run(probe).returncode != 0
         server.process.send_signal(signal.SIGCONT)
-        ask(server.connect(), put(b"health", b"x"), STORED)
+        ask(stream, put(b"health", b"x"), END + STORED)
         assert subprocess.run(probe).returncode == 0
     assert subprocess.run(probe).returncode != 0
 
@@ -53,7 +44,6 @@ def test_the_probe_says_whether_it_answers(program, listen, tmp_path):
     ["127.0.0.1:{0}"], ["[::]:{0}"], ["unix:{1}"], ["unix:{1}", "127.0.0.1:{0}"],
 ], ids=["port", "all addresses", "path", "path and port"])
 def test_in_a_container_the_probe_finds_process_1(serve, apart, listen, tmp_path):
-    """The server is process 1 of a container of its own."""
     command, port = apart("--pid", "--mount-proc", "--fork", "--kill-child"), served.free_port()
     first, *others = (it.format(port, tmp_path / "cache") for it in listen)
     server = serve(*(f"--listen={it}" for it in others), listen=first, under=command)
@@ -100,13 +90,13 @@ def test_a_taken_port_is_seen_before_a_start(serve, tmp_path):
     # (of several addresses it is the first of TCP, and of paths alone the first one)
     path = serve(listen=f"unix:{tmp_path}/cache").first_line.split()[-1]
     for words, found in (
-        ([address], address), ([path, "--listen", "unix:/run/none"], path),
-        (["unix:/run/none", f"--listen={address}", "--listen", "127.0.0.1:1"], address),
-        ([PORT, "--listen", path], path),
+        (address, address), (f"{path} --listen unix:/run/none", path),
+        (f"unix:/run/none --listen={address} --listen 127.0.0.1:1", address),
+        (f"{PORT} --listen {path}", path),
     ):
-        assert subprocess.check_output([*taken, *words], text=True, timeout=20) == f"{found}\n"
+        assert served.ended(*taken, *words.split(), text=True) == (0, f"{found}\n", "")
     for free in ("unix:/run/none", f"127.0.0.1:{served.free_port()}", PORT):
-        assert subprocess.run([*taken, free], timeout=20).returncode == 1
+        assert served.ended(*taken, free)[0] == 1
 
 
 def must_end(server, number):

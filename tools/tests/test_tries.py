@@ -20,34 +20,26 @@ def machine(stood_still):
     return lambda _: contextlib.nullcontext(noted())
 
 
-def outcome(monkeypatch, tried, stood_still=None):
-    """What tries say that succeed so, by their numbers, and how many there were."""
-    monkeypatch.setattr(tries, "Standstills", machine(stood_still or [False] * len(tried)))
+NOT, YES = False, True
+# Whether each try succeeds, in how many of the first ones the machine stood still, and the numbers
+# of the one whose words are given and of all, or none if too many failed.
+OUTCOMES = [
+    ([YES, YES, NOT], 0, (1, 2)), ([YES, NOT, YES], 0, (2, 3)), ([NOT, YES, YES], 0, (2, 3)),
+    ([NOT, NOT, YES], 0, None), ([NOT, YES, NOT], 0, None), ([YES, NOT, NOT], 0, None),
+    ([NOT, YES, NOT, YES], 2, (3, 4)),
+    # (ten that fail so aren't counted)
+    ([NOT] * 11 + [YES] * 2, 13, (12, 13)), ([NOT] * 12 + [YES] * 2, 14, None),
+]
+
+
+@pytest.mark.parametrize("tried, still, said", OUTCOMES)
+def test_two_of_three_are_enough(monkeypatch, tried, still, said):
+    """One that fails while the machine stands still isn't counted."""
+    stood_still = [True] * still + [False] * (len(tried) - still)
+    monkeypatch.setattr(tries, "Standstills", machine(stood_still))
     left = list(enumerate(tried))
-    said = tries.in_two_of_three(lambda: left.pop(0)[::-1])
-    return said, len(tried) - len(left)
-
-
-@pytest.mark.parametrize("tried, said", [
-    ([True, True, False], (1, 2)), ([True, False, True], (2, 3)), ([False, True, True], (2, 3)),
-])
-def test_two_of_three_are_enough(monkeypatch, tried, said):
-    assert outcome(monkeypatch, tried) == said
-
-
-@pytest.mark.parametrize("tried", [
-    [False, False, True], [False, True, False], [True, False, False]])
-def test_one_of_three_is_not(monkeypatch, tried):
-    with pytest.raises(Trouble, match="in 2 of "):
-        outcome(monkeypatch, tried)
-
-
-def test_one_that_fails_while_the_machine_stands_still_is_not_counted(monkeypatch):
-    assert outcome(monkeypatch, [False] * 10 + [True] * 2, [True] * 12) == (11, 12)
-    assert outcome(monkeypatch, [False, True, False, True], [True, True, False, False]) == (3, 4)
-    # (and there are ten of those at most)
-    with pytest.raises(Trouble):
-        outcome(monkeypatch, [False] * 12 + [True] * 2, [True] * 14)
+    with contextlib.nullcontext() if said else pytest.raises(Trouble, match="in 2 of "):
+        assert (tries.in_two_of_three(lambda: left.pop(0)[::-1]), len(tried) - len(left)) == said
 
 
 def test_a_machine_that_stands_still_is_seen():

@@ -6,44 +6,40 @@ second before it is there. (The waits are in two tests, of five and ten seconds.
 """
 import itertools
 import os
-import tempfile
 import time
 
 import pytest
 from asking import END, MISS, NOT_FOUND, STORED, ask, get, hit, put
+from replays import must_answer
 from served import Client, together, with_faketime
-from test_store_rows import (
-    IN_PLACE, LENIENT, SHOWN, SMALL, TOUCHED, found, key, must_answer, must_answer_at)
+from test_store_rows import IN_PLACE, LENIENT, SMALL, found, key, must_answer_at
 
 EXACT = "--exact-ttls"
-LEAST_READ = "--evict", "least-read"
+LEAST_READ = "--evict least-read"
 BY_ALL_WORDS = pytest.mark.parametrize("words", [
-    (), LEAST_READ, (LENIENT, IN_PLACE), (LENIENT, IN_PLACE, *LEAST_READ)], ids=" ".join)
-BY_RULES = pytest.mark.parametrize("words", [(), LEAST_READ], ids=" ".join)
-
-
-def until(moment):
-    return (moment - 1, "get a|", SHOWN), (moment, "get a|", END)
+    "", LEAST_READ, f"{LENIENT} {IN_PLACE}", f"{LENIENT} {IN_PLACE} {LEAST_READ}"])
 
 
 @BY_ALL_WORDS
 @pytest.mark.parametrize("ttl", [1, 2, 5, 7, 8, 10, 15, 16, 30, 60, 600, 2047, 2048, 5000])
 def test_an_item_is_there_until_the_second_before_its_ttl_ends(program, ttl, words):
     """Another item of the same TTL opens the segment five seconds before."""
-    rows = [(995, f"set other 0 {ttl} 1|x|", STORED), (1000, f"add a 0 {ttl} 1|x|", STORED)]
-    must_answer_at(program, rows + [*until(1000 + ttl)][ttl == 1 :], EXACT, *words)
+    shown = f", {999 + ttl} hit 2" * (ttl > 1)
+    rows = f"995 other {ttl}, 1000 add {ttl}{shown}, {1000 + ttl} miss"
+    must_answer_at(program, f"{EXACT} {words}", rows)
 
 
 def test_a_ttl_above_97_days_is_kept(program):
     """Twelve million seconds are 139 days. Each request comes after a million more."""
-    rows = [("set a 0 1012000000 1|x|", STORED), *[("get a|", SHOWN)] * 11, ("get a|", END)]
-    must_answer(program, rows, "--now", 1_000_000_000, "--tick", 1_000_000, EXACT)
+    shown = [("get a|", "VALUE a 0 1|x|END|")] * 11
+    rows = [("set a 0 1012000000 1|x|", STORED), *shown, ("get a|", END)]
+    must_answer(program, f"--now 1000000000 --tick 1000000 {EXACT}", rows)
 
 
 @pytest.mark.parametrize("now, seconds", [(2**48 - 21, 20), (2**48 - 20, 16)], ids=["below", "at"])
 def test_deadlines_from_2_to_the_48th_on_are_rounded_down(program, now, seconds):
-    rows = [(now, "set a 0 20 1|x|", STORED), *until(now + seconds)]
-    must_answer_at(program, rows, EXACT)
+    rows = f"{now} set 20, {now + seconds - 1} hit 1, {now + seconds} miss"
+    must_answer_at(program, EXACT, rows)
 
 
 @BY_ALL_WORDS
@@ -54,51 +50,39 @@ def test_a_counter_that_counts_each_second_ends_with_its_ttl(program, ttl, words
     for moment in range(1000, 1000 + 4 * (ttl + 1), ttl + 1):
         rows += [(moment, "incr n 1|", NOT_FOUND), (moment + 1, f"add n 0 {ttl} 1|1|", STORED)]
         rows += [(moment + second, "incr n 1|", f"{second}|") for second in range(2, ttl + 1)]
-    must_answer_at(program, rows, EXACT, *words)
+    must_answer_at(program, f"{EXACT} {words}", rows)
 
 
-@BY_RULES
-def test_a_session_that_is_touched_each_minute_ends_a_ttl_after_the_last_touch(program, words):
-    rows = [(1000, "set a 0 1440 1|x|", STORED)]
-    rows += [(1000 + 60 * minute, "touch a 1440|", TOUCHED) for minute in range(1, 41)]
-    must_answer_at(program, [*rows, *until(3400 + 1440)], LENIENT, EXACT, *words)
-
-
-# What is asked for at which moment of an item of 60 seconds that is set at 1,000, and when it is
-# gone.
-CHANGED = {
-    "a touch for longer": ([(1001, "touch a 60|", TOUCHED)], 1061),
-    "a touch for less": ([(1001, "touch a 9|", TOUCHED)], 1010),
-    "a touch for what there is": ([(1001, "touch a 59|", TOUCHED)], 1060),
-    "a write over it": ([(1030, "set a 0 60 1|x|", STORED)], 1090),
-    "a write over it for less": ([(1030, "set a 0 5 1|x|", STORED)], 1035),
-    "a write over it in the last second": ([(1059, "set a 0 60 1|x|", STORED)], 1119),
-    "a touch in the last second": ([(1059, "touch a 7|", TOUCHED)], 1066),
-    "none, and then some": ([(1001, "touch a 0|", TOUCHED), (1100, "get a|", SHOWN),
-                             (1101, "touch a 8|", TOUCHED)], 1109),
+EACH_MINUTE = ", ".join(f"{1000 + 60 * minute} touch 1440" for minute in range(1, 41))
+EACH_SECOND = ", ".join(f"{1000 + second} add-none 15" for second in range(1, 15))
+LIVES = {
+    "a session that is touched each minute": f"1000 set 1440, {EACH_MINUTE}, 4839 hit 1, 4840 miss",
+    # (so php-memcache locks a session)
+    "a lock": f"993 other 15, 1000 add 15, {EACH_SECOND}, 1015 add 15",
+    "a touch for longer": "1000 set 60, 1001 touch 60, 1060 hit 1, 1061 miss",
+    "a touch for less": "1000 set 60, 1001 touch 9, 1009 hit 1, 1010 miss",
+    "a touch for what there is": "1000 set 60, 1001 touch 59, 1059 hit 1, 1060 miss",
+    "a write over it": "1000 set 60, 1030 set 60, 1089 hit 2, 1090 miss",
+    "a write over it for less": "1000 set 60, 1030 set 5, 1034 hit 2, 1035 miss",
+    "a write over it in the last second": "1000 set 60, 1059 set 60, 1118 hit 2, 1119 miss",
+    "a touch in the last second": "1000 set 60, 1059 touch 7, 1065 hit 1, 1066 miss",
+    "none, and then some":
+        "1000 set 60, 1001 touch 0, 1100 hit 1, 1101 touch 8, 1108 hit 1, 1109 miss",
 }
 
 
-@BY_RULES
-@pytest.mark.parametrize("rows, gone", CHANGED.values(), ids=CHANGED)
-def test_another_ttl_counts_from_the_moment_at_which_it_is_asked_for(program, rows, gone, words):
-    rows = [(1000, "set a 0 60 1|x|", STORED), *rows, *until(gone)]
-    must_answer_at(program, rows, LENIENT, EXACT, *words)
-
-
 @BY_ALL_WORDS
-def test_a_lock_keeps_others_out_until_its_ttl_ends(program, words):
-    """So php-memcache locks a session, for 15 seconds."""
-    add = "add lock 0 15 1|x|"
-    rows = [(993, "set other 0 15 1|x|", STORED), (1000, add, STORED)]
-    rows += [(1000 + second, add, "NOT_STORED|") for second in range(1, 15)]
-    must_answer_at(program, [*rows, (1015, add, STORED)], EXACT, *words)
+@pytest.mark.parametrize("rows", LIVES.values(), ids=LIVES)
+def test_a_ttl_counts_from_the_moment_at_which_it_is_asked_for(program, rows, words):
+    if "touch" in rows and LENIENT not in words:
+        words += f" {LENIENT}"
+    must_answer_at(program, f"{EXACT} {words}", rows)
 
 
 LARGE = b"v" * 484
 
 
-@BY_RULES
+@pytest.mark.parametrize("words", ["", LEAST_READ])
 def test_items_that_are_written_minutes_apart_share_a_segment(program, words):
     """One of them is written each ten seconds, so each would be in another segment if one took
     items for eight seconds only. The other seven segments have eight lasting items each."""
@@ -108,7 +92,7 @@ def test_items_that_are_written_minutes_apart_share_a_segment(program, words):
     rows += [(1500, put(key(it), LARGE), STORED) for it in lasting]
     rows += [(1500, *found(it, b"x")) for it in timed]
     rows += [(1500, *found(it, LARGE)) for it in lasting]
-    must_answer_at(program, rows, *SMALL, EXACT, *words)
+    must_answer_at(program, f"{SMALL} {EXACT} {words}", rows)
 
 
 @pytest.mark.parametrize("moment, is_freed", [
@@ -123,18 +107,18 @@ def test_a_segment_is_freed_when_the_last_of_its_items_has_ended(program, moment
     rows += [(moment + 2, "get b|", END if moment + 2 >= 3171 else hit(b"b", b"x"))]
     rows += [(moment + 2 + it, *found(it, LARGE if is_freed or it > 24 else None))
              for it in range(1, 58)]
-    must_answer_at(program, rows, *SMALL, EXACT)
+    must_answer_at(program, f"{SMALL} {EXACT}", rows)
 
 
 def test_a_merge_keeps_each_deadline(program):
-    """64 items fill eight segments. The next write has the first two merged, and the newest of theirs
-    stay, those of 9 to 16. Each item ends at a second of its own."""
+    """64 items fill eight segments. The next write has the first two merged, and the newest of
+    theirs stay, those of 9 to 16. Each item ends at a second of its own."""
     numbers = range(1, 66)
     rows = [(1087 + it, put(key(it), LARGE, exptime=2060 + it), STORED) for it in numbers]
     rows += [(1152 + it, *found(it, LARGE if it > 8 else None)) for it in numbers]
     for it in (9, 10, 16, 17, 65):
         rows += [(3146 + 2 * it, *found(it, LARGE)), (3147 + 2 * it, *found(it, None))]
-    must_answer_at(program, rows, *SMALL, EXACT, *LEAST_READ)
+    must_answer_at(program, f"{SMALL} {EXACT} {LEAST_READ}", rows)
 
 
 # ---- of a served program
@@ -145,9 +129,7 @@ AT = 2_000_000_000
 
 def stepped(serve, folder, *words, **variables):
     """A server of one worker, and what sets its clocks on by seconds beside those that pass."""
-    number, file = tempfile.mkstemp(dir=folder)
-    os.close(number)
-    offset = AT - time.time()
+    file, offset = f"{folder}/{time.monotonic_ns()}", AT - time.time()
 
     def step(seconds):
         # (in one step, so that no reading finds half of it)
@@ -160,10 +142,16 @@ def stepped(serve, folder, *words, **variables):
     return serve("--workers", "1", *words, environment=faked), step
 
 
+def must_live(client, began, key, second, there_before, gone_from):
+    """Whether an item is there in this second. (Where this process stood still an answer may come
+    too late to show a hit.)"""
+    value, passed = client.get(key), time.monotonic() - began
+    assert value == b"x" or value is None and second + passed >= there_before, (key, second)
+    assert value is None or second < gone_from, (key, second)
+
+
 @pytest.mark.parametrize("ttl", [1, 2, 5, 8, 15, 30, 60, 600])
 def test_items_of_a_served_program_live_as_long_less_at_most_a_second(serve, tmp_path, ttl):
-    """They are stored at eight moments of a second. (Where this process stood still an answer may
-    come too late to show a hit.)"""
     began, phases = time.monotonic(), {b"k%d" % at: at / 8 for at in range(8)}
     server, step = stepped(serve, tmp_path, EXACT)
     client = Client(server)
@@ -172,15 +160,13 @@ def test_items_of_a_served_program_live_as_long_less_at_most_a_second(serve, tmp
         assert client.set(name, b"x", exptime=ttl) == b"STORED"
     for second, (name, phase) in itertools.product(range(1, ttl + 1), phases.items()):
         step(second + phase)
-        value, passed = client.get(name), time.monotonic() - began
-        assert value == b"x" or value is None and second + passed >= ttl - 1, (name, second)
-        assert value is None or second < ttl, (name, second)
+        must_live(client, began, name, second, ttl - 1, ttl)
 
 
-@pytest.mark.parametrize("words", [(EXACT,), (EXACT, IN_PLACE, *LEAST_READ)], ids=" ".join)
+@pytest.mark.parametrize("words", [EXACT, f"{EXACT} {IN_PLACE} {LEAST_READ}"])
 def test_a_limit_of_100_a_minute_lets_100_of_300_pass(serve, tmp_path, words):
     """It counts each request in a counter of a minute, which it adds where there is none."""
-    server, step = stepped(serve, tmp_path, *words)
+    server, step = stepped(serve, tmp_path, *words.split())
     client, passed, began = Client(server), 0, time.monotonic()
     for number in range(300):
         step(number * 57 // 300)
@@ -196,7 +182,7 @@ DAY, HOUR = 86_400, 3_600
 
 # By keys the exptime, for how many seconds an item is there, and from which second on it is gone. A
 # TTL is rounded down, here to 8 or 56 seconds, and one of up to 7 ends with the second.
-LIVES = {
+ROUNDED = {
     b"of-3-unix": (AT + 3, 1, 3), b"of-10": (10, 8, 11), b"of-10-unix": (AT + 10, 8, 11),
     b"of-60": (60, 48, 61), b"of-60-unix": (AT + 60, 48, 61), b"lasting": (0, 1000, 1000),
     b"over": (-1, 0, 0), b"over-unix": (AT - 1, 0, 0),
@@ -204,19 +190,15 @@ LIVES = {
 
 
 def test_items_are_hits_until_they_expire_and_then_misses(serve, tmp_path):
-    """(Where this process stood still an answer may come too late to show a hit.)"""
     began = time.monotonic()
     server, step = stepped(serve, tmp_path)
     client = Client(server)
-    for key, (exptime, *_) in LIVES.items():
+    for key, (exptime, *_) in ROUNDED.items():
         assert client.set(key, b"x", exptime=exptime) == b"STORED"
     for second in (0, 3, 4, 7, 11, 47, 61):
         step(second)
-        for key, (_, there_before, gone_from) in LIVES.items():
-            value = client.get(key)
-            assert value in (b"x", None)
-            assert value or second + time.monotonic() - began >= there_before, (key, second)
-            assert value is None or second < gone_from, (key, second)
+        for key, (_, *life) in ROUNDED.items():
+            must_live(client, began, key, second, *life)
 
 
 def test_the_clock_is_neither_late_nor_early(serve, tmp_path):

@@ -1,5 +1,6 @@
 """The words of the program: what shows help, what is refused with status 2, and the text that names
-a number out of its range. (A server that starts is killed, which is a failure.)"""
+a number out of its range; and its end where it can't print. (A server that starts is killed, which
+is a failure.)"""
 import pytest
 from served import ended
 
@@ -59,3 +60,31 @@ def test_a_value_that_an_option_does_not_have_is_named(program, words):
     # (more may stand behind the values that there are)
     is_named = said == wanted or said.startswith(wanted) and b"[possible values" in said
     assert (status, out) == (2, b"") and is_named
+
+
+# By faults, sizes that don't fit each other.
+SIZES = {
+    b"bad geometry": ["--segment-size 5000"],
+    b"the largest item does not fit a segment": [
+        "--segment-size 4096 --max-item-size 4033", "--segment-size 65536 --max-item-size 65473",
+        "--segment-size 65536 --max-item-size 1048512"],
+}
+
+
+# (they are told before a bad address)
+@pytest.mark.parametrize("words, status", [
+    (SERVE, 2), ("serve --listen nothing", 2), ("replay /dev/null", 1)])
+def test_sizes_that_do_not_fit_are_told(program, words, status):
+    for fault, sizes in SIZES.items():
+        for size in sizes:
+            said = b"fault: %b\n" % fault
+            assert ended(program, *words.split(), *size.split()) == (status, b"", said)
+
+
+@pytest.mark.parametrize("words", [SERVE, "replay /dev/stdin"])
+def test_where_it_cannot_print_it_ends(program, words):
+    with open("/dev/full", "wb") as full:
+        status, _, said = ended(program, *words.split(), input=b"open 0 1\n", stdout=full)
+    # (a server says first how it serves)
+    lines = [it for it in said.splitlines() if not it.startswith(b"segcached: ")]
+    assert (status, lines) == (1, [b"fault: cannot write"])

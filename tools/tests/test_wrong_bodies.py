@@ -1,8 +1,10 @@
 """Tests of tools/wrong_bodies.py over a small crate: which edits it passes, which it fails, and
-what it keeps. Each of a few checks takes some seconds.
+what it keeps; and of their table, docs/EDITS.md, which says what the edits say, and names a promise
+for each. Each of a few checks takes some seconds.
 """
 import os
 import re
+import types
 
 import edited_copies
 import edits
@@ -10,7 +12,7 @@ import prove
 import pytest
 import wrong_bodies
 from prove import write
-from served import TOP
+from served import TOP, read
 
 SOURCE = """#![tactic(auto)]
 
@@ -102,6 +104,29 @@ BAD = {
     "outside": (edit_of(MOST), "isn't in the body of one function"),
     "unknown": (edit_of(MOST, head="# in: other::most\n"), "no function other::most"),
 }
+# By names runs: the edits, files beside them, how many edits pass, and how what is said of each
+# other one begins.
+RUNS = {
+    "a right body and a lost name": (
+        {"greatest": EDITS["greatest"], "harmless": HARMLESS, "renamed": RENAMED}, {}, 1,
+        {"harmless": "NOT REFUSED: ", "renamed": "refused by a lost name: `returns`"}),
+    "a control that isn't proved": (
+        {"value": EDITS["value"], "greatest": EDITS["greatest"]},
+        {"crates/low/proofs/same/Answers.antt": ANSWERS.replace("= refl", "= tt")}, 0,
+        dict.fromkeys(("value", "greatest"), "NOT TRIED: the control same_right isn't proved")),
+    "what doesn't compile is found by halves": (
+        {"value": EDITS["value"], "no_code": NO_CODE}, {}, 1, {"no_code": "BAD EDIT: .*nothing"}),
+    "a crate below that isn't built": (
+        {"value": EDITS["value"]}, {"crates.txt": "below:\nlow: below\n"}, 0,
+        {"value": "NOT TRIED: low stands on below, and not all of these are built"}),
+    "a program": (
+        {"greatest": EDITS["greatest"].replace("lib.rt", "main.rt")},
+        {"crates/low/src/lib.rt": None, "crates/low/src/main.rt": f"{SOURCE}\nfn main() {{}}\n"},
+        1, {}),
+    "edits that can't be placed": (
+        {name: text for name, (text, _) in BAD.items()}, {}, 0,
+        {name: f"BAD EDIT: .*{why}" for name, (_, why) in BAD.items()}),
+}
 
 
 @pytest.fixture
@@ -140,42 +165,19 @@ def test_wrong_bodies_are_refused_beside_those_that_they_call_and_once(low, caps
     assert run(capsys, "low/other") == (0, "1 passed, 0 failed", {"other": "refused"})
 
 
-def test_a_right_body_and_a_lost_name_fail(low, capsys):
-    plant(low, {"greatest": EDITS["greatest"], "harmless": HARMLESS, "renamed": RENAMED})
+@pytest.mark.parametrize("edits, files, passed, others", RUNS.values(), ids=RUNS)
+def test_what_passes_is_counted_and_what_fails_is_said(
+        low, capsys, tmp_path, edits, files, passed, others):
+    plant(low, edits)
+    for path, text in files.items():
+        if text:
+            write(tmp_path / path, text)
+        else:
+            (tmp_path / path).unlink()
     status, count, said = run(capsys)
-    assert (status, count) == (1, "1 passed, 2 failed")
-    assert said["harmless"].startswith("NOT REFUSED: ")
-    assert said["renamed"].startswith("refused by a lost name: `returns`")
-
-
-def test_a_control_that_is_not_proved_fails_all(low, capsys):
-    write(low / "proofs" / "same" / "Answers.antt", ANSWERS.replace("= refl", "= tt"))
-    plant(low, {"value": EDITS["value"], "greatest": EDITS["greatest"]})
-    status, count, said = run(capsys)
-    assert (status, count) == (1, "0 passed, 2 failed")
-    why = "NOT TRIED: the control same_right isn't proved"
-    assert all(it.startswith(why) for it in said.values()), said
-
-
-def test_what_does_not_compile_is_found_by_halves(low, capsys):
-    plant(low, {"value": EDITS["value"], "no_code": NO_CODE})
-    status, count, said = run(capsys)
-    assert (status, count) == (1, "1 passed, 1 failed")
-    assert said.keys() == {"no_code"}
-    assert said["no_code"].startswith("BAD EDIT: ") and "nothing" in said["no_code"]
-
-
-def build_below(crates):
-    write(crates / "below" / "out" / "rlib" / "below.rlib" / "format", "made once")
-
-
-def test_a_crate_above_one_that_is_not_built_is_not_tried(low, capsys):
-    (low.parents[1] / "crates.txt").write_text("below:\nlow: below\n")
-    plant(low, {"value": EDITS["value"]})
-    status, count, said = run(capsys)
-    assert (status, count) == (1, "0 passed, 1 failed")
-    why = "NOT TRIED: low stands on below, and not all of these are built"
-    assert said["value"].startswith(why)
+    assert (status, count) == (bool(others), f"{passed} passed, {len(others)} failed")
+    assert said.keys() == others.keys()
+    assert all(re.match(others[name], it) for name, it in said.items()), said
 
 
 def test_as_many_checks_run_as_there_are_processors_and_memory_for(monkeypatch):
@@ -191,21 +193,6 @@ def test_an_edit_in_its_place_has_a_check_of_its_own(low):
     rounds = edited_copies.rounds_of(edited_copies.Crate("low").edits)
     names = [[it.name for it in edits] for edits in rounds]
     assert names == [["caller", "greatest"], ["constant"], ["of_trait"]]
-
-
-def test_a_program_has_edits_too(low, capsys):
-    (low / "src" / "lib.rt").rename(low / "src" / "main.rt")
-    write(low / "src" / "main.rt", SOURCE + "\nfn main() {}\n")
-    plant(low, {"greatest": EDITS["greatest"].replace("lib.rt", "main.rt")})
-    assert run(capsys) == (0, "1 passed, 0 failed", {})
-
-
-def test_what_cannot_be_placed_fails(low, capsys):
-    plant(low, {name: text for name, (text, _) in BAD.items()})
-    status, count, said = run(capsys)
-    assert (status, count) == (1, f"0 passed, {len(BAD)} failed")
-    for name, (_, why) in BAD.items():
-        assert said[name].startswith("BAD EDIT: ") and why in said[name]
 
 
 LOST = "./proofs/f/A.antt:1:2: error: `r`: has no field `a`\n"
@@ -241,7 +228,7 @@ def kept(low, tmp_path):
     """An edit that is kept, in a crate above another."""
     (tmp_path / "crates.txt").write_text("below:\nlow: below\n")
     write(low.parent / "below" / "src" / "lib.rt", "")
-    build_below(low.parent)
+    write(low.parent / "below" / "out" / "rlib" / "below.rlib" / "format", "made once")
     plant(low, {"value": EDITS["value"]})
     edit = edited_copies.Crate("low").edits[0]
     wrong_bodies.Kept("low").keep([edit])
@@ -275,8 +262,7 @@ def test_the_sum_of_the_tools_has_each_that_decides():
     sources = [edited_copies.read(f"{TOP}/tools/{it}.py") for it in wrong_bodies.TOOLS]
     imported = re.findall(r"^import (\w+)$", "\n".join(sources), re.MULTILINE)
     of_tools = {word for word in imported if os.path.exists(f"{TOP}/tools/{word}.py")}
-    # (the other one says how many checks run side by side)
-    assert of_tools - {"machine"} <= set(wrong_bodies.TOOLS)
+    assert of_tools <= set(wrong_bodies.TOOLS)
 
 
 def test_each_edit_of_the_repository_can_be_placed():
@@ -293,3 +279,34 @@ def test_functions_are_found_with_their_paths():
                           "part::f"}
     body = SOURCE.split("\n")[found["least"].first : found["least"].last + 1]
     assert body == ["{", f"    {LEAST}", "}"]
+
+
+# ---- the table
+
+def test_the_page_says_what_the_edits_say():
+    found, pages = list(edits.edits()), [read(f"{TOP}/docs/{it}.md") for it in ("EDITS", "PROOFS")]
+    assert len(found) > 100
+    assert edits.amiss(found, *pages) == []
+
+
+def test_what_is_amiss_is_said():
+    found = [("low", "first", ("Part::call", "it does nothing")), ("low", "second", None),
+             ("top", "third", ("run", "it runs twice"))]
+    assert edits.amiss(found, "", "`call` and `Part` run") == [
+        "low/second doesn't begin with '# CALL: WRONG BODY'",
+        "top/third: docs/PROOFS.md has no run",
+        "docs/EDITS.md isn't what the edits say: tools/edits.py write",
+    ]
+
+
+def test_an_edit_that_cannot_be_placed_is_said():
+    crates = [types.SimpleNamespace(name="low", bad={"first": "it changes nothing"})]
+    assert edits.unplaced(crates) == ["low/first: it changes nothing"]
+
+
+def test_an_edits_first_line_is_read(tmp_path):
+    rest = "file: src/a.rt\nold: b\nnew: c\n"
+    for name, head in (("first", "# Part::call: it says `no`: twice\n"), ("second", "")):
+        write(tmp_path / "crates" / "low" / "wrong" / f"{name}.edit", head + rest)
+    says = "Part::call", "it says `no`: twice"
+    assert list(edits.edits(tmp_path)) == [("low", "first", says), ("low", "second", None)]

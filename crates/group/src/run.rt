@@ -230,7 +230,8 @@ fn run_threads<P: Port + Send, T: Serve + Send, X: Executor + Sync, G: Gate + Sy
             requires made { AreMade (vec_len ports) end.value.terms ends.items end.value }
             ensures joined { IfOk result (λ reports. AreJoined P.told P.leads_to end.value.terms end.value ports.items
                 reports.items) }
-            ensures none_began { IfErr result (λ fault. (off : CalledOff) → fault ≡ NoThread off → off.begins.value ≡ false) }
+            ensures none_began { IfErr result (λ fault. (off : CalledOff) → fault ≡ NoThread off
+                → off.begins.value ≡ false) }
         { run_in(rt, scope, context, executor, shared, ports, ends, end) },
     )
 }

@@ -28,7 +28,8 @@ stored_bytes _ _ _ _ = 0
 -- In some chain of the history, each step that isn't refused memory leaves of its outcome what
 -- `Leaves` says.
 abbrev pub MayLeave : (Outcome → Cache → Type 0) → Sizes → List Answered → Type 0
-MayLeave Leaves sizes history = (caches : List Cache) × Chain (λ t before q reply after. Step sizes t before q reply after
+MayLeave Leaves sizes history = (caches : List Cache)
+    × Chain (λ t before q reply after. Step sizes t before q reply after
     × (reply ≢ NoMemory → Leaves (outcome_at sizes before t q) after)) (empty_cache 0) history caches
 
 -- a step that forgets nothing

@@ -1,4 +1,4 @@
-//! The hits of an answer as they are shown, in one piece of memory, and that memory.
+//! The hits of an answer as they are shown, in one piece of memory.
 
 ghost use Rattle.std.specs.Prelude.{◌≡◌, ◌≤◌, ◌<◌, ◌+◌, ◌-◌, ◌++◌, ◌∷◌, ◌↔◌, [], codes, IfOk, IfSome, IsTrue, OnErr};
 ghost use Rattle.std.specs.Prelude.{OnOk};

@@ -1,8 +1,7 @@
 //! The keys of a `get`.
 
-ghost use Rattle.std.specs.Prelude.{◌≡◌, ◌≢◌, ◌≤◌, ◌++◌, ◌∷◌, ◌↔◌, [], length, IfOk, IsTrue, MatchOption, OnErr, OnOk};
+ghost use Rattle.std.specs.Prelude.{◌≡◌, ◌≢◌, ◌++◌, ◌∷◌, ◌↔◌, [], length, IfOk, IsTrue, MatchOption, OnErr, OnOk};
 ghost use Rattle.proto.specs.Words.{IsWord};
-ghost use Rattle.std.specs.List.{count_by};
 
 use crate::no_memory::NoMemory;
 use crate::words::Words;

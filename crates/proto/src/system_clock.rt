@@ -2,7 +2,6 @@
 
 ghost use Rattle.std.specs.Prelude.{◌≡◌, ◌++◌, [], ◌∷◌, Option};
 ghost use Rattle.std.specs.declared.time.Instant.{Instant};
-ghost use Rattle.proto.specs.ClockAnswers.{seconds_since};
 
 use crate::clock::Clock;
 use crate::logged_clock::{ClockReading, LoggedClock};

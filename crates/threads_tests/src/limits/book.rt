@@ -2,9 +2,7 @@
 
 use crate::same::check_same;
 use bytes::Bytes;
-use proto::{
-    Answered, ClockAnswers, Dialect, HitRef, HitWriter, Keys, NoMemory, Reply, Request,
-};
+use proto::{Answered, ClockAnswers, Dialect, HitRef, HitWriter, Keys, NoMemory, Reply, Request};
 use session_book::{Book, Received, Settled};
 use std::alloc::Global;
 use std::process::Abort;

@@ -5,7 +5,7 @@ ghost use Rattle.std.specs.Prelude.{◌≡◌};
 use crate::buffer::{LARGE_MESSAGE, SpareBuffers, Use};
 use crate::fault_line::FaultLine;
 use crate::input::ROOM_AT_ONCE;
-use crate::load::{KeyBytes, Load};
+use crate::load::{KeyBytes, Load, MANY_KEYS};
 use crate::prepared::PreparedMemory;
 use crate::ready_queues::{ReadyQueues, Task};
 use proto::{Answered, Dialect, Keys, Reply, Request, SpareBuffer};
@@ -104,10 +104,18 @@ impl Upkeep {
     pub(crate) fn waiting(&mut self, keys: usize, own: KeyBytes) -> Option<Waiting> {
         let let_in = self.ready.let_in.take();
         let likely = self.load.likely(keys, own);
-        if matches!(let_in, Some(Task::AskForRoom)) || self.load.is_small(keys, likely, own) {
+        if matches!(let_in, Some(Task::AskForRoom)) {
             return None;
         }
-        let needed = self.prepared.needed(keys, likely);
+        let needed = self.needed(keys, own);
+        if self.load.is_small(keys, likely, own) {
+            let goes_on = let_in.is_some() || self.is_prepared(needed);
+            return (!goes_on).then_some(Waiting {
+                task: Task::AskLarge,
+                likely,
+                needed,
+            });
+        }
         let must_queue = self.ready.count(Task::AskForRoom) > 0;
         if must_queue || !self.load.has_room_for(likely) {
             return Some(Waiting {
@@ -140,6 +148,16 @@ impl Upkeep {
             Tick::Idle => self.load.grow_old(),
         }
         self.load.grow_old();
+    }
+
+    /// The memory that is to be taken before a `get` for so many keys is asked, if keys took so much
+    /// in the last answers of its session; 0 unless its answer may well be very large.
+    fn needed(&self, keys: usize, own: KeyBytes) -> usize {
+        if keys < MANY_KEYS {
+            return 0;
+        }
+        let likely = self.load.likely_of_many(keys, own);
+        self.prepared.needed(keys, likely)
     }
 
     /// Whether so much memory was taken, or all that there is.
@@ -183,7 +201,7 @@ impl Upkeep {
         let mut hits = Vec::new(keys.allocator());
         let likely = self.load.likely(count, own);
         self.load.asked(number, count, likely);
-        if self.ready.holds_memory && self.prepared.needed(count, likely) > 0 {
+        if self.ready.holds_memory && self.needed(count, own) > 0 {
             hits = self.give_prepared();
         }
         self.spares.lend(Use::Hits, &mut hits);

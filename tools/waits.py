@@ -179,7 +179,7 @@ HOSTILE = [
     Load(8, 100_000, HOLD, 64, 25),
 ]
 # (a line has 2,048 bytes strictly, so an answer 134 MB)
-STRICT = [Load(1, 131_000, READ, 1021, most=(0.180, 0.250))]
+STRICT = [Load(1, 131_000, READ, 1021, most=(0.100, 0.100))]
 # As many connections read values of 1 MB, one at a time, as write them.
 MEGABYTES = [Load(4, 1_000_000, BOTH, streams=5, most=(0.010, 0.060))]
 OF_MEGABYTES = *OF_THE_PACKAGE, "--workers", "1"

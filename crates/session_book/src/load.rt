@@ -14,7 +14,7 @@ const MAX_COMING: usize = 1_048_576;
 
 /// The keys from which on a `get` is for many: what they take is likely to be what those of the
 /// last one for many took.
-const MANY_KEYS: usize = 64;
+pub(crate) const MANY_KEYS: usize = 64;
 
 /// By how little of itself the size of stored values follows the last one.
 const STORED_SHARE: usize = 16;
@@ -94,25 +94,22 @@ impl Load {
     /// taken to be small.
     pub(crate) fn likely(&self, keys: usize, own: KeyBytes) -> usize {
         match own.bytes {
-            _ if keys >= MANY_KEYS => keys.saturating_mul(self.likely_of_many(own)),
             0 if keys <= 1 => self.key_bytes.bytes.min(SMALL_ANSWER),
             0 => keys.saturating_mul(self.key_bytes.bytes),
             bytes => keys.saturating_mul(bytes),
         }
     }
 
-    /// The bytes that each of many keys is likely to take. The first `get` for many of a session is
-    /// taken to show what the last one of all showed, or values as they were stored lately.
-    fn likely_of_many(&self, own: KeyBytes) -> usize {
-        if own.of_many > 0 {
-            return own.of_many;
-        }
-        let known = if own.is_known() {
-            own.bytes
+    /// The bytes that the answer to a `get` for many keys may well take. The first one of a session
+    /// is taken to show what the last one of all showed, or values as they were stored lately; so
+    /// it may be overestimated, and waits for no room for it.
+    pub(crate) fn likely_of_many(&self, keys: usize, own: KeyBytes) -> usize {
+        let each = if own.of_many > 0 {
+            own.of_many
         } else {
-            self.key_bytes.bytes
+            self.key_bytes.of_many.max(self.stored_bytes)
         };
-        known.max(self.key_bytes.of_many).max(self.stored_bytes)
+        keys.saturating_mul(each)
     }
 
     /// Whether a `get` for so many keys goes on whatever waits, if keys took so much in the last

@@ -6,7 +6,7 @@ use crate::buffer::{LARGE_MESSAGE, SpareBuffers, Use};
 use crate::counts::BookCounts;
 use crate::fault_line::FaultLine;
 use crate::input::ROOM_AT_ONCE;
-use crate::load::{KeyBytes, Load};
+use crate::load::{KeyBytes, Load, MANY_KEYS};
 use crate::prepared::PreparedMemory;
 use crate::ready_queues::{ReadyQueues, Task};
 use crate::rooms::Rooms;
@@ -73,6 +73,8 @@ pub(crate) struct Upkeep {
     pub(crate) load: Load,
     /// The bytes that the answer to the `get` that was read last is likely to take.
     likely: usize,
+    /// The bytes of memory that are to be taken before it is asked.
+    needed: usize,
     pub(crate) rooms: Rooms,
     pub(crate) counts: BookCounts,
     /// The seconds that were counted.
@@ -92,6 +94,7 @@ impl Upkeep {
             fault: None,
             load: Load::new(),
             likely: 0,
+            needed: 0,
             rooms: Rooms::default(),
             counts: BookCounts::default(),
             seconds: 0,
@@ -103,8 +106,8 @@ impl Upkeep {
     /// What a message waits for, if keys took so much in the last answer of its session; none if it
     /// is to be asked now, as all are but a `get` or a `gat`. None of these goes before one that
     /// waits for room, but those whose answers are small. One whose answer is likely to be large
-    /// lets the others go first that are to be asked; and one with a very large answer waits until its
-    /// memory is prepared.
+    /// lets the others go first that are to be asked; and one with a very large answer waits until
+    /// its memory is prepared.
     pub(crate) fn waiting(&mut self, message: &Message, own: KeyBytes) -> Option<Waiting> {
         let keys = match message {
             Message::Ask(Request::Get { keys, .. } | Request::GetAndTouch { keys, .. }, _) => {
@@ -115,10 +118,26 @@ impl Upkeep {
         let let_in = self.ready.let_in.take();
         let likely = self.load.likely(keys, own);
         self.likely = likely;
-        if matches!(let_in, Some(Task::AskForRoom)) || self.load.is_small(keys, likely, own) {
+        self.needed = 0;
+        let is_small = self.load.is_small(keys, likely, own);
+        if keys >= MANY_KEYS {
+            let of_many = self.load.likely_of_many(keys, own);
+            self.needed = self.prepared.needed(keys, of_many);
+        } else if is_small {
             return None;
         }
-        let needed = self.prepared.needed(keys, likely);
+        if matches!(let_in, Some(Task::AskForRoom)) {
+            return None;
+        }
+        let needed = self.needed;
+        if is_small {
+            let goes_on = let_in.is_some() || self.is_prepared(needed);
+            return (!goes_on).then_some(Waiting {
+                task: Task::AskLarge,
+                likely,
+                needed,
+            });
+        }
         let must_queue = self.ready.count(Task::AskForRoom) > 0;
         if must_queue || !self.load.has_room_for(likely) {
             return Some(Waiting {
@@ -192,7 +211,7 @@ impl Upkeep {
         }
         self.load.asked(number, keys, self.likely);
         let mut hits = Vec::new(self.alloc);
-        if self.ready.holds_memory && self.prepared.needed(keys, self.likely) > 0 {
+        if self.ready.holds_memory && self.needed > 0 {
             hits = self.give_prepared();
         }
         self.spares.lend(Use::Hits, &mut hits);

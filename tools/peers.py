@@ -153,8 +153,6 @@ SERIES, MISSING = 24, {"memcached_command-meta"}
 CHARTS = 14
 COLLECTD = """
 Hostname "here"
-BaseDir "{folder}"
-PIDFile "{folder}/pid"
 Interval 1
 LoadPlugin csv
 LoadPlugin memcached

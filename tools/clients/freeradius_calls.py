@@ -3,7 +3,6 @@
 
 When a connection to the cache is opened it asks for the version, and doesn't start without one.
 """
-import os
 import pathlib
 import shutil
 import subprocess
@@ -17,12 +16,6 @@ MODULE = """cache stored {{
     driver = "rlm_cache_memcached"
     memcached {{
         options = "--SERVER=127.0.0.1:{port}"
-        pool {{
-            start = 1
-            min = 1
-            spare = 1
-            max = 2
-        }}
     }}
     key = "%{{User-Name}}"
     ttl = 60
@@ -47,9 +40,9 @@ SITE = """server one {
 def starts(port):
     """Whether it says that it is ready, before it ends or ten seconds are over."""
     with tempfile.TemporaryDirectory() as folder:
-        shutil.copytree(HOME, f"{folder}/raddb", symlinks=False, ignore_dangling_symlinks=True)
-        for path in os.listdir(f"{folder}/raddb/sites-enabled"):
-            os.remove(f"{folder}/raddb/sites-enabled/{path}")
+        without_sites = lambda path, names: names if path.endswith("sites-enabled") else []
+        shutil.copytree(HOME, f"{folder}/raddb", ignore=without_sites,
+                        ignore_dangling_symlinks=True)
         pathlib.Path(f"{folder}/raddb/mods-enabled/stored").write_text(MODULE.format(port=port))
         pathlib.Path(f"{folder}/raddb/sites-enabled/one").write_text(SITE)
         words = ["timeout", "10", "freeradius", "-d", f"{folder}/raddb", "-X"]

@@ -15,8 +15,7 @@ CONFIGURATION = """
 daemon off; master_process off; pid {folder}/pid; error_log {folder}/errors;
 events {{}}
 http {{
-  access_log off; client_body_temp_path {folder}; proxy_temp_path {folder};
-  fastcgi_temp_path {folder}; uwsgi_temp_path {folder}; scgi_temp_path {folder};
+  access_log off;
   server {{
     listen 127.0.0.1:{own};
     location / {{ set $memcached_key $uri; memcached_pass {address}; }}

@@ -1,12 +1,15 @@
 #!/usr/bin/python3
-"""python-memcached against a server. Usage: python_memcached_calls.py PORT."""
+"""python-memcached against a server, and python-binary-memcached, which speaks the binary protocol
+alone. Usage: python_memcached_calls.py PORT."""
 import sys
 
+import bmemcached
 import memcache
 from calls import Calls
 
-make = lambda: memcache.Client([f"127.0.0.1:{sys.argv[1]}"], cache_cas=True)
-calls = Calls("python-memcached")
+place, calls = f"127.0.0.1:{sys.argv[1]}", Calls("python-memcached")
+make = lambda: memcache.Client([place], cache_cas=True)
+binary = bmemcached.Client((place,), socket_timeout=2)
 calls.check("set", lambda: bool(make().set("pm-a", "1")), True)
 calls.check("get", lambda: make().get("pm-a"), "1")
 calls.check("add", lambda: bool(make().add("pm-b", "1")), True)
@@ -20,3 +23,4 @@ calls.check("flush_all", lambda: (
     bool(make().set("pm-f", "1")), make().flush_all(), make().get("pm-f"))[::2], (True, None))
 calls.check("get_stats", lambda: bool(make().get_stats()), True)
 calls.report()
+Calls("python-binary-memcached").check("set", lambda: binary.set("pb-a", "1"), True).report()

@@ -52,9 +52,7 @@ def let_through(place):
 logging.disable(logging.CRITICAL)
 warnings.simplefilter("ignore")
 place = f"127.0.0.1:{sys.argv[1]}"
-for client, name, call, wanted in (
-    ("tooz", "one_holder_while_its_heart_beats", lambda: holders(place), (True, True, True)),
-    ("Celery", "expire", lambda: of_celery(place), "1"),
-    ("limits", "elastic_expiry", lambda: let_through(place), 100),
-):
-    Calls(client).check(name, call, wanted).report()
+Calls("tooz").check(
+    "one_holder_while_its_heart_beats", lambda: holders(place), (True, True, True)).report()
+Calls("Celery").check("expire", lambda: of_celery(place), "1").report()
+Calls("limits").check("elastic_expiry", lambda: let_through(place), 100).report()

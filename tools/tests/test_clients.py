@@ -78,7 +78,7 @@ LANGUAGES = {"py": sys.executable, "php": "php", "pl": "perl", "rb": "ruby"}
 # Programs of tools/clients, each with the client that it is to try, if it has several; and those
 # for the package's options alone. The gate has the first one, and the first two. (With strict lines
 # libmemcached ends the process of the second one.)
-CALLS = """pymemcache.py, pylibmc.py, python_memcached.py, binary_memcached.py, django.py, nginx.py,
+CALLS = """pymemcache.py, pylibmc.py, python_memcached.py, django.py, nginx.py,
     php_memcached.php, php_memcache.php, perl.pl Cache::Memcached, perl.pl Cache::Memcached::Fast,
     perl.pl Memcached::libmemcached, dalli.rb""".split(",")
 APPLICATIONS = """mediawiki.py, cachelib.py, symfony.php, php_sessions.php, simplesamlphp.php,

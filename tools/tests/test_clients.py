@@ -51,13 +51,15 @@ LENIENT_PARTS = ["version", "verbosity", *(f"{it} noreply" for it in PARTS[4:]),
     for quiet in ("", " noreply"))]
 
 
-@pytest.mark.parametrize("is_lenient, part", [
-    *((False, part) for part in PARTS), *((True, part) for part in PARTS + LENIENT_PARTS)])
-def test_memccapable_passes(servers, is_lenient, part):
+# (as docs/CLIENTS.md says, `stat` fails)
+@pytest.mark.parametrize("is_lenient, part, passes", [
+    *((False, part, True) for part in PARTS),
+    *((True, part, True) for part in PARTS + LENIENT_PARTS), (True, "stat", False)])
+def test_memccapable_passes_but_for_stat(servers, is_lenient, part, passes):
     label, port = f"ascii {part}", str(servers[is_lenient].port)
     words = ["-h", "127.0.0.1", "-p", port, "-a", "-t", "5", "-T", label]
-    printed = f"{label:<40}[pass]\nAll tests passed\n".encode()
-    assert run("memccapable", *words) == (0, printed)
+    said = f"{label:<40}" + "[pass]\nAll tests passed\n" * passes
+    assert run("memccapable", *words) == (int(not passes), said.encode())
 
 
 def test_memcflush_writes_a_space_behind_its_request_which_is_a_fault(servers):

@@ -21,19 +21,23 @@ use Rattle.worker.specs.Reports.{IsSessionAnswered}
 use Rattle.group.specs.declared.report.GroupReport.{GroupReport}
 use Rattle.worker.specs.Starts.{IsPortAt, HasSentNothing}
 use Rattle.group.specs.declared.fault.GroupFault.{GroupFault}
-use Rattle.group.specs.declared.fault.GroupFault.TheVariants.{NoThread}
-use Rattle.group.specs.declared.start.CalledOff.{CalledOff}
+use Rattle.group.specs.declared.fault.GroupFault.TheVariants.{NoMemory, NoThread, NotNew}
 use Rattle.group.specs.Threads.{AreJoined, AreEach, ArePortsOf, IsCalledOff, IsLeftByStorage, KeepsWorker, KeepsStorage}
 use Rattle.group.specs.Threads.{ends_of, worker_of, workers_of}
-use Rattle.group.specs.Headline.{IsWorkerOf, IsRun}
+use Rattle.group.specs.Headline.{IsWorkerOf, IsRun, NoneBegan}
 use Rattle.group.proofs.Places.{at_map, at_mapped}
 use Rattle.storage_thread.proofs.Callers.{or_at}
 
 -- where the start said not to begin, none began
+none_began : (id : ℕ) (fault : GroupFault) → IsCalledOff id fault → NoneBegan fault
+none_began id NoMemory off = absurd off
+none_began id (NoThread shown) off = off.1
+none_began id NotNew off = tt
+
 pub none_began_in : {A : Type 0} (id : ℕ) (result : Result A GroupFault) → IfErr result (IsCalledOff id)
-    → IfErr result (λ fault. (off : CalledOff) → fault ≡ NoThread off → off.begins.value ≡ false)
-none_began_in id (Ok x) said = tt
-none_began_in id (Err fault) said = λ off is. (subst (IsCalledOff id) is said).1
+    → IfErr result NoneBegan
+none_began_in id (Ok x) off = tt
+none_began_in id (Err fault) off = none_began id fault off
 
 -- what tells if and only if the other does, in the same dialect if both do, tells the same dialect
 same_dialect : (now first : Option PortTrace) → is_some now ≡ is_some first

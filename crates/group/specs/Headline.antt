@@ -1,5 +1,5 @@
 -- The headline: what holds once a group has ended.
-use Rattle.std.specs.Prelude.{◌≡◌, ℕ, ◌^◌, ◌-◌, ◌<◌, ◌≤◌, Bool, true, List, length, min, All}
+use Rattle.std.specs.Prelude.{◌≡◌, ℕ, ◌^◌, ◌-◌, ◌<◌, ◌≤◌, ⊤, Bool, true, false, List, length, min, All}
 use Rattle.std.specs.Prelude.{Option, Some, option_map, slice_index}
 use mathlib.Core.Option.{some}
 use lib.ListN.{get_elem?}
@@ -17,6 +17,8 @@ use Rattle.session_book.specs.declared.causes.EndCause.{EndCause}
 use Rattle.worker_port.specs.Ports.{PortTrace, fed}
 use Rattle.worker.specs.Sessions.{cause_of}
 use Rattle.worker.specs.Reports.{AreListed, IsSessionAnswered}
+use Rattle.group.specs.declared.fault.GroupFault.{GroupFault}
+use Rattle.group.specs.declared.fault.GroupFault.TheVariants.{NoMemory, NoThread, NotNew}
 use Rattle.group.specs.declared.report.GroupWorker.{GroupWorker}
 use Rattle.group.specs.declared.report.GroupReport.{GroupReport}
 
@@ -62,3 +64,10 @@ pub record IsRun {P C : Type 0} (told : P → Option PortTrace) (leads_to : P �
   pub refused : RefusesBy may_refuse history
   pub bounded : keeps → MayAlwaysForgetNothing sizes history
   pub dated : exact ≡ true → MayLeave IsAsAsked sizes history
+
+-- After this fault no thread of the group has begun: none was started, or the start said to those
+-- that were not to begin.
+abbrev pub NoneBegan : GroupFault → Type 0
+NoneBegan NoMemory = ⊤
+NoneBegan (NoThread off) = off.begins.value ≡ false
+NoneBegan NotNew = ⊤

@@ -4,9 +4,7 @@ ghost use Rattle.proto.specs.declared.terms.Terms.{Terms};
 ghost use Rattle.proto.specs.Cache.{empty_cache};
 ghost use Rattle.exchange.specs.Ends.{AreMade, AreTogether, IsCount};
 ghost use Rattle.group.specs.Threads.{ArePortsOf, AreJoined, IsCalledOff, IsLeftByStorage, StartsEmpty, ends_of, workers_of};
-ghost use Rattle.group.specs.Headline.{IsRun};
-ghost use Rattle.group.specs.declared.fault.GroupFault.TheVariants.{NoThread};
-ghost use Rattle.group.specs.declared.start.CalledOff.{CalledOff};
+ghost use Rattle.group.specs.Headline.{IsRun, NoneBegan};
 ghost use Rattle.storage_thread.specs.Sides.{IsSameOrigin};
 
 use crate::context::{GroupContext, Runtime};
@@ -146,7 +144,7 @@ fn run_in<'s, P: Port + Send + 's, T: Serve + Send + 's>(
     requires made { AreMade (vec_len ports) end.value.terms ends.items end.value }
     ensures joined { IfOk result (λ reports. AreJoined P.told P.leads_to end.value.terms end.value ports.items
         reports.items) }
-    ensures none_began { IfErr result (λ fault. (off : CalledOff) → fault ≡ NoThread off → off.begins.value ≡ false) }
+    ensures none_began { IfErr result NoneBegan }
 {
     let room = room_for(context.alloc, ports.len())?;
     run_started(rt, scope, context, executor, shared, ports, ends, end, room)
@@ -181,7 +179,7 @@ fn run_named<
     ensures run { IfOk result (λ report. IsRun P.told P.leads_to C.told C.leads_to
         (E.keeps origin.now.value.store.value []) (E.is_exact origin.now.value.store.value) E.may_refuse
         end.value.terms.geometry ports.items origin.now.value.clock.value report) }
-    ensures none_began { IfErr result (λ fault. (off : CalledOff) → fault ≡ NoThread off → off.begins.value ≡ false) }
+    ensures none_began { IfErr result NoneBegan }
 {
     let workers = Vec::with_capacity(alloc, ports.len())?;
     let gathered = Vec::with_capacity(alloc, ports.len())?;
@@ -219,7 +217,7 @@ fn run_threads<P: Port + Send, T: Serve + Send, X: Executor + Sync, G: Gate + Sy
     requires made { AreMade (vec_len ports) end.value.terms ends.items end.value }
     ensures joined { IfOk result (λ reports. AreJoined P.told P.leads_to end.value.terms end.value ports.items
         reports.items) }
-    ensures none_began { IfErr result (λ fault. (off : CalledOff) → fault ≡ NoThread off → off.begins.value ≡ false) }
+    ensures none_began { IfErr result NoneBegan }
 {
     thread::scope(
         thread::scope_env(),
@@ -230,8 +228,7 @@ fn run_threads<P: Port + Send, T: Serve + Send, X: Executor + Sync, G: Gate + Sy
             requires made { AreMade (vec_len ports) end.value.terms ends.items end.value }
             ensures joined { IfOk result (λ reports. AreJoined P.told P.leads_to end.value.terms end.value ports.items
                 reports.items) }
-            ensures none_began { IfErr result (λ fault. (off : CalledOff) → fault ≡ NoThread off
-                → off.begins.value ≡ false) }
+            ensures none_began { IfErr result NoneBegan }
         { run_in(rt, scope, context, executor, shared, ports, ends, end) },
     )
 }
@@ -266,7 +263,7 @@ pub fn run_group<P: Port + Send, E: StorageEngine + Drop + Send, C: Clock + Send
     requires unasked { IsSome (C.start clock) → C.told clock ≡ Some [] }
     ensures run { IfOk result (λ report. IsRun P.told P.leads_to C.told C.leads_to (E.keeps store []) (E.is_exact store)
         E.may_refuse (E.sizes store) ports.items clock report) }
-    ensures none_began { IfErr result (λ fault. (off : CalledOff) → fault ≡ NoThread off → off.begins.value ≡ false) }
+    ensures none_began { IfErr result NoneBegan }
 {
     let signals = GroupSignals::new(alloc, store.key_hasher(), exchange.workers(), config.spin)?;
     let (ends, storage_end) = exchange.into_ends();

@@ -44,9 +44,10 @@ impl KeyBytes {
     /// So many keys took so many bytes of output.
     pub(crate) fn took(&mut self, keys: usize, length: usize) {
         if keys > 0 {
-            self.bytes = (length / keys).max(self.bytes / 2).max(1);
+            let each = length / keys;
+            self.bytes = each.max(self.bytes / 2).max(1);
             if keys >= MANY_KEYS {
-                self.of_many = (length / keys).max(self.of_many / 2).max(1);
+                self.of_many = each.max(self.of_many / 2).max(1);
             }
         }
     }

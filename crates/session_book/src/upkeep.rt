@@ -119,41 +119,38 @@ impl Upkeep {
         let likely = self.load.likely(keys, own);
         self.likely = likely;
         self.needed = 0;
-        let is_small = self.load.is_small(keys, likely, own);
         if keys >= MANY_KEYS {
             let of_many = self.load.likely_of_many(keys, own);
             self.needed = self.prepared.needed(keys, of_many);
-        } else if is_small {
-            return None;
-        }
-        if matches!(let_in, Some(Task::AskForRoom)) {
-            return None;
         }
         let needed = self.needed;
-        if is_small {
-            let goes_on = let_in.is_some() || self.is_prepared(needed);
-            return (!goes_on).then_some(Waiting {
-                task: Task::AskLarge,
-                likely,
-                needed,
-            });
+        let is_small = self.load.is_small(keys, likely, own);
+        if matches!(let_in, Some(Task::AskForRoom)) || (is_small && needed == 0) {
+            return None;
         }
-        let must_queue = self.ready.count(Task::AskForRoom) > 0;
-        if must_queue || !self.load.has_room_for(likely) {
-            return Some(Waiting {
-                task: Task::AskForRoom,
-                likely,
-                needed,
-            });
-        }
-        let may_come = self.ready.none_is_to_ask() && self.is_prepared(needed);
-        let is_its_turn = let_in.is_some() || may_come;
-        let goes_on = !self.load.is_large(likely) || (is_its_turn && self.load.is_free());
-        (!goes_on).then_some(Waiting {
-            task: Task::AskLarge,
+        let is_let_in = let_in.is_some();
+        let task = if is_small {
+            (!is_let_in).then_some(Task::AskLarge)
+        } else {
+            self.queue_of(likely, needed, is_let_in)
+        }?;
+        Some(Waiting {
+            task,
             likely,
             needed,
         })
+    }
+
+    /// The queue in which a `get` waits whose answer isn't small; none if it is to be asked now.
+    fn queue_of(&self, likely: usize, needed: usize, is_let_in: bool) -> Option<Task> {
+        if self.ready.count(Task::AskForRoom) > 0 || !self.load.has_room_for(likely) {
+            return Some(Task::AskForRoom);
+        }
+        let may_come = self.ready.none_is_to_ask() && self.is_prepared(needed);
+        let is_its_turn = is_let_in || may_come;
+        let is_moderate = needed == 0 && !self.load.is_large(likely);
+        let goes_on = is_moderate || (is_its_turn && self.load.is_free());
+        (!goes_on).then_some(Task::AskLarge)
     }
 
     /// Whether a client that did nothing since this second has stopped.

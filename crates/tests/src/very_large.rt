@@ -3,7 +3,7 @@
 
 use crate::player::{Given, Player};
 use crate::same::check_same;
-use proto::{Dialect, Request};
+use proto::{Dialect, HitWriter, Reply, Request};
 use session_book::Task;
 use std::alloc::Global;
 use std::test::Fail;
@@ -50,7 +50,8 @@ fn steps(player: &mut Player, most: u64) -> u64 {
 fn lent(player: &mut Player, session: u64) -> Result<usize, Fail> {
     match player.book.next_ask(session)? {
         Some((Request::Get { mut keys, .. }, _)) => {
-            Ok(keys.take_buffer().into_bytes().capacity())
+            let reply = Reply::Values(HitWriter::for_keys(&mut keys).finish());
+            Ok(reply.into_buffer().map_or(0, |bytes| bytes.capacity()))
         }
         _ => Ok(0),
     }

@@ -197,7 +197,7 @@ impl Session {
         match self.input.next(self.alloc, &mut upkeep.spares)? {
             Found::Nothing => Ok(None),
             Found::Copied(message, length) => {
-                self.waiting = upkeep.waiting(&message, self.key_bytes);
+                self.waiting = upkeep.waiting(&message, self.key_bytes, self.waiting);
                 if self.waiting.is_some() {
                     self.input.hold(self.alloc, message, length);
                     return Err(Unasked::Waits);

@@ -107,8 +107,14 @@ impl Upkeep {
     /// is to be asked now, as all are but a `get` or a `gat`. None of these goes before one that
     /// waits for room, but those whose answers are small. One whose answer is likely to be large
     /// lets the others go first that are to be asked; and one with a very large answer waits until
-    /// its memory is prepared.
-    pub(crate) fn waiting(&mut self, message: &Message, own: KeyBytes) -> Option<Waiting> {
+    /// its memory is prepared. What was likely when it began to wait still is, whatever others were
+    /// answered meanwhile.
+    pub(crate) fn waiting(
+        &mut self,
+        message: &Message,
+        own: KeyBytes,
+        before: Option<Waiting>,
+    ) -> Option<Waiting> {
         let keys = match message {
             Message::Ask(Request::Get { keys, .. } | Request::GetAndTouch { keys, .. }, _) => {
                 keys.len()
@@ -116,7 +122,10 @@ impl Upkeep {
             _ => return None,
         };
         let let_in = self.ready.let_in.take();
-        let likely = self.load.likely(keys, own);
+        let likely = self
+            .load
+            .likely(keys, own)
+            .max(before.map_or(0, |waiting| waiting.likely));
         self.likely = likely;
         self.needed = 0;
         if keys >= MANY_KEYS {

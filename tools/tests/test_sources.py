@@ -123,4 +123,9 @@ def test_only_its_own_module_makes_a_reading():
     for name in ("ClockStart", "ClockReading"):
         form = rf"pub struct {name} \{{(.*?)\}}"
         fields = re.search(form, *made.values(), re.DOTALL)[1]
-        assert ":" in fields and "pub" not in fields, name
+        # (what proto may read of it, nobody writes: one field at least is the module's own)
+        read = re.findall(r"pub\(crate\) (\w+):", fields)
+        assert ":" in fields.replace("pub(crate) ", "", len(read)) and "pub " not in fields, name
+        assert len(read) < fields.count(":"), name
+        written = "|".join(rf"\.{it}\s*=[^=>]|&mut [\w.]*\.{it}\b" for it in read) or "(?!)"
+        assert not [it for it, text in sources("proto/src").items() if re.search(written, text)]

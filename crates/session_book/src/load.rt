@@ -35,16 +35,17 @@ pub const OUTPUT_BUDGET: usize = 67_108_864;
 /// what it was before, if that is more.
 #[derive(Clone, Copy, Default)]
 pub(crate) struct KeyBytes {
-    bytes: usize,
+    // (32 bits: each session has them)
+    bytes: u32,
     /// The same, of the answers for many keys.
-    of_many: usize,
+    of_many: u32,
 }
 
 impl KeyBytes {
     /// So many keys took so many bytes of output.
     pub(crate) fn took(&mut self, keys: usize, length: usize) {
         if keys > 0 {
-            let each = length / keys;
+            let each = (length / keys).min(u32::MAX as usize) as u32;
             self.bytes = each.max(self.bytes / 2).max(1);
             if keys >= MANY_KEYS {
                 self.of_many = each.max(self.of_many / 2).max(1);
@@ -95,9 +96,9 @@ impl Load {
     /// taken to be small.
     pub(crate) fn likely(&self, keys: usize, own: KeyBytes) -> usize {
         match own.bytes {
-            0 if keys <= 1 => self.key_bytes.bytes.min(SMALL_ANSWER),
-            0 => keys.saturating_mul(self.key_bytes.bytes),
-            bytes => keys.saturating_mul(bytes),
+            0 if keys <= 1 => (self.key_bytes.bytes as usize).min(SMALL_ANSWER),
+            0 => keys.saturating_mul(self.key_bytes.bytes as usize),
+            bytes => keys.saturating_mul(bytes as usize),
         }
     }
 
@@ -106,9 +107,9 @@ impl Load {
     /// it may be overestimated, and waits for no room for it.
     pub(crate) fn likely_of_many(&self, keys: usize, own: KeyBytes) -> usize {
         let each = if own.of_many > 0 {
-            own.of_many
+            own.of_many as usize
         } else {
-            self.key_bytes.of_many.max(self.stored_bytes)
+            self.stored_bytes.max(self.key_bytes.of_many as usize)
         };
         keys.saturating_mul(each)
     }

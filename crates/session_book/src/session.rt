@@ -455,12 +455,12 @@ impl Session {
 
     /// The bytes that the answer to the `get` is likely to take that waits, if one does.
     pub fn likely_bytes(&self) -> usize {
-        self.waiting.map_or(0, |waiting| waiting.likely)
+        self.waiting.map_or(0, |waiting| waiting.likely as usize)
     }
 
     /// The bytes of memory that are to be taken before the `get` is asked that waits, if one does.
     pub fn needed(&self) -> usize {
-        self.waiting.map_or(0, |waiting| waiting.needed)
+        self.waiting.map_or(0, |waiting| waiting.needed as usize)
     }
 
     /// Whether one waits that needs some, and waits for no room.

@@ -33,9 +33,14 @@ pub(crate) struct Waiting {
     /// The queue in which its session waits.
     pub(crate) task: Task,
     /// The bytes that its answer is likely to take.
-    pub(crate) likely: usize,
+    pub(crate) likely: u32,
     /// The bytes of memory that are to be taken for it before.
-    pub(crate) needed: usize,
+    pub(crate) needed: u32,
+}
+
+/// A number of bytes in 32 bits, and at most the greatest of these.
+fn narrow(bytes: usize) -> u32 {
+    bytes.min(u32::MAX as usize) as u32
 }
 
 /// How many keys a request is to show.
@@ -125,7 +130,7 @@ impl Upkeep {
         let likely = self
             .load
             .likely(keys, own)
-            .max(before.map_or(0, |waiting| waiting.likely));
+            .max(before.map_or(0, |waiting| waiting.likely as usize));
         self.likely = likely;
         self.needed = 0;
         if keys >= MANY_KEYS {
@@ -145,8 +150,8 @@ impl Upkeep {
         }?;
         Some(Waiting {
             task,
-            likely,
-            needed,
+            likely: narrow(likely),
+            needed: narrow(needed),
         })
     }
 

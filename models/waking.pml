@@ -164,7 +164,7 @@ inline execute_all() {                             /* storage_thread/side.rt: se
   od
 }
 
-inline look_again() {                              /* storage_thread/sharing.rt: is_wanted */
+inline look_again() {                              /* storage_thread/sharing.rt: serve, serve_beside */
 #ifndef NO_LAST_LOOK
   must_look = is_wanted
 #else

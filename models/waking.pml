@@ -401,7 +401,7 @@ inline next_input() {                              /* net/streams.rt: next_input
   fi
 }
 
-inline poll(waits) {                               /* net/port.rt: look */
+inline poll(waits) {                               /* net/port.rt: poll_if_due */
   atomic {
     !waits || waker_event[me] || stream_event[me];
     d_step {
@@ -433,7 +433,7 @@ inline known_event() {                             /* net/port.rt: next_event */
   end_if_drained()
 }
 
-inline next_event() {                              /* net/port.rt: next, look */
+inline next_event() {                              /* net/port.rt: next, poll_if_due */
   if
   :: is_ready || has_streams -> known_event()
   :: !is_ready && !has_streams ->
